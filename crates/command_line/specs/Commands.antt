@@ -15,13 +15,25 @@ output_rule = record (new_rule (codes "output")) { short = Some 111 }
 abbrev pub export_rule : Rule
 export_rule = record (new_rule (codes "export-verilog")) { long = Some (codes "export-verilog"); action = Some SetTrue }
 
--- `opt [FILE] [-o FILE]`
-abbrev pub opt_app : App
-opt_app = with_rule (with_rule (new_app (codes "opt")) file_rule) output_rule
+-- `--pass-pipeline=TEXT`
+abbrev pub pipeline_rule : Rule
+pipeline_rule = record (new_rule (codes "pass-pipeline")) { long = Some (codes "pass-pipeline") }
 
--- `translate [FILE] --export-verilog [-o FILE]`
+-- `--passes=NAMES`, which stands for the passes of flags
+abbrev pub passes_rule : Rule
+passes_rule = record (new_rule (codes "passes")) { long = Some (codes "passes") }
+
+-- with `[FILE] [-o FILE] [--pass-pipeline=TEXT]`
+abbrev pub with_common : App → App
+with_common a = with_rule (with_rule (with_rule (with_rule a file_rule) output_rule) pipeline_rule) passes_rule
+
+-- `opt [FILE] [-o FILE] [--pass-pipeline=TEXT]`
+abbrev pub opt_app : App
+opt_app = with_common (new_app (codes "opt"))
+
+-- `translate [FILE] --export-verilog [-o FILE] [--pass-pipeline=TEXT]`
 abbrev pub translate_app : App
-translate_app = with_rule (with_rule (with_rule (new_app (codes "translate")) file_rule) output_rule) export_rule
+translate_app = with_rule (with_common (new_app (codes "translate"))) export_rule
 
 -- a command without help and version, of which a subcommand is wanted; its words are those after the program's name
 abbrev pub bare : App → App

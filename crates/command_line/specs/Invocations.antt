@@ -1,6 +1,7 @@
 -- What invocations in code stand for.
-use Rattle.std.specs.Prelude.{◌≡◌, [], Result, Ok, Err, map, string_bytes, option_map}
+use Rattle.std.specs.Prelude.{◌≡◌, List, [], Result, Ok, Err, map, string_bytes, option_map}
 use Rattle.clap.specs.Words.{Kinds}
+use Rattle.pass_pipeline.specs.declared.pass.Pass.{Pass}
 use Rattle.command_line.specs.Line as line
 use Rattle.command_line.specs.Line.{Command}
 use Rattle.command_line.specs.Line.Work.{mlir, verilog}
@@ -13,8 +14,8 @@ use Rattle.command_line.specs.declared.invocation.LineFail.{LineFail}
 use Rattle.command_line.specs.declared.invocation.LineFail.TheVariants.{Usage, NoMemory}
 
 abbrev pub work_of : Work → line.Work
-work_of (Mlir passes) = mlir passes.items
-work_of (Verilog passes) = verilog passes.items
+work_of (Mlir passes) = mlir passes
+work_of (Verilog passes) = verilog passes
 
 abbrev pub command_of : Invocation → Command
 command_of i = record { inputs = map string_bytes i.inputs.items; output = option_map string_bytes i.output; work = work_of i.work }
@@ -25,10 +26,16 @@ Says said (Ok i) = said ≡ Ok (command_of i)
 Says said (Err (Usage kind)) = said ≡ Err kind
 Says said (Err NoMemory) = Unit {0}
 
--- the same of a work, which takes no memory
-abbrev pub SaysWork : Result line.Work UsageKind → Result Work UsageKind → Type 0
+-- the same of a work, and of passes
+abbrev pub SaysWork : Result line.Work UsageKind → Result Work LineFail → Type 0
 SaysWork said (Ok work) = said ≡ Ok (work_of work)
-SaysWork said (Err kind) = said ≡ Err kind
+SaysWork said (Err (Usage kind)) = said ≡ Err kind
+SaysWork said (Err NoMemory) = Unit {0}
+
+abbrev pub SaysPasses : Result (List Pass) UsageKind → Result (List Pass) LineFail → Type 0
+SaysPasses said (Ok passes) = said ≡ Ok passes
+SaysPasses said (Err (Usage kind)) = said ≡ Err kind
+SaysPasses said (Err NoMemory) = Unit {0}
 
 -- words that have faults are wrong
 abbrev pub IsFault : {T : Type 0} → Kinds → Result T LineFail → Type 0

@@ -1,12 +1,15 @@
 -- What the words of a command line say.
-use Rattle.std.specs.Prelude.{Bool, true, false, cond, List, [], ◌∷◌, Option, Some, None, Result, Ok, Err, codes, unwrap_or}
+use Rattle.std.specs.Prelude.{◌-◌, ◌&&◌, Bool, true, false, cond, List, [], ◌∷◌, ◌++◌, Option, Some, None, is_some, Result, Ok, Err, codes, unwrap_or}
 use Rattle.std.specs.Str.{bytes_eq}
 use Rattle.clap.specs.Words.{Row, Text, Kinds, first_of, fault_of, subcommand_of}
+use Rattle.pass_pipeline.specs.Pipelines.{passes}
 use Rattle.pass_pipeline.specs.declared.pass.Pass.{Pass}
+use Rattle.pass_pipeline.specs.declared.pipeline.PipelineFail.{PipelineFail}
+use Rattle.pass_pipeline.specs.declared.pipeline.PipelineFail.TheVariants.{UnknownPass, WrongPlace, BadText}
 use Rattle.command_line.specs.Normal.{normal}
 use Rattle.command_line.specs.Commands.{circt_app}
 use Rattle.command_line.specs.declared.usage.UsageKind.{UsageKind}
-use Rattle.command_line.specs.declared.usage.UsageKind.TheVariants.{Words, NoTranslation}
+use Rattle.command_line.specs.declared.usage.UsageKind.TheVariants.{Words, TwoPipelines, NoTranslation, Pipeline}
 
 -- what is made of the inputs: MLIR text, or Verilog, of the design that passes make of the one that is read
 pub data Work : Type 0 where
@@ -44,13 +47,49 @@ is_true (Some text) = bytes_eq text (codes "true")
 abbrev pub is_flagged : Text → List Row → Bool
 is_flagged id rows = is_true (first_of id rows)
 
-abbrev pub translation : Bool → Result Work UsageKind
-translation true = Ok (verilog [])
-translation false = Err NoTranslation
+-- the list of flags is read as the items of a pipeline: `builtin.module(`, the list, `)`
+abbrev pub items_text : Text → Text
+items_text items = codes "builtin.module(" ++ (items ++ codes ")")
 
--- the work of a command of this name
-abbrev pub work_in : Text → List Row → Result Work UsageKind
-work_in name rows = cond (bytes_eq name (codes "opt")) (Ok (mlir [])) (translation (is_flagged (codes "export-verilog") rows))
+-- an offset in the list, which stands behind 15 bytes
+abbrev pub in_items : PipelineFail → PipelineFail
+in_items (UnknownPass at) = UnknownPass (at - 15)
+in_items (WrongPlace at) = WrongPlace (at - 15)
+in_items (BadText at) = BadText (at - 15)
+
+-- what is wrong with a pipeline, and with a list of flags
+abbrev pub in_pipeline : Result (List Pass) PipelineFail → Result (List Pass) UsageKind
+in_pipeline (Ok ps) = Ok ps
+in_pipeline (Err fail) = Err (Pipeline fail)
+
+abbrev pub in_list : Result (List Pass) PipelineFail → Result (List Pass) UsageKind
+in_list (Ok ps) = Ok ps
+in_list (Err fail) = Err (Pipeline (in_items fail))
+
+-- the passes that are given: by flags, as their list, or by a pipeline
+abbrev pub passes_of : List Pass → Option Text → Option Text → Result (List Pass) UsageKind
+passes_of offered None None = Ok []
+passes_of offered None (Some text) = in_pipeline (passes offered text)
+passes_of offered (Some items) pipeline = in_list (passes offered (items_text items))
+
+abbrev pub passes_in : List Pass → List Row → Result (List Pass) UsageKind
+passes_in offered rows = passes_of offered (first_of (codes "passes") rows) (first_of (codes "pass-pipeline") rows)
+
+-- passes are given both by flags and by a pipeline
+abbrev pub is_given_twice : List Row → Bool
+is_given_twice rows = is_some (first_of (codes "passes") rows) && is_some (first_of (codes "pass-pipeline") rows)
+
+-- a work on passes, or what is wrong with these
+abbrev pub on_passes : (List Pass → Work) → Result (List Pass) UsageKind → Result Work UsageKind
+on_passes work (Ok ps) = Ok (work ps)
+on_passes work (Err kind) = Err kind
+
+-- the work of a command of this name: passes given in two ways are wrong first, then a missing translation, then a bad pipeline
+abbrev pub work_in : List Pass → Text → List Row → Result Work UsageKind
+work_in offered name rows =
+    cond (is_given_twice rows) (Err TwoPipelines)
+    (cond (bytes_eq name (codes "opt")) (on_passes mlir (passes_in offered rows))
+    (cond (is_flagged (codes "export-verilog") rows) (on_passes verilog (passes_in offered rows)) (Err NoTranslation)))
 
 -- a work with the files that are named
 abbrev pub with_files : List Row → Result Work UsageKind → Result Command UsageKind
@@ -58,25 +97,25 @@ with_files rows (Ok work) = Ok (record { inputs = inputs_in rows; output = outpu
 with_files rows (Err kind) = Err kind
 
 -- the command of a name with its arguments
-abbrev pub command_in : Text → List Row → Result Command UsageKind
-command_in name rows = with_files rows (work_in name rows)
+abbrev pub command_in : List Pass → Text → List Row → Result Command UsageKind
+command_in offered name rows = with_files rows (work_in offered name rows)
 
-abbrev pub require_subcommand : Option (Text × List Row) → Result Command UsageKind
-require_subcommand None = Err Words
-require_subcommand (Some found) = command_in found.0 found.1
+abbrev pub require_subcommand : List Pass → Option (Text × List Row) → Result Command UsageKind
+require_subcommand offered None = Err Words
+require_subcommand offered (Some found) = command_in offered found.0 found.1
 
 abbrev pub unless_faulty : Kinds → Result Command UsageKind → Result Command UsageKind
 unless_faulty [] command = command
 unless_faulty (k ∷ ks) command = Err Words
 
--- what regular words say, as `clap` reads them
-unfoldable pub parse : List Text → Result Command UsageKind
-parse words = unless_faulty (fault_of circt_app words) (require_subcommand (subcommand_of circt_app words))
+-- what regular words say, as `clap` reads them, where these passes are on offer
+unfoldable pub parse : List Pass → List Text → Result Command UsageKind
+parse offered words = unless_faulty (fault_of circt_app words) (require_subcommand offered (subcommand_of circt_app words))
 
-abbrev pub if_normal : Option (List Text) → Result Command UsageKind
-if_normal None = Err Words
-if_normal (Some words) = parse words
+abbrev pub if_normal : List Pass → Option (List Text) → Result Command UsageKind
+if_normal offered None = Err Words
+if_normal offered (Some words) = parse offered words
 
--- what the words of a command line say
-abbrev pub line : List Text → Result Command UsageKind
-line words = if_normal (normal words)
+-- what the words of a command line say, where these passes are on offer
+abbrev pub line : List Pass → List Text → Result Command UsageKind
+line offered words = if_normal offered (normal offered words)

@@ -1,7 +1,9 @@
 -- How words are made regular before they are read (circt-opt takes long options with one dash or with two).
-use Rattle.std.specs.Prelude.{ℕ, suc, ◌==◌, ◌&&◌, ◌||◌, Bool, true, false, cond, List, [], ◌∷◌, Option, Some, None, codes, nat_lt, nat_eq, ◌/◌}
+use Rattle.std.specs.Prelude.{ℕ, suc, ◌==◌, ◌&&◌, ◌||◌, Bool, true, false, cond, List, [], ◌∷◌, ◌++◌, is_some, Option, Some, None, codes, nat_lt, nat_eq, ◌/◌}
 use Rattle.std.specs.Str.{bytes_eq}
-use Rattle.std.specs.List.{starts_with}
+use Rattle.std.specs.List.{starts_with, cons_option}
+use Rattle.pass_pipeline.specs.Passes.{pass_name, pass_named}
+use Rattle.pass_pipeline.specs.declared.pass.Pass.{Pass}
 
 -- a byte that continues a character (RFC 3629, 3)
 abbrev pub continues : ℕ → Bool
@@ -44,10 +46,55 @@ abbrev pub has_reserved : List (List ℕ) → Bool
 has_reserved [] = false
 has_reserved (word ∷ words) = cond (is_end word) false (is_reserved word || has_reserved words)
 
+-- ---- passes that are given by flags (circt-opt: `--cse`)
+
+-- the pass of which a word is the flag: `--` and its name
+abbrev pub flag_of : List Pass → List ℕ → Option Pass
+flag_of offered [] = None
+flag_of offered (a ∷ []) = None
+flag_of offered (a ∷ b ∷ name) = cond (a == 45 && b == 45) (pass_named offered name) None
+
+-- the passes of flags, in order; words after `--` are none
+abbrev pub flags : List Pass → List (List ℕ) → List Pass
+flags offered [] = []
+flags offered (word ∷ words) = cond (is_end word) [] (cons_option (flag_of offered word) (flags offered words))
+
+-- the words that are no flags of passes
+abbrev pub without_flags : List Pass → List (List ℕ) → List (List ℕ)
+without_flags offered [] = []
+without_flags offered (word ∷ words) =
+    cond (is_end word) (word ∷ words) (cond (is_some (flag_of offered word)) (without_flags offered words) (word ∷ without_flags offered words))
+
+-- a comma and a name, as often as wanted
+abbrev pub more_names : List Pass → List ℕ
+more_names [] = []
+more_names (p ∷ ps) = codes "," ++ (pass_name p ++ more_names ps)
+
+-- the word that has these passes; the one word, where there are any
+abbrev pub passes_word : Pass → List Pass → List ℕ
+passes_word first more = codes "--passes=" ++ (pass_name first ++ more_names more)
+
+abbrev pub passes_words : List Pass → List (List ℕ)
+passes_words [] = []
+passes_words (first ∷ more) = passes_word first more ∷ []
+
+-- after the first word the passes of flags, as one word
+abbrev pub joined : List ℕ → List Pass → List (List ℕ) → List (List ℕ)
+joined first ps words = first ∷ passes_words ps ++ words
+
+-- a command that takes passes
+abbrev pub takes_passes : List ℕ → Bool
+takes_passes name = bytes_eq name (codes "opt") || bytes_eq name (codes "translate")
+
+-- the words with the passes of flags as one
+abbrev pub with_passes : List Pass → List (List ℕ) → List (List ℕ)
+with_passes offered [] = []
+with_passes offered (first ∷ words) = cond (takes_passes first) (joined first (flags offered words) (without_flags offered words)) (first ∷ words)
+
 abbrev pub unless : Bool → List (List ℕ) → Option (List (List ℕ))
 unless true words = None
 unless false words = Some words
 
--- the words made regular; none where one is kept for the program itself
-unfoldable pub normal : List (List ℕ) → Option (List (List ℕ))
-normal words = unless (has_reserved (all_dashed words)) (all_dashed words)
+-- the words made regular, where these passes are on offer; none where a word is kept for the program itself
+unfoldable pub normal : List Pass → List (List ℕ) → Option (List (List ℕ))
+normal offered words = unless (has_reserved (all_dashed words)) (with_passes offered (all_dashed words))

@@ -1,8 +1,8 @@
 //! The commands and their arguments.
 ghost use Rattle.std.specs.Prelude.{◌≡◌, IfOk, false, codes};
 ghost use Rattle.clap.specs.Words.{App, app_of, new_app, with_rule};
-ghost use Rattle.command_line.specs.Commands.{file_rule, output_rule, export_rule, opt_app, translate_app, circt_app, bare};
-ghost use Rattle.command_line.specs.Making.{Grows, IsMade};
+ghost use Rattle.command_line.specs.Commands.{file_rule, output_rule, pipeline_rule, passes_rule, export_rule, opt_app, translate_app, circt_app, bare};
+ghost use Rattle.command_line.specs.Making.{Grows, GrowsCommon, IsMade};
 
 use clap::{Arg, ArgAction, Command};
 use std::alloc::{AllocError, Global};
@@ -30,18 +30,24 @@ fn bare_command<'a>(alloc: Global) -> Command<'a>
 fn opt_command<'a>(alloc: Global) -> Result<Command<'a>, AllocError>
     ensures { IfOk result (IsMade opt_app) }
 {
-    let command = Command::new(alloc, "opt");
-    let command = file(alloc, command)?;
-    output(alloc, command)
+    common(alloc, Command::new(alloc, "opt"))
 }
 
 fn translate_command<'a>(alloc: Global) -> Result<Command<'a>, AllocError>
     ensures { IfOk result (IsMade translate_app) }
 {
-    let command = Command::new(alloc, "translate");
+    let command = common(alloc, Command::new(alloc, "translate"))?;
+    export(alloc, command)
+}
+
+/// The command with the arguments that both have.
+fn common<'a>(alloc: Global, command: Command<'a>) -> Result<Command<'a>, AllocError>
+    ensures { IfOk result (GrowsCommon command.entry) }
+{
     let command = file(alloc, command)?;
     let command = output(alloc, command)?;
-    export(alloc, command)
+    let command = pipeline(alloc, command)?;
+    passes(alloc, command)
 }
 
 /// The command with FILE.
@@ -56,6 +62,20 @@ fn output<'a>(alloc: Global, command: Command<'a>) -> Result<Command<'a>, AllocE
     ensures { IfOk result (Grows command.entry output_rule) }
 {
     command.arg(Arg::new(alloc, "output").short('o'))
+}
+
+/// The command with `--pass-pipeline=TEXT`.
+fn pipeline<'a>(alloc: Global, command: Command<'a>) -> Result<Command<'a>, AllocError>
+    ensures { IfOk result (Grows command.entry pipeline_rule) }
+{
+    command.arg(Arg::new(alloc, "pass-pipeline").long("pass-pipeline"))
+}
+
+/// The command with `--passes=NAMES`.
+fn passes<'a>(alloc: Global, command: Command<'a>) -> Result<Command<'a>, AllocError>
+    ensures { IfOk result (Grows command.entry passes_rule) }
+{
+    command.arg(Arg::new(alloc, "passes").long("passes"))
 }
 
 /// The command with `--export-verilog`.

@@ -1,24 +1,26 @@
 //! What the words of a command line say.
 ghost use Rattle.std.specs.Prelude.{◌≡◌, IfOk, map, string_bytes, option_map, [], Some, Ok, Err};
 ghost use Rattle.clap.specs.Words.{found_of, rows_of, first_of, fault_of, subcommand_of, subcommand_rows_of, FailsBy};
+ghost use Rattle.pass_pipeline.specs.Pipelines.{passes};
 ghost use Rattle.command_line.specs.Commands.{circt_app};
-ghost use Rattle.command_line.specs.Line.{parse, input_in, inputs_in, output_in, work_in, is_flagged, command_in};
-ghost use Rattle.command_line.specs.Invocations.{command_of, work_of, Says, SaysWork, IsFault};
+ghost use Rattle.command_line.specs.Line.{parse, input_in, inputs_in, output_in, items_text, in_items, in_pipeline, in_list, passes_in, is_given_twice, work_in, is_flagged, command_in};
+ghost use Rattle.command_line.specs.Invocations.{command_of, Says, SaysWork, SaysPasses, IsFault};
 
 use crate::commands::circt_command;
 use crate::usage::UsageKind;
 use clap::ArgMatches;
 use clap::error::ErrorKind;
 use pass_pipeline::pass::Pass;
+use pass_pipeline::pipeline::{Pipeline, PipelineError, PipelineFail, read_pipeline};
 use std::alloc::{AllocError, Global};
 
 /// What is made of the inputs.
 #[derive(Debug, Drop)]
 pub enum Work {
     /// MLIR text of the design that these passes make.
-    Mlir(Vec<Pass>),
+    Mlir(Pipeline),
     /// Verilog of the design that these passes make.
-    Verilog(Vec<Pass>),
+    Verilog(Pipeline),
 }
 
 /// A command with its values.
@@ -52,14 +54,19 @@ impl From<AllocError> for LineFail {
     }
 }
 
-/// What regular words say. They are those after the program's name, after [`crate::normalise`].
+/// What regular words say. They are those after the program's name, after [`crate::normalise`],
+/// and may name the passes of `offered`.
+///
+/// Words are wrong for the first of these causes: they are no command with its arguments, passes
+/// are given both by flags and by a pipeline, no translation is named, the text of a pipeline is
+/// none.
 #[tactic(auto, unfolding(crate::specs::Line::parse))]
-pub fn read_line(alloc: Global, words: &[String]) -> Result<Invocation, LineFail>
-    ensures { Says (parse (map string_bytes words.now)) result }
+pub fn read_line(alloc: Global, words: &[String], offered: &[Pass]) -> Result<Invocation, LineFail>
+    ensures { Says (parse offered.now (map string_bytes words.now)) result }
 {
     let matches = find_matches(alloc, words)?;
     match matches.subcommand() {
-        Some((name, rows)) => command_in(alloc, name, rows),
+        Some((name, rows)) => command_in(alloc, name, rows, offered),
         None => Err(LineFail::Usage(UsageKind::Words)),
     }
 }
@@ -80,13 +87,15 @@ fn find_matches<'a>(alloc: Global, words: &'a [String]) -> Result<ArgMatches<'a>
 }
 
 /// The command of a name with its arguments.
-fn command_in(alloc: Global, name: &str, matches: &ArgMatches<'_>) -> Result<Invocation, LineFail>
-    ensures { Says (command_in name.now (rows_of (found_of matches.now))) result }
+fn command_in(
+    alloc: Global,
+    name: &str,
+    matches: &ArgMatches<'_>,
+    offered: &[Pass],
+) -> Result<Invocation, LineFail>
+    ensures { Says (command_in offered.now name.now (rows_of (found_of matches.now))) result }
 {
-    let work = match work_in(alloc, name, matches) {
-        Ok(work) => work,
-        Err(kind) => return Err(LineFail::Usage(kind)),
-    };
+    let work = work_in(alloc, name, matches, offered)?;
     Ok(Invocation {
         inputs: inputs_in(alloc, matches)?,
         output: output_in(alloc, matches)?,
@@ -95,17 +104,80 @@ fn command_in(alloc: Global, name: &str, matches: &ArgMatches<'_>) -> Result<Inv
 }
 
 /// The work of a command of this name.
-fn work_in(alloc: Global, name: &str, matches: &ArgMatches<'_>) -> Result<Work, UsageKind>
-    ensures { SaysWork (work_in name.now (rows_of (found_of matches.now))) result }
+fn work_in(
+    alloc: Global,
+    name: &str,
+    matches: &ArgMatches<'_>,
+    offered: &[Pass],
+) -> Result<Work, LineFail>
+    ensures { SaysWork (work_in offered.now name.now (rows_of (found_of matches.now))) result }
 {
-    let passes = Vec::new(alloc);
+    if is_given_twice(matches) {
+        return Err(LineFail::Usage(UsageKind::TwoPipelines));
+    }
     if name == "opt" {
-        return Ok(Work::Mlir(passes));
+        return Ok(Work::Mlir(passes_in(alloc, matches, offered)?));
     }
     if is_flagged(matches, "export-verilog") {
-        return Ok(Work::Verilog(passes));
+        return Ok(Work::Verilog(passes_in(alloc, matches, offered)?));
     }
-    Err(UsageKind::NoTranslation)
+    Err(LineFail::Usage(UsageKind::NoTranslation))
+}
+
+/// Whether passes are given both by flags and by a pipeline.
+fn is_given_twice(matches: &ArgMatches<'_>) -> bool
+    ensures { result ≡ is_given_twice (rows_of (found_of matches.now)) }
+{
+    value(matches, "passes").is_some() && value(matches, "pass-pipeline").is_some()
+}
+
+/// The passes that are given.
+fn passes_in(
+    alloc: Global,
+    matches: &ArgMatches<'_>,
+    offered: &[Pass],
+) -> Result<Pipeline, LineFail>
+    ensures { SaysPasses (passes_in offered.now (rows_of (found_of matches.now))) result }
+{
+    match (value(matches, "passes"), value(matches, "pass-pipeline")) {
+        (Some(items), _) => read_items(alloc, items, offered),
+        (None, Some(text)) => read_text(alloc, text, offered),
+        (None, None) => Ok(Pipeline::new(alloc)),
+    }
+}
+
+/// The passes of a pipeline.
+fn read_text(alloc: Global, text: &str, offered: &[Pass]) -> Result<Pipeline, LineFail>
+    ensures { SaysPasses (in_pipeline (passes offered.now text.now)) result }
+{
+    match read_pipeline(alloc, text.as_bytes(), offered) {
+        Ok(passes) => Ok(passes),
+        Err(PipelineError::Bad(fail)) => Err(LineFail::Usage(UsageKind::Pipeline(fail))),
+        Err(PipelineError::NoMemory) => Err(LineFail::NoMemory),
+    }
+}
+
+/// The passes of a list of flags, which is read as the items of a pipeline.
+fn read_items(alloc: Global, items: &str, offered: &[Pass]) -> Result<Pipeline, LineFail>
+    ensures { SaysPasses (in_list (passes offered.now (items_text items.now))) result }
+{
+    let text = format!(in alloc; "builtin.module({items})")?;
+    match read_pipeline(alloc, text.as_bytes(), offered) {
+        Ok(passes) => Ok(passes),
+        Err(PipelineError::Bad(fail)) => Err(LineFail::Usage(UsageKind::Pipeline(in_items(fail)))),
+        Err(PipelineError::NoMemory) => Err(LineFail::NoMemory),
+    }
+}
+
+/// The same fault, its offset counted in the list of flags.
+fn in_items(fail: PipelineFail) -> PipelineFail
+    ensures { result ≡ in_items fail }
+{
+    match fail {
+        PipelineFail::UnknownPass(at) => PipelineFail::UnknownPass(at.saturating_sub(15)),
+        PipelineFail::WrongPlace(at) => PipelineFail::WrongPlace(at.saturating_sub(15)),
+        PipelineFail::BadText(at) => PipelineFail::BadText(at.saturating_sub(15)),
+    }
 }
 
 /// The names of the files that are read.

@@ -1,8 +1,11 @@
 //! Words made regular.
-ghost use Rattle.std.specs.Prelude.{◌≡◌, IfOk, IfErr, OnOk, OnErr, ◌++◌, ◌∷◌, [], map, string_bytes, Some, None};
-ghost use Rattle.command_line.specs.Normal.{normal, with_second_dash, wants_dash, characters, is_end, is_reserved, begins, all_dashed, has_reserved};
+ghost use Rattle.std.specs.Prelude.{◌≡◌, IfOk, IfErr, OnOk, OnErr, ◌++◌, ◌∷◌, [], map, string_bytes, codes, Some, None};
+ghost use Rattle.command_line.specs.Normal.{normal, with_second_dash, wants_dash, characters, is_end, is_reserved, begins, all_dashed, has_reserved, flag_of, flags, without_flags, passes_word, passes_words, joined, takes_passes, with_passes};
+ghost use Rattle.std.specs.List.{cons_option};
+ghost use Rattle.pass_pipeline.specs.Passes.{pass_name};
 ghost use Rattle.command_line.specs.declared.normalise.WordsFail.TheVariants.{Reserved};
 
+use pass_pipeline::pass::{Pass, pass_named};
 use std::alloc::{AllocError, Global};
 
 /// Why words were not made regular.
@@ -25,19 +28,24 @@ impl From<AllocError> for WordsFail {
     }
 }
 
-/// The words made regular: a long option with one dash gets its second one. Words after a word `--`
-/// stay as they are. It is `Reserved` exactly where a word before that is then `--passes` or begins
-/// with `--passes=`.
+/// The words made regular: a long option with one dash gets its second one, and after a first word
+/// that takes passes the flags of passes of `offered` become one word `--passes=`. Words after a
+/// word `--` stay as they are. It is `Reserved` exactly where a word before that is then `--passes`
+/// or begins with `--passes=`.
 #[tactic(auto, unfolding(crate::specs::Normal::normal))]
-pub fn normalise(alloc: Global, words: &[String]) -> Result<Vec<String>, WordsFail>
-    ensures ok { IfOk result (λ v. normal (map string_bytes words.now) ≡ Some (map string_bytes v.items)) }
-    ensures reserved { IfErr result (λ e. e ≡ Reserved → normal (map string_bytes words.now) ≡ None) }
+pub fn normalise(
+    alloc: Global,
+    words: &[String],
+    offered: &[Pass],
+) -> Result<Vec<String>, WordsFail>
+    ensures ok { IfOk result (λ v. normal offered.now (map string_bytes words.now) ≡ Some (map string_bytes v.items)) }
+    ensures reserved { IfErr result (λ e. e ≡ Reserved → normal offered.now (map string_bytes words.now) ≡ None) }
 {
     let regular = with_dashes(alloc, words)?;
     if has_reserved(&regular) {
         return Err(WordsFail::Reserved);
     }
-    Ok(regular)
+    Ok(with_passes(alloc, regular, offered)?)
 }
 
 /// The words with their second dashes.
@@ -130,4 +138,125 @@ fn begins(front: &[u8], word: &[u8]) -> bool
     ensures { result ≡ begins front.now word.now }
 {
     word.starts_with(front)
+}
+
+/// The words with the passes of flags as one word after the first one, where that takes passes.
+fn with_passes(
+    alloc: Global,
+    words: Vec<String>,
+    offered: &[Pass],
+) -> Result<Vec<String>, AllocError>
+    ensures { IfOk result (λ v. map string_bytes v.items ≡ with_passes offered.now (map string_bytes words.items)) }
+{
+    match words.as_slice() {
+        [first, others @ ..] if takes_passes(first) => joined(alloc, first, others, offered),
+        _ => Ok(words),
+    }
+}
+
+/// Whether a first word names a command that takes passes.
+fn takes_passes(word: &str) -> bool
+    ensures { result ≡ takes_passes word.now }
+{
+    word == "opt" || word == "translate"
+}
+
+/// The first word, the passes of flags among the others as one word, and the other words.
+fn joined(
+    alloc: Global,
+    first: &str,
+    others: &[String],
+    offered: &[Pass],
+) -> Result<Vec<String>, AllocError>
+    ensures { IfOk result (λ v. map string_bytes v.items ≡ joined first.now (flags offered.now (map string_bytes others.now)) (without_flags offered.now (map string_bytes others.now))) }
+{
+    let mut words = Vec::new(alloc);
+    words.push(String::from_str(alloc, first)?)?;
+    let passes = flags(alloc, others, offered)?;
+    push_passes(alloc, &mut words, passes.as_slice())?;
+    push_others(alloc, &mut words, others, offered)?;
+    Ok(words)
+}
+
+/// The passes of flags, in order.
+fn flags(alloc: Global, words: &[String], offered: &[Pass]) -> Result<Vec<Pass>, AllocError>
+    ensures { IfOk result (λ v. v.items ≡ flags offered.now (map string_bytes words.now)) }
+{
+    let mut passes = Vec::new(alloc);
+    for word in words {
+        if is_end(word) {
+            return Ok(passes);
+        }
+        push_pass(&mut passes, flag_of(offered, word.as_bytes()))?;
+    }
+    Ok(passes)
+}
+
+/// Adds a pass, if there is one.
+fn push_pass(passes: &mut Vec<Pass>, pass: Option<Pass>) -> Result<(), AllocError>
+    ensures { OnOk result (passes.new.items ≡ passes.old.items ++ cons_option pass []) }
+{
+    if let Some(pass) = pass {
+        passes.push(pass)?;
+    }
+    Ok(())
+}
+
+/// The pass of which a word is the flag.
+fn flag_of(offered: &[Pass], word: &[u8]) -> Option<Pass>
+    ensures { result ≡ flag_of offered.now word.now }
+{
+    match word {
+        [b'-', b'-', name @ ..] => pass_named(offered, name),
+        _ => None,
+    }
+}
+
+/// Adds the word that has these passes, if there are any.
+fn push_passes(alloc: Global, words: &mut Vec<String>, passes: &[Pass]) -> Result<(), AllocError>
+    ensures { OnOk result (map string_bytes words.new.items ≡ map string_bytes words.old.items ++ passes_words passes.now) }
+{
+    if let [first, more @ ..] = passes {
+        words.push(passes_word(alloc, *first, more)?)?;
+    }
+    Ok(())
+}
+
+/// The word that has these passes.
+fn passes_word(alloc: Global, first: Pass, more: &[Pass]) -> Result<String, AllocError>
+    ensures { IfOk result (λ s. string_bytes s ≡ passes_word first more.now) }
+{
+    let name = first.name();
+    let mut word = format!(in alloc; "--passes={name}")?;
+    for pass in more {
+        push_name(&mut word, *pass)?;
+    }
+    Ok(word)
+}
+
+/// Adds a comma and the name of a pass.
+fn push_name(word: &mut String, pass: Pass) -> Result<(), AllocError>
+    ensures { OnOk result (string_bytes word.new ≡ string_bytes word.old ++ (codes "," ++ pass_name pass)) }
+{
+    word.push_str(",")?;
+    word.push_str(pass.name())
+}
+
+/// Adds the words that are no flags of passes.
+fn push_others(
+    alloc: Global,
+    words: &mut Vec<String>,
+    others: &[String],
+    offered: &[Pass],
+) -> Result<(), AllocError>
+    ensures { OnOk result (map string_bytes words.new.items ≡ map string_bytes words.old.items ++ without_flags offered.now (map string_bytes others.now)) }
+{
+    let mut ended = false;
+    for word in others {
+        ended = ended || is_end(word);
+        if ended || flag_of(offered, word.as_bytes()).is_none() {
+            words.push(String::from_str(alloc, word)?)?;
+        }
+    }
+    Ok(())
 }

@@ -1,6 +1,8 @@
 //! What is wrong with the words.
 ghost use Rattle.std.specs.Prelude.{◌≡◌};
-ghost use Rattle.command_line.specs.Usage.{usage_text};
+ghost use Rattle.command_line.specs.Usage.{usage_text, offset_of};
+
+use pass_pipeline::pipeline::PipelineFail;
 
 /// What is wrong with the words of a command line.
 #[derive(Clone, Copy, Debug, PartialEq, Eq)]
@@ -13,10 +15,12 @@ pub enum UsageKind {
     NoTranslation,
     /// Standard input is named twice.
     StdinTwice,
+    /// The text of a pipeline is none. Offsets count its bytes.
+    Pipeline(PipelineFail),
 }
 
 impl UsageKind {
-    /// What the line on standard error says of it.
+    /// What the line on standard error says of it, without an offset.
     #[tactic(auto, unfolding(crate::specs::Usage::usage_text))]
     pub fn text(self) -> &'static [u8]
         ensures { result.now ≡ usage_text self }
@@ -26,6 +30,26 @@ impl UsageKind {
             UsageKind::TwoPipelines => b"passes given in two ways",
             UsageKind::NoTranslation => b"no translation named",
             UsageKind::StdinTwice => b"standard input named twice",
+            UsageKind::Pipeline(PipelineFail::UnknownPass(_)) => b"unknown pass",
+            UsageKind::Pipeline(PipelineFail::WrongPlace(_)) => b"pass in the wrong place",
+            UsageKind::Pipeline(PipelineFail::BadText(_)) => b"bad pipeline text",
+        }
+    }
+
+    /// Where it is in the text of a pipeline, if it is there.
+    pub fn offset(self) -> Option<u64>
+        ensures { result ≡ offset_of self }
+    {
+        match self {
+            UsageKind::Words
+            | UsageKind::TwoPipelines
+            | UsageKind::NoTranslation
+            | UsageKind::StdinTwice => None,
+            UsageKind::Pipeline(
+                PipelineFail::UnknownPass(at)
+                | PipelineFail::WrongPlace(at)
+                | PipelineFail::BadText(at),
+            ) => Some(at),
         }
     }
 }

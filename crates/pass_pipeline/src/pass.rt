@@ -31,16 +31,16 @@ pub(crate) enum Anchor {
 impl Pass {
     /// Its name in pipelines, and after `--` among the words of a command line.
     #[tactic(auto, unfolding(crate::specs::Passes::pass_name))]
-    pub fn name(self) -> &'static [u8]
+    pub fn name(self) -> &'static str
         ensures { result.now ≡ pass_name self }
     {
         match self {
-            Pass::Canonicalize => b"canonicalize",
-            Pass::Cse => b"cse",
-            Pass::SeqLowerRegs => b"seq-lower-regs",
-            Pass::HwLowerAggregates => b"hw-lower-aggregates",
-            Pass::HwFlattenModules => b"hw-flatten-modules",
-            Pass::SymbolDce => b"symbol-dce",
+            Pass::Canonicalize => "canonicalize",
+            Pass::Cse => "cse",
+            Pass::SeqLowerRegs => "seq-lower-regs",
+            Pass::HwLowerAggregates => "hw-lower-aggregates",
+            Pass::HwFlattenModules => "hw-flatten-modules",
+            Pass::SymbolDce => "symbol-dce",
         }
     }
 
@@ -60,11 +60,11 @@ impl Pass {
 }
 
 /// The first of these passes that has this name.
-pub(crate) fn pass_named(offered: &[Pass], name: &[u8]) -> Option<Pass>
+pub fn pass_named(offered: &[Pass], name: &[u8]) -> Option<Pass>
     ensures { result ≡ pass_named offered.now name.now }
 {
     for pass in offered {
-        if pass.name() == name {
+        if pass.name().as_bytes() == name {
             return Some(*pass);
         }
     }

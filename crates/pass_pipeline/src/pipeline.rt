@@ -1,5 +1,5 @@
 //! Pipelines, and how they are read.
-ghost use Rattle.std.specs.Prelude.{◌≡◌, OnOk};
+ghost use Rattle.std.specs.Prelude.{◌≡◌, [], OnOk};
 ghost use Rattle.pass_pipeline.specs.Pipelines.{passes, added, ended, Reads};
 
 use crate::pass::Pass;
@@ -55,6 +55,15 @@ impl Model for Pipeline {
 }
 
 impl Pipeline {
+    /// No passes. It takes no memory.
+    pub fn new(alloc: Global) -> Pipeline
+        ensures { result ≡ [] }
+    {
+        Pipeline {
+            passes: Vec::new(alloc),
+        }
+    }
+
     /// The passes in order.
     pub fn as_slice(&self) -> &[Pass]
         ensures { result.now ≡ self.now }
