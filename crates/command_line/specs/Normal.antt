@@ -79,8 +79,8 @@ passes_words [] = []
 passes_words (first ∷ more) = passes_word first more ∷ []
 
 -- after the first word the passes of flags, as one word
-abbrev pub joined : List ℕ → List Pass → List (List ℕ) → List (List ℕ)
-joined first ps words = first ∷ passes_words ps ++ words
+abbrev pub with_passes_word : List ℕ → List Pass → List (List ℕ) → List (List ℕ)
+with_passes_word first ps words = first ∷ passes_words ps ++ words
 
 -- a command that takes passes
 abbrev pub takes_passes : List ℕ → Bool
@@ -89,7 +89,7 @@ takes_passes name = bytes_eq name (codes "opt") || bytes_eq name (codes "transla
 -- the words with the passes of flags as one
 abbrev pub with_passes : List Pass → List (List ℕ) → List (List ℕ)
 with_passes offered [] = []
-with_passes offered (first ∷ words) = cond (takes_passes first) (joined first (flags offered words) (without_flags offered words)) (first ∷ words)
+with_passes offered (first ∷ words) = cond (takes_passes first) (with_passes_word first (flags offered words) (without_flags offered words)) (first ∷ words)
 
 abbrev pub unless : Bool → List (List ℕ) → Option (List (List ℕ))
 unless true words = None

@@ -3,10 +3,11 @@ ghost use Rattle.std.specs.Prelude.{◌≡◌, IfOk, map, string_bytes, option_m
 ghost use Rattle.clap.specs.Words.{found_of, rows_of, first_of, fault_of, subcommand_of, subcommand_rows_of, FailsBy};
 ghost use Rattle.pass_pipeline.specs.Pipelines.{passes};
 ghost use Rattle.command_line.specs.Commands.{circt_app};
-ghost use Rattle.command_line.specs.Line.{parse, input_in, inputs_in, output_in, items_text, in_items, in_pipeline, in_list, passes_in, is_given_twice, work_in, is_flagged, command_in};
+ghost use Rattle.command_line.specs.Line.{line, parse, input_in, inputs_in, output_in, items_text, in_items, in_pipeline, in_list, passes_in, is_given_twice, work_in, is_flagged, command_in};
 ghost use Rattle.command_line.specs.Invocations.{command_of, Says, SaysWork, SaysPasses, IsFault};
 
 use crate::commands::circt_command;
+use crate::normalise::{WordsFail, normalise};
 use crate::usage::UsageKind;
 use clap::ArgMatches;
 use clap::error::ErrorKind;
@@ -54,12 +55,23 @@ impl From<AllocError> for LineFail {
     }
 }
 
-/// What regular words say. They are those after the program's name, after [`crate::normalise`],
-/// and may name the passes of `offered`.
+/// What the words after the program's name say, which may name the passes of `offered`.
 ///
 /// Words are wrong for the first of these causes: they are no command with its arguments, passes
 /// are given both by flags and by a pipeline, no translation is named, the text of a pipeline is
 /// none.
+pub fn read_words(alloc: Global, words: &[String], offered: &[Pass]) -> Result<Invocation, LineFail>
+    ensures { Says (line offered.now (map string_bytes words.now)) result }
+{
+    match normalise(alloc, words, offered) {
+        Ok(regular) => read_line(alloc, &regular, offered),
+        Err(WordsFail::Reserved) => Err(LineFail::Usage(UsageKind::Words)),
+        Err(WordsFail::NoMemory) => Err(LineFail::NoMemory),
+    }
+}
+
+/// What regular words say. They are those after the program's name, after [`normalise`], and
+/// may name the passes of `offered`. They are wrong as in [`read_words`].
 #[tactic(auto, unfolding(crate::specs::Line::parse))]
 pub fn read_line(alloc: Global, words: &[String], offered: &[Pass]) -> Result<Invocation, LineFail>
     ensures { Says (parse offered.now (map string_bytes words.now)) result }

@@ -1,6 +1,6 @@
 //! Words made regular.
 ghost use Rattle.std.specs.Prelude.{◌≡◌, IfOk, IfErr, OnOk, OnErr, ◌++◌, ◌∷◌, [], map, string_bytes, codes, Some, None};
-ghost use Rattle.command_line.specs.Normal.{normal, with_second_dash, wants_dash, characters, is_end, is_reserved, begins, all_dashed, has_reserved, flag_of, flags, without_flags, passes_word, passes_words, joined, takes_passes, with_passes};
+ghost use Rattle.command_line.specs.Normal.{normal, with_second_dash, wants_dash, characters, is_end, is_reserved, begins, all_dashed, has_reserved, flag_of, flags, without_flags, passes_word, passes_words, with_passes_word, takes_passes, with_passes};
 ghost use Rattle.std.specs.List.{cons_option};
 ghost use Rattle.pass_pipeline.specs.Passes.{pass_name};
 ghost use Rattle.command_line.specs.declared.normalise.WordsFail.TheVariants.{Reserved};
@@ -149,7 +149,9 @@ fn with_passes(
     ensures { IfOk result (λ v. map string_bytes v.items ≡ with_passes offered.now (map string_bytes words.items)) }
 {
     match words.as_slice() {
-        [first, others @ ..] if takes_passes(first) => joined(alloc, first, others, offered),
+        [first, others @ ..] if takes_passes(first) => {
+            with_passes_word(alloc, first, others, offered)
+        },
         _ => Ok(words),
     }
 }
@@ -162,13 +164,13 @@ fn takes_passes(word: &str) -> bool
 }
 
 /// The first word, the passes of flags among the others as one word, and the other words.
-fn joined(
+fn with_passes_word(
     alloc: Global,
     first: &str,
     others: &[String],
     offered: &[Pass],
 ) -> Result<Vec<String>, AllocError>
-    ensures { IfOk result (λ v. map string_bytes v.items ≡ joined first.now (flags offered.now (map string_bytes others.now)) (without_flags offered.now (map string_bytes others.now))) }
+    ensures { IfOk result (λ v. map string_bytes v.items ≡ with_passes_word first.now (flags offered.now (map string_bytes others.now)) (without_flags offered.now (map string_bytes others.now))) }
 {
     let mut words = Vec::new(alloc);
     words.push(String::from_str(alloc, first)?)?;
