@@ -1,13 +1,13 @@
+//! What words of a command line say.
 use command_line::invocation::{LineFail, Work, read_line};
-use command_line::normalise::{WordsFail, normalise};
 use command_line::usage::UsageKind;
 use pass_pipeline::pass::Pass;
 use pass_pipeline::pipeline::PipelineFail::{BadText, UnknownPass, WrongPlace};
 use std::alloc::{AllocError, Global};
 use std::test::Fail;
 
-// The words of a line, which blanks part.
-fn words_of(alloc: Global, line: &str) -> Result<Vec<String>, AllocError> {
+/// The words of a line, which blanks part.
+pub fn words_of(alloc: Global, line: &str) -> Result<Vec<String>, AllocError> {
     let mut words = Vec::new(alloc);
     for word in line.split(' ') {
         words.push(String::from_str(alloc, word)?)?;
@@ -15,7 +15,8 @@ fn words_of(alloc: Global, line: &str) -> Result<Vec<String>, AllocError> {
     Ok(words)
 }
 
-const ALL: [Pass; 6] = [
+/// All passes.
+pub const ALL: [Pass; 6] = [
     Pass::Canonicalize,
     Pass::Cse,
     Pass::SeqLowerRegs,
@@ -24,166 +25,8 @@ const ALL: [Pass; 6] = [
     Pass::SymbolDce,
 ];
 
-/// The words of a line, and the regular ones that they become.
-struct Regular {
-    line: &'static str,
-    offered: &'static [Pass],
-    wanted: &'static str,
-}
-
-const REGULAR: [Regular; 22] = [
-    Regular {
-        line: "opt -o x.v",
-        offered: &ALL,
-        wanted: "opt -o x.v",
-    },
-    Regular {
-        line: "opt -ox",
-        offered: &ALL,
-        wanted: "opt --ox",
-    },
-    Regular {
-        line: "opt -o=x",
-        offered: &ALL,
-        wanted: "opt -o=x",
-    },
-    Regular {
-        line: "translate -export-verilog",
-        offered: &ALL,
-        wanted: "translate --export-verilog",
-    },
-    Regular {
-        line: "opt - -",
-        offered: &ALL,
-        wanted: "opt - -",
-    },
-    Regular {
-        line: "opt --split",
-        offered: &ALL,
-        wanted: "opt --split",
-    },
-    Regular {
-        line: "opt -é",
-        offered: &ALL,
-        wanted: "opt -é",
-    },
-    Regular {
-        line: "opt -éa=b",
-        offered: &ALL,
-        wanted: "opt --éa=b",
-    },
-    Regular {
-        line: "opt -a=bc",
-        offered: &ALL,
-        wanted: "opt -a=bc",
-    },
-    Regular {
-        line: "opt -- -ab --passes",
-        offered: &ALL,
-        wanted: "opt -- -ab --passes",
-    },
-    // flags of passes become one word
-    Regular {
-        line: "opt --cse",
-        offered: &ALL,
-        wanted: "opt --passes=cse",
-    },
-    Regular {
-        line: "opt -cse a.mlir -canonicalize",
-        offered: &ALL,
-        wanted: "opt --passes=cse,canonicalize a.mlir",
-    },
-    Regular {
-        line: "translate --export-verilog --cse --cse",
-        offered: &ALL,
-        wanted: "translate --passes=cse,cse --export-verilog",
-    },
-    Regular {
-        line: "opt --seq-lower-regs -hw-lower-aggregates --hw-flatten-modules --symbol-dce",
-        offered: &ALL,
-        wanted: "opt --passes=seq-lower-regs,hw-lower-aggregates,hw-flatten-modules,symbol-dce",
-    },
-    Regular {
-        line: "opt -o --cse x",
-        offered: &ALL,
-        wanted: "opt --passes=cse -o x",
-    },
-    // but for those after `--`, of other commands, with a value, or of passes that are not on offer
-    Regular {
-        line: "opt -- --cse",
-        offered: &ALL,
-        wanted: "opt -- --cse",
-    },
-    Regular {
-        line: "opt --cse -- --cse -cse",
-        offered: &ALL,
-        wanted: "opt --passes=cse -- --cse -cse",
-    },
-    Regular {
-        line: "lec --cse",
-        offered: &ALL,
-        wanted: "lec --cse",
-    },
-    Regular {
-        line: "--cse opt",
-        offered: &ALL,
-        wanted: "--cse opt",
-    },
-    Regular {
-        line: "opt --cse=x --cs",
-        offered: &ALL,
-        wanted: "opt --cse=x --cs",
-    },
-    Regular {
-        line: "opt --cse",
-        offered: &[],
-        wanted: "opt --cse",
-    },
-    Regular {
-        line: "opt --symbol-dce --cse",
-        offered: &[Pass::Cse],
-        wanted: "opt --passes=cse --symbol-dce",
-    },
-];
-
-#[test]
-fn words_are_made_regular(rt: HostRuntime) -> Result<(), Fail> {
-    let alloc = rt.alloc();
-    for row in REGULAR {
-        let words = words_of(alloc, row.line)?;
-        let regular = normalise(alloc, words.as_slice(), row.offered);
-        let regular = regular.map_err(|_| Fail::from("refused"))?;
-        let wanted = words_of(alloc, row.wanted)?;
-        assert_eq!(rt; regular.len(), wanted.len(), "of {row.line}");
-        for (word, other) in regular.iter().zip(wanted.iter()) {
-            assert_eq!(rt; word.as_str(), other.as_str(), "of {row.line}");
-        }
-    }
-    Ok(())
-}
-
-#[test]
-fn a_word_of_the_program_s_own_is_reserved(rt: HostRuntime) -> Result<(), Fail> {
-    let alloc = rt.alloc();
-    for line in [
-        "opt --passes",
-        "opt -passes=cse",
-        "opt -o -passes",
-        "--passes=",
-    ] {
-        let words = words_of(alloc, line)?;
-        let answer = normalise(alloc, words.as_slice(), &ALL);
-        assert_eq!(rt; answer.err(), Some(WordsFail::Reserved), "of {line}");
-    }
-    Ok(())
-}
-
 // What is wrong with the words of a line, if they are no command.
-fn usage_of(
-    alloc: Global,
-    line: &str,
-    offered: &[Pass],
-) -> Result<Option<UsageKind>, AllocError> {
+fn usage_of(alloc: Global, line: &str, offered: &[Pass]) -> Result<Option<UsageKind>, AllocError> {
     let words = words_of(alloc, line)?;
     match read_line(alloc, words.as_slice(), offered) {
         Ok(_) => Ok(None),
@@ -310,9 +153,10 @@ const GIVEN: [Given; 14] = [
 #[test]
 fn passes_are_read_or_wrong(rt: HostRuntime) -> Result<(), Fail> {
     let alloc = rt.alloc();
-    for row in GIVEN {
-        let kind = usage_of(alloc, row.line, row.offered)?;
-        assert_eq!(rt; kind, row.kind, "of {row.line}");
+    for row in &GIVEN {
+        let line = row.line;
+        let kind = usage_of(alloc, line, row.offered)?;
+        assert_eq!(rt; kind, row.kind, "of {line}");
     }
     Ok(())
 }
@@ -350,6 +194,35 @@ fn passes_are_in_order(rt: HostRuntime) -> Result<(), Fail> {
         assert!(rt; has_passes(alloc, line, passes)?, "of {line}");
     }
     Ok(())
+}
+
+// Whether the words of a line are this command.
+fn is_command(
+    alloc: Global,
+    line: &str,
+    translates: bool,
+    input: &str,
+    output: Option<&str>,
+) -> Result<bool, AllocError> {
+    let words = words_of(alloc, line)?;
+    match read_line(alloc, words.as_slice(), &[]) {
+        Ok(invocation) => {
+            let is_work = match invocation.work {
+                Work::Mlir(_) => !translates,
+                Work::Verilog(_) => translates,
+            };
+            let names = invocation.inputs.as_slice();
+            let is_input = names.len() == 1 && names[0].as_str() == input;
+            let is_output = match (&invocation.output, output) {
+                (Some(name), Some(wanted)) => name.as_str() == wanted,
+                (None, None) => true,
+                _ => false,
+            };
+            Ok(is_work && (is_input && is_output))
+        }
+        Err(LineFail::Usage(_)) => Ok(false),
+        Err(LineFail::NoMemory) => Err(AllocError),
+    }
 }
 
 #[test]

@@ -14,6 +14,8 @@ mod real_files;
 #[cfg(test)]
 mod real_sinks;
 #[cfg(test)]
+mod regular_words;
+#[cfg(test)]
 mod schedules;
 #[cfg(test)]
 mod words;

@@ -2,11 +2,9 @@
 use Rattle.std.proofs.Common.{◌≡◌, ℕ, List, [], Option, Some, None, Ok, Err, sym, ◌∙◌, ap, subst}
 use Rattle.hw_model.specs.Types.{Name}
 use Rattle.diag.specs.declared.refusal.Refusal.{Refusal}
-use Rattle.command_line.specs.Normal.{normal}
-use Rattle.command_line.specs.Line.{Command, parse, if_normal, line}
-use Rattle.command_line.specs.declared.usage.UsageKind.TheVariants.{Words}
+use Rattle.command_line.specs.Line.{Command}
 use Rattle.command_line.specs.declared.usage.UsageKind.{UsageKind}
-use Rattle.circt_top.specs.Words.{fault_of, fault_in, ForCommand}
+use Rattle.circt_top.specs.Words.{line, fault_of, fault_in, ForCommand}
 use Rattle.circt_top.specs.Inputs.{Told, AreContents}
 use Rattle.circt_top.specs.Outcome.{Verdict, IsAnswered}
 use Rattle.circt_top.specs.Ends.{End, usage_of, OnAnswered, OnRefused, OnReadFault, OnWriteFault, IsUsage, IsStop, IsAnsweredOrNoMemory, IsRefusedOrNoMemory}
@@ -25,16 +23,6 @@ same_command words {p} {q} h k = let e : Ok p ≡ Ok q = sym h ∙ k in cc
 
 pub for_command : (words : List Name) (p : Command) (P : Command → Type 0) → line words ≡ Ok p → P p → ForCommand words P
 for_command words p P h x = λ q k. subst P (same_command words h k) x
-
--- what regular words say, the words say
-pub said_is : (words regular : List Name) (p : Command) → normal words ≡ Some regular → parse regular ≡ Ok p → line words ≡ Ok p
-said_is words regular p e h = ap (λ o. if_normal o) e ∙ h
-
-pub usage_is : (words regular : List Name) (kind : UsageKind) → normal words ≡ Some regular → parse regular ≡ Err kind → fault_of words ≡ Some kind
-usage_is words regular kind e h = ap fault_in (ap (λ o. if_normal o) e ∙ h)
-
-pub reserved_is : (words : List Name) → normal words ≡ None → fault_of words ≡ Some Words
-reserved_is words e = ap (λ o. fault_in (if_normal o)) e
 
 -- an end before any file is read is reported
 pub stopped_ends : {S : Type 0} (told : S → Option (List ℕ)) (faults : S → ℕ) (words : List Name) (IsUnread : Name → Type 0) (files : Told) (end : End) (before after : S) → IsStop end

@@ -1,5 +1,5 @@
 -- What the program answers, for its words, the files that are told, and what its sinks take.
-use Rattle.std.specs.Prelude.{◌≡◌, ℕ, ◌≤◌, Bool, true, false, List, ◌++◌, [], Option, Some, None, Result, Ok, Err, take, length, codes, ◌⊎◌}
+use Rattle.std.specs.Prelude.{◌≡◌, ℕ, ◌≤◌, Bool, true, false, List, ◌++◌, [], Option, Some, None, Result, Ok, Err, take, length, codes, decimal, ◌⊎◌}
 use Rattle.wiring.specs.Wiring.{In}
 use Rattle.hw_model.specs.Types.{Name}
 use Rattle.io_edge.specs.declared.file_access.FileFail.{FileFail}
@@ -11,7 +11,8 @@ use Rattle.io_edge.specs.Pieces.{pieces_of, Sends}
 use Rattle.diag.specs.Line.{refusal_line, shown_name}
 use Rattle.diag.specs.declared.refusal.Refusal.{Refusal}
 use Rattle.command_line.specs.Line.{Command}
-use Rattle.command_line.specs.Usage.{usage_text}
+use Rattle.command_line.specs.Usage.{usage_text, offset_of}
+use Rattle.command_line.specs.declared.usage.UsageKind.{UsageKind}
 use Rattle.circt_top.specs.Outcome.{Verdict, IsAnswer}
 use Rattle.circt_top.specs.Outcome.Answer.{prints, refuses}
 use Rattle.circt_top.specs.Words.{ForCommand}
@@ -67,9 +68,18 @@ abbrev pub shown_output : Option Name → List ℕ
 shown_output None = codes "<stdout>"
 shown_output (Some name) = name
 
+-- the end of a line on wrong words, with where in the text of a pipeline they are
+abbrev pub usage_end : Option ℕ → List ℕ
+usage_end None = codes "\n"
+usage_end (Some at) = codes " at offset " ++ (decimal at ++ codes "\n")
+
+-- the line on wrong words
+abbrev pub usage_line : UsageKind → List ℕ
+usage_line kind = codes "circt: usage: " ++ (usage_text kind ++ usage_end (offset_of kind))
+
 -- the line for an end
 abbrev pub line_of : Subject → End → List ℕ
-line_of s (usage kind) = codes "circt: usage: " ++ (usage_text kind ++ codes "\n")
+line_of s (usage kind) = usage_line kind
 line_of s (answered verdict) = []
 line_of s (refused r) = refusal_line s.input s.source r
 line_of s read_fault = codes "circt: cannot read " ++ (shown_name s.input ++ codes "\n")

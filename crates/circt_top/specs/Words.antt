@@ -1,8 +1,18 @@
 -- What the words say.
-use Rattle.std.specs.Prelude.{◌≡◌, List, Option, Some, None, Result, Ok, Err}
+use Rattle.std.specs.Prelude.{◌≡◌, List, [], Option, Some, None, Result, Ok, Err}
 use Rattle.hw_model.specs.Types.{Name}
-use Rattle.command_line.specs.Line.{Command, line}
+use Rattle.pass_pipeline.specs.declared.pass.Pass.{Pass}
+use Rattle.command_line.specs.Line as commands
+use Rattle.command_line.specs.Line.{Command}
 use Rattle.command_line.specs.declared.usage.UsageKind.{UsageKind}
+
+-- the passes that words may name: none as yet
+abbrev pub passes_on_offer : List Pass
+passes_on_offer = []
+
+-- what the words say
+abbrev pub line : List Name → Result Command UsageKind
+line words = commands.line passes_on_offer words
 
 abbrev pub fault_in : Result Command UsageKind → Option UsageKind
 fault_in (Ok c) = None

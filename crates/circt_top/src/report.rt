@@ -4,13 +4,15 @@ ghost use Rattle.io_edge.specs.Bytes.{Appends, AppendsFront};
 ghost use Rattle.io_edge.specs.Faults.{HasCause};
 ghost use Rattle.diag.specs.Line.{IsWithin, operation_of};
 ghost use Rattle.circt_top.specs.Ends.{end_of, IsStop};
-ghost use Rattle.circt_top.specs.Answer.{line_of, shown_output, Reports};
+ghost use Rattle.circt_top.specs.Answer.{line_of, usage_line, usage_end, shown_output, Reports};
 ghost use Rattle.circt_top.specs.Views.{subject_of};
 
 use crate::status::Status;
+use command_line::usage::UsageKind;
 use diag::line::{display_name, put_three, refusal_text};
 use diag::refusal::{OpName, Refusal};
 use io_edge::sinks::{Failed, Sink, put_all};
+use itoa::Buffer;
 
 /// What the line on a wrong end may name.
 #[derive(Clone, Copy, Debug)]
@@ -61,7 +63,7 @@ fn put_line<E: Sink>(err: &mut E, subject: &Subject<'_>, status: &Status) -> Res
             };
             refusal_text(err, subject.input, subject.source, &shown)
         }
-        Status::Usage(kind) => put_three(err, b"circt: usage: ", kind.text(), b"\n"),
+        Status::Usage(kind) => put_usage(err, *kind),
         Status::ReadFault => {
             let name = display_name(subject.input.as_bytes());
             put_three(err, b"circt: cannot read ", name, b"\n")
@@ -71,6 +73,38 @@ fn put_line<E: Sink>(err: &mut E, subject: &Subject<'_>, status: &Status) -> Res
             put_three(err, b"circt: cannot write ", name, b"\n")
         }
         Status::NoMemory => put_all(err, b"circt: out of memory\n"),
+    }
+}
+
+// The line on wrong words, up to the first fault of the sink.
+fn put_usage<E: Sink>(err: &mut E, kind: UsageKind) -> Result<(), Failed>
+    ensures ok { OnOk result (Appends (E.told err.old) (E.told err.new) (usage_line kind)) }
+    ensures err { OnErr result (AppendsFront (E.told err.old) (E.told err.new) (usage_line kind)) }
+    ensures cause { HasCause (E.faults err.old) (E.faults err.new) result }
+{
+    match put_all(err, b"circt: usage: ") {
+        Ok(()) => {}
+        Err(failed) => return Err(failed),
+    }
+    match put_all(err, kind.text()) {
+        Ok(()) => {}
+        Err(failed) => return Err(failed),
+    }
+    put_usage_end(err, kind.offset())
+}
+
+// The end of a line on wrong words, up to the first fault of the sink.
+fn put_usage_end<E: Sink>(err: &mut E, offset: Option<u64>) -> Result<(), Failed>
+    ensures ok { OnOk result (Appends (E.told err.old) (E.told err.new) (usage_end offset)) }
+    ensures err { OnErr result (AppendsFront (E.told err.old) (E.told err.new) (usage_end offset)) }
+    ensures cause { HasCause (E.faults err.old) (E.faults err.new) result }
+{
+    match offset {
+        Some(at) => {
+            let mut digits = Buffer::new();
+            put_three(err, b" at offset ", digits.format(at).as_bytes(), b"\n")
+        }
+        None => put_all(err, b"\n"),
     }
 }
 

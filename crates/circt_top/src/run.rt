@@ -1,9 +1,8 @@
 //! The top call.
 ghost use Rattle.std.specs.Prelude.{◌≡◌, ℕ, List, [], Some, None, Ok, Err, map, string_bytes, option_map};
 ghost use Rattle.io_edge.specs.Faults.{HasRisen};
-ghost use Rattle.command_line.specs.Line.{line};
-ghost use Rattle.command_line.specs.Invocations.{command_of, work_of};
-ghost use Rattle.circt_top.specs.Words.{fault_of, ForCommand};
+ghost use Rattle.command_line.specs.Invocations.{command_of, Says};
+ghost use Rattle.circt_top.specs.Words.{line, passes_on_offer, fault_of, ForCommand};
 ghost use Rattle.circt_top.specs.Inputs.{AreContents, IsOneMissing, IsOneRisen, ReadsThen, OnFault, unread_end, name_at, bytes_at};
 ghost use Rattle.circt_top.specs.Outcome.{Verdict, IsAnswer, IsAnswered};
 ghost use Rattle.circt_top.specs.Outcome.Answer.{prints, refuses};
@@ -18,23 +17,26 @@ use crate::inputs::{Unread, read_inputs};
 use crate::outcome::{OutcomeFail, outcome};
 use crate::report::{Subject, report, stop};
 use crate::status::Status;
-use command_line::invocation::{Invocation, LineFail, read_line};
-use command_line::normalise::{WordsFail, normalise};
-use command_line::usage::UsageKind;
+use command_line::invocation::{Invocation, LineFail, read_words};
 use io_edge::byte_text::Text;
 use io_edge::file_access::Files;
 use io_edge::sinks::Sink;
 use pass_manager::gate::Gate;
+use pass_pipeline::pass::Pass;
 use std::alloc::Global;
 use std::thread::Threads;
+
+/// The passes that words may name: none as yet.
+const PASSES_ON_OFFER: [Pass; 0] = [];
 
 /// Runs the program: `words` are those after its name, `files` are read and written by name (`-` is
 /// standard input), the output goes to `out` or to the file of `-o`, and one line on what is wrong
 /// goes to `err`. `gate` is told of each module before a pass works on it.
 ///
 /// `opt [FILE] [-o FILE]` reads FILE and prints its design as MLIR text, and
-/// `translate [FILE] --export-verilog [-o FILE]` prints it as Verilog. All other words are answered
-/// by [`Status::Usage`]. A fault of `err` changes no status.
+/// `translate [FILE] --export-verilog [-o FILE]` prints it as Verilog, each of the design that the
+/// passes of `--pass-pipeline=TEXT` make, if it is given. All other words are answered by
+/// [`Status::Usage`]. A fault of `err` changes no status.
 pub fn run_circt<R: Threads + Sync, F: Files, O: Sink, E: Sink, G: Gate + Sync>(
     rt: &R,
     alloc: Global,
@@ -62,16 +64,18 @@ pub fn run_circt<R: Threads + Sync, F: Files, O: Sink, E: Sink, G: Gate + Sync>(
     ensures missing { (c : _) → line (map string_bytes words.now) ≡ Ok c → IsOneMissing (F.files files.old) c.inputs → IsReadFaultOrNoMemory (end_of result) }
     ensures report { ReportsEnd E.told E.faults (map string_bytes words.now) (λ name. HasRisen (F.read_faults files.old name) (F.read_faults files.new name)) (F.files files.old) (end_of result) err.old err.new }
 {
-    let regular = match normalise(alloc, words) {
-        Ok(regular) => regular,
-        Err(WordsFail::Reserved) => return stop(err, Status::Usage(UsageKind::Words)),
-        Err(WordsFail::NoMemory) => return stop(err, Status::NoMemory),
-    };
-    match read_line(alloc, &regular) {
+    match read_command(alloc, words) {
         Ok(invocation) => run_on(rt, alloc, &invocation, files, out, err, gate),
         Err(LineFail::Usage(kind)) => stop(err, Status::Usage(kind)),
         Err(LineFail::NoMemory) => stop(err, Status::NoMemory),
     }
+}
+
+// What the words say.
+fn read_command(alloc: Global, words: &[String]) -> Result<Invocation, LineFail>
+    ensures { Says (line (map string_bytes words.now)) result }
+{
+    read_words(alloc, words, &PASSES_ON_OFFER)
 }
 
 // The run of a command.

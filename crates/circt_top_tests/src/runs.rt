@@ -85,20 +85,22 @@ pub fn run_words(
     input: &str,
     failing: Failing,
 ) -> Result<Ended, AllocError> {
+    let words = words_of(rt.alloc(), line)?;
+    run_list(rt, words.as_slice(), input, failing)
+}
+
+/// The run of these words.
+pub fn run_list(
+    rt: &(impl Threads + Sync + AllocGlobal),
+    words: &[String],
+    input: &str,
+    failing: Failing,
+) -> Result<Ended, AllocError> {
     let alloc = rt.alloc();
-    let words = words_of(alloc, line)?;
     let mut files = files_of(alloc, input, failing)?;
     let mut out = sink_of(alloc, failing == Failing::Put)?;
     let mut err = sink_of(alloc, failing == Failing::Line)?;
-    let status = run_circt(
-        rt,
-        alloc,
-        words.as_slice(),
-        &mut files,
-        &mut out,
-        &mut err,
-        &Open,
-    );
+    let status = run_circt(rt, alloc, words, &mut files, &mut out, &mut err, &Open);
     Ok(Ended {
         code: status.code(),
         files,

@@ -15,4 +15,4 @@ returns-in-Err g c =
 pub returns-in-Verilog : goal.returns-in-Verilog
 returns-in-Verilog g c =
     let accepted : Accepted (first_input c.args.sources.now) (design_of c.in-Ok.verified.design) = subst (λ s. Accepted s (design_of c.in-Ok.verified.design)) c.first_input-source.ensures c.in-Ok.ensures in
-    subst (λ (w : Work). Gives (work_of w) c.args.sources.now c.translate.result) (sym c.in-Verilog.is) (c.translate.ensures c.args.sources.now c.in-Verilog.field-0.items accepted)
+    subst (λ (w : Work). Gives (work_of w) c.args.sources.now c.translate.result) (sym c.in-Verilog.is) (c.translate.ensures c.args.sources.now c.in-Verilog.field-0 accepted)

@@ -1,0 +1,173 @@
+//! What words with a pipeline of passes answer.
+use crate::runs::{ADDER, ADDER_PRINTED, ADDER_VERILOG, Failing, run_list};
+use std::alloc::{AllocError, Global};
+use std::test::Fail;
+
+const UNKNOWN_AT_0: &str = "circt: usage: unknown pass at offset 0\n";
+
+const UNKNOWN_AT_15: &str = "circt: usage: unknown pass at offset 15\n";
+
+const UNKNOWN_AT_25: &str = "circt: usage: unknown pass at offset 25\n";
+
+const BAD_AT_15: &str = "circt: usage: bad pipeline text at offset 15\n";
+
+const BAD_AT_16: &str = "circt: usage: bad pipeline text at offset 16\n";
+
+const UNNAMED: &str = "circt: usage: no translation named\n";
+
+const BAD_ARGUMENTS: &str = "circt: usage: bad arguments\n";
+
+/// Words, and what their run on the adder ends with.
+struct Row {
+    words: &'static [&'static str],
+    code: u8,
+    out: &'static str,
+    err: &'static str,
+}
+
+const ROWS: [Row; 14] = [
+    // a pipeline without passes changes nothing
+    Row {
+        words: &["opt", "--pass-pipeline=builtin.module()"],
+        code: 0,
+        out: ADDER_PRINTED,
+        err: "",
+    },
+    Row {
+        words: &[
+            "opt",
+            "-pass-pipeline",
+            " builtin.module( hw.module( ) )",
+            "-",
+        ],
+        code: 0,
+        out: ADDER_PRINTED,
+        err: "",
+    },
+    Row {
+        words: &[
+            "translate",
+            "--export-verilog",
+            "--pass-pipeline=builtin.module()",
+        ],
+        code: 0,
+        out: ADDER_VERILOG,
+        err: "",
+    },
+    Row {
+        words: &[
+            "translate",
+            "--pass-pipeline= builtin.module( hw.module( ) )",
+            "--export-verilog",
+        ],
+        code: 0,
+        out: ADDER_VERILOG,
+        err: "",
+    },
+    // names that are no pass on offer are unknown
+    Row {
+        words: &["opt", "--pass-pipeline=builtin.module(dce)"],
+        code: 2,
+        out: "",
+        err: UNKNOWN_AT_15,
+    },
+    Row {
+        words: &["opt", "--pass-pipeline=builtin.module(cse"],
+        code: 2,
+        out: "",
+        err: UNKNOWN_AT_15,
+    },
+    Row {
+        words: &["opt", "--pass-pipeline=cse"],
+        code: 2,
+        out: "",
+        err: UNKNOWN_AT_0,
+    },
+    Row {
+        words: &[
+            "translate",
+            "--export-verilog",
+            "--pass-pipeline=builtin.module(hw.module(symbol-dce))",
+        ],
+        code: 2,
+        out: "",
+        err: UNKNOWN_AT_25,
+    },
+    // other bytes are bad text, and so is an early end
+    Row {
+        words: &["opt", "--pass-pipeline=builtin.module(", "-o", "x.v"],
+        code: 2,
+        out: "",
+        err: BAD_AT_15,
+    },
+    Row {
+        words: &[
+            "translate",
+            "--export-verilog",
+            "--pass-pipeline=builtin.module()x",
+        ],
+        code: 2,
+        out: "",
+        err: BAD_AT_16,
+    },
+    // a missing translation counts first, and bad arguments before that
+    Row {
+        words: &["translate", "--pass-pipeline=builtin.module(dce)"],
+        code: 2,
+        out: "",
+        err: UNNAMED,
+    },
+    Row {
+        words: &[
+            "opt",
+            "--pass-pipeline=builtin.module(dce)",
+            "a.mlir",
+            "x.v",
+        ],
+        code: 2,
+        out: "",
+        err: BAD_ARGUMENTS,
+    },
+    Row {
+        words: &[
+            "opt",
+            "--pass-pipeline=builtin.module()",
+            "--pass-pipeline=builtin.module()",
+        ],
+        code: 2,
+        out: "",
+        err: BAD_ARGUMENTS,
+    },
+    Row {
+        words: &["opt", "--pass-pipeline=builtin.module()", "--passes=cse"],
+        code: 2,
+        out: "",
+        err: BAD_ARGUMENTS,
+    },
+];
+
+// These words.
+fn words_of(alloc: Global, list: &[&str]) -> Result<Vec<String>, AllocError> {
+    let mut words = Vec::new(alloc);
+    for word in list {
+        words.push(String::from_str(alloc, word)?)?;
+    }
+    Ok(words)
+}
+
+#[test]
+fn pipelines_are_read_or_wrong(rt: HostRuntime) -> Result<(), Fail> {
+    let alloc = rt.alloc();
+    for (number, row) in ROWS.iter().enumerate() {
+        let words = words_of(alloc, row.words)?;
+        let run = run_list(&rt, words.as_slice(), ADDER, Failing::No)?;
+        assert_eq!(rt; run.code, row.code, "of row {number}");
+        assert!(rt; run.out.contents() == row.out.as_bytes(), "of row {number}");
+        assert!(rt; run.err.contents() == row.err.as_bytes(), "of row {number}");
+        assert!(rt;
+            run.files.contents("x.v") == Some(b"old".as_slice()),
+            "of row {number}"
+        );
+    }
+    Ok(())
+}
