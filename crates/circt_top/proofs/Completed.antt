@@ -1,5 +1,5 @@
 -- From a run of a command to a run for its words; and the ends that are left where nothing failed.
-use Rattle.std.proofs.Common.{◌≡◌, ℕ, List, [], Option, Some, None, Ok, Err, sym, ◌∙◌, ap, subst}
+use Rattle.std.proofs.Common.{◌≡◌, ℕ, List, [], Option, Some, None, Ok, sym, ◌∙◌, ap, subst}
 use Rattle.hw_model.specs.Types.{Name}
 use Rattle.diag.specs.declared.refusal.Refusal.{Refusal}
 use Rattle.command_line.specs.Line.{Command}

@@ -1,5 +1,4 @@
 -- Facts for some ends of a run, from others.
-use Rattle.std.proofs.Common.{List, ℕ}
 use Rattle.diag.specs.declared.refusal.Refusal.{Refusal}
 use Rattle.circt_top.specs.Outcome.{Verdict}
 use Rattle.circt_top.specs.Inputs.{unread_end}

@@ -1,5 +1,5 @@
 -- One more file that was read.
-use Rattle.std.proofs.Common.{◌≡◌, ℕ, zero, suc, ◌+◌, ◌<◌, ◌≤◌, min, inl, inr, List, [], ◌∷◌, ◌++◌, length, take, get_or, map, Result, Ok, refl, sym, ◌∙◌, ap, subst, take-suc, arith}
+use Rattle.std.proofs.Common.{◌≡◌, ℕ, zero, suc, ◌+◌, ◌<◌, ◌≤◌, inl, inr, List, [], ◌∷◌, ◌++◌, length, take, get_or, map, Result, Ok, refl, sym, ◌∙◌, ap, subst, take-suc, arith}
 use Rattle.wiring.specs.Wiring.{In}
 use Rattle.hw_model.specs.Types.{Name}
 use Rattle.io_edge.specs.declared.file_access.FileFail.{FileFail}

@@ -16,7 +16,7 @@ use Rattle.command_line.specs.declared.usage.UsageKind.{UsageKind}
 use Rattle.circt_top.specs.Outcome.{Verdict, IsAnswer}
 use Rattle.circt_top.specs.Outcome.Answer.{prints, refuses}
 use Rattle.circt_top.specs.Words.{ForCommand}
-use Rattle.circt_top.specs.Inputs.{Told, AreContents, AreReadOf, fronts, name_at, bytes_at}
+use Rattle.circt_top.specs.Inputs.{Told, AreContents, fronts, name_at, bytes_at}
 use Rattle.circt_top.specs.Ends.{End}
 use Rattle.circt_top.specs.Ends.End.{usage, answered, refused, read_fault, write_fault, no_memory}
 

@@ -1,9 +1,7 @@
 -- One more file is read; or its count of faults rose.
-use Rattle.std.proofs.Common.{◌≡◌, ◌+◌, ◌++◌, ◌∷◌, [], take, map, subst, sym, ◌∙◌, ap, arith, List, ℕ}
+use Rattle.std.proofs.Common.{◌≡◌, ◌+◌, ◌++◌, ◌∷◌, [], take, map, subst, sym, ◌∙◌, ap, arith}
 use Rattle.std.specs.Prelude.{string_bytes}
-use Rattle.hw_model.specs.Types.{Name}
 use Rattle.io_edge.specs.Faults.{HasRisen}
-use Rattle.circt_top.specs.Inputs.{HasRead, AreReads}
 use Rattle.circt_top.proofs.Read.{names_more, read_more, told_more, risen_later, named_at, kept_more}
 use Rattle.circt_top.proofs.inputs.read_inputs.Goals as goal
 

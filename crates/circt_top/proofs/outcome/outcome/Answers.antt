@@ -1,4 +1,4 @@
-use Rattle.std.proofs.Common.{sym, subst, Ok, Err}
+use Rattle.std.proofs.Common.{sym, subst, Err}
 use Rattle.command_line.specs.Invocations.{work_of}
 use Rattle.command_line.specs.declared.invocation.Work.{Work}
 use Rattle.ir_store.specs.Designs.{design_of}

@@ -1,5 +1,5 @@
 -- What is answered for the bytes read is answered for the told files.
-use Rattle.std.proofs.Common.{◌≡◌, sym, subst, ap, ◌∙◌, map, List, ℕ}
+use Rattle.std.proofs.Common.{◌≡◌, ap, map}
 use Rattle.std.specs.Prelude.{string_bytes}
 use Rattle.io_edge.specs.Faults.{HasRisen}
 use Rattle.command_line.specs.Invocations.{command_of}
