@@ -161,13 +161,18 @@ fn passes_are_read_or_wrong(rt: HostRuntime) -> Result<(), Fail> {
     Ok(())
 }
 
+// Whether a work is on these passes.
+fn is_on(work: &Work, passes: &[Pass]) -> bool {
+    match work {
+        Work::Mlir(given) | Work::Verilog(given) => given.as_slice() == passes,
+    }
+}
+
 // Whether the work of the words of a line is on these passes.
 fn has_passes(alloc: Global, line: &str, passes: &[Pass]) -> Result<bool, AllocError> {
     let words = words_of(alloc, line)?;
     match read_line(alloc, words.as_slice(), &ALL) {
-        Ok(invocation) => match invocation.work {
-            Work::Mlir(given) | Work::Verilog(given) => Ok(given.as_slice() == passes),
-        },
+        Ok(invocation) => Ok(is_on(&invocation.work, passes)),
         Err(LineFail::Usage(_)) => Ok(false),
         Err(LineFail::NoMemory) => Err(AllocError),
     }
