@@ -55,7 +55,7 @@ IsMadeOf c told verdict text = (contents : List (List ℕ)) → AreContents told
 abbrev pub IsRefusalOf : Command → Told → Refusal → Type 0
 IsRefusalOf c told r = (contents : List (List ℕ)) → AreContents told c.inputs contents → IsAnswer c.work contents (refuses r)
 
--- ---- the line on what is wrong
+-- ---- the error message
 
 -- what a line may name: an input, with what is read of it, and the output
 pub record Subject : Type 0 where

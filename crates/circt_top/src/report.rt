@@ -1,4 +1,4 @@
-//! The line on what is wrong.
+//! The error message.
 ghost use Rattle.std.specs.Prelude.{◌≡◌, codes, ◌++◌, [], Err, Ok, OnOk, OnErr, option_map};
 ghost use Rattle.io_edge.specs.Bytes.{Appends, AppendsFront};
 ghost use Rattle.io_edge.specs.Faults.{HasCause};
@@ -25,7 +25,7 @@ pub(crate) struct Subject<'a> {
     pub(crate) output: Option<&'a str>,
 }
 
-/// Sends the line on what is wrong, if anything is. A fault of the sink is let go. It takes no
+/// Sends the error message, if anything is wrong. A fault of the sink is let go. It takes no
 /// memory.
 pub(crate) fn report<E: Sink>(err: &mut E, subject: &Subject<'_>, status: &Status)
     ensures { Reports E.told E.faults err.old err.new (line_of (subject_of subject.now) (end_of status.now)) }

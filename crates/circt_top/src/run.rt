@@ -30,7 +30,7 @@ use std::thread::Threads;
 const PASSES_ON_OFFER: [Pass; 0] = [];
 
 /// Runs the program: `words` are those after its name, `files` are read and written by name (`-` is
-/// standard input), the output goes to `out` or to the file of `-o`, and one line on what is wrong
+/// standard input), the output goes to `out` or to the file of `-o`, and an error message of one line
 /// goes to `err`. `gate` is told of each module before a pass works on it.
 ///
 /// `opt [FILE] [-o FILE]` reads FILE and prints its design as MLIR text, and
