@@ -38,9 +38,10 @@ use Rattle.op_verifier.proofs.InputResets.{resets_from_ports}
 use Rattle.op_verifier.proofs.SoundDesigns.{sound_design}
 use Rattle.op_verifier.proofs.Unrefused.{or_none, no_op_cause, no_header_cause, IsUnrefusedModule, ops_unrefused, module_unrefused}
 use Rattle.opcode.specs.declared.listed.Listed.TheVariants as listed
-use Rattle.mlir_operations.specs.ModuleText.{module_keys}
-use Rattle.mlir_printer.specs.Spellable.{Each, AreBytes}
-use Rattle.mlir_printer.specs.Printable.{IsDefined, settled_result, IsKeptDictionary, IsPrintableOp, IsPrintablePort, EndsWithOutput, IsPrintableModule, Printable}
+use Rattle.canonical_form.specs.Dictionaries.{module_keys}
+use Rattle.canonical_form.specs.Bytes.{Each, AreBytes}
+use Rattle.mlir_printer.specs.Printable.{IsDefined, settled_result, IsPrintableOp, IsPrintablePort, EndsWithOutput, IsPrintableModule, Printable}
+use Rattle.canonical_form.specs.Dictionaries.{IsKeptDictionary}
 use Rattle.hw_edits.specs.Follows.{Valid}
 use Rattle.hw_edits.specs.Resets.{has_mark, marks_by_symbol}
 use Rattle.accepted_edits.specs.Asked.{operand_in, operands_in, called_as, around, CallsMore}

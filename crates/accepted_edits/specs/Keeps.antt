@@ -11,9 +11,10 @@ use Rattle.op_verifier.specs.ResetChecks.{is_constant_ref}
 use Rattle.op_verifier.specs.Faults.{first_fault}
 use Rattle.op_verifier.specs.OpChecks.{value_cause, alone_cause}
 use Rattle.opcode.specs.declared.listed.Listed.TheVariants as listed
-use Rattle.mlir_operations.specs.ModuleText.{module_keys}
-use Rattle.mlir_printer.specs.Spellable.{Each, AreBytes}
-use Rattle.mlir_printer.specs.Printable.{IsKeptDictionary, IsPrintableOp, IsPrintablePort, EndsWithOutput}
+use Rattle.canonical_form.specs.Dictionaries.{module_keys}
+use Rattle.canonical_form.specs.Bytes.{Each, AreBytes}
+use Rattle.mlir_printer.specs.Printable.{IsPrintableOp, IsPrintablePort, EndsWithOutput}
+use Rattle.canonical_form.specs.Dictionaries.{IsKeptDictionary}
 use Rattle.hw_edits.specs.Follows.{ValidEdit, Valid}
 use Rattle.accepted_edits.specs.Asked.{operand_in, operands_in, AllowsMore, AllowMore}
 

@@ -27,7 +27,7 @@ use Rattle.op_verifier.specs.Answered.{Explains}
 use Rattle.op_verifier.specs.Faults.{first_fault}
 use Rattle.op_verifier.specs.Verdict.{IsAccepted}
 use Rattle.mlir_printer.specs.Printable.{Printable}
-use Rattle.mlir_printer.specs.Spellable.{AreBytes}
+use Rattle.canonical_form.specs.Bytes.{AreBytes}
 use Rattle.mlir_printer.specs.Texts.{ir_text}
 use Rattle.circt_top.specs.Accepting.{Accepted, IsRefused, IsRefusedIn, in_file, first_input, unaccepted}
 use Rattle.circt_top.specs.Accepting.{unread as unread_text}

@@ -3,7 +3,7 @@ ghost use Rattle.std.specs.Prelude.{◌≡◌, ℕ, List, IfOk};
 ghost use Rattle.ir_store.specs.Designs.{design_of};
 ghost use Rattle.command_line.specs.Invocations.{work_of};
 ghost use Rattle.command_line.specs.Line.Work.{verilog};
-ghost use Rattle.mlir_printer.specs.Spellable.{AreBytes};
+ghost use Rattle.canonical_form.specs.Bytes.{AreBytes};
 ghost use Rattle.pass_pipeline.specs.declared.pass.Pass.{Pass};
 ghost use Rattle.circt_top.specs.Accepting.{Accepted, first_input};
 ghost use Rattle.circt_top.specs.Reprint.{IsReprint};

@@ -15,7 +15,8 @@ use Rattle.mlir_syntax.specs.Reads.{on}
 use Rattle.mlir_operations.specs.OperandText.{ResultNames}
 use Rattle.mlir_operations.specs.OperandText.ResultNames.{no_names, names, pack}
 use Rattle.assembly_format.specs.Formats.{format_of}
-use Rattle.mlir_operations.specs.OperationText.{OperationText, operation, class_of, takes_bin, bin_text, string_keys, form_text, named_operation, classed_operation, operation_behind, operation_text, is_last, operations_text}
+use Rattle.mlir_operations.specs.OperationText.{OperationText, operation, class_of, bin_text, form_text, named_operation, classed_operation, operation_behind, operation_text, is_last, operations_text}
+use Rattle.canonical_form.specs.Dictionaries.{takes_bin, string_keys}
 use Rattle.mlir_syntax.specs.Spelling.{Phrase, Mark, Then}
 use Rattle.mlir_operations.specs.Spelling.{ValueName, ResultsPhrase, BinPhrase, FormPhrase, TailPhrase, StandsInBody, OperationPhrase, OperationsPhrase, IsPlaceOf}
 use Rattle.mlir_syntax.proofs.Again.{At, at_then, at_one, at_where, at_nothing, on_ok, if_true, if_false, Leads, leads_one, leads_then, leads_where, starts, starts_test, shorter}

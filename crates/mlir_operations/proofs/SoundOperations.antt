@@ -20,7 +20,8 @@ use Rattle.mlir_syntax.specs.AttributeText.{is_among}
 use Rattle.mlir_operations.specs.OperandText.{ResultNames}
 use Rattle.assembly_format.specs.Formats.{format_of, front_elements, type_elements}
 use Rattle.mlir_operations.specs.ElementText.{gathered_nothing}
-use Rattle.mlir_operations.specs.OperationText.{file_names, left_out, is_foreign, NameClass, operation, module_name, file_name, locations, outside, unknown, class_of_listed, class_of_other, class_by, class_of, takes_bin, bin_text, string_keys, OperationText, given_entries, late_dictionary, Tail, form_text, named_operation, classed_operation, operation_behind, operation_text, is_last, operations_text}
+use Rattle.mlir_operations.specs.OperationText.{file_names, left_out, is_foreign, NameClass, operation, module_name, file_name, locations, outside, unknown, class_of_listed, class_of_other, class_by, class_of, bin_text, OperationText, given_entries, late_dictionary, Tail, form_text, named_operation, classed_operation, operation_behind, operation_text, is_last, operations_text}
+use Rattle.canonical_form.specs.Dictionaries.{takes_bin, string_keys}
 use Rattle.mlir_syntax.specs.Spelling.{Phrase, MaybeDictionary}
 use Rattle.mlir_operations.specs.Spelling.{IsOneOf, FormPhrase, BinPhrase, MayHaveFormat, OperationPhrase, OperationsPhrase, ResultsPhrase, StandsInBody, IsPlaceOf}
 use Rattle.assembly_format.specs.declared.elements.Format.{Format}

@@ -17,6 +17,7 @@ use Rattle.mlir_syntax.specs.AttributeText.{dictionary_text, is_symbol}
 use Rattle.mlir_operations.specs.OperandText.{value_name}
 use Rattle.mlir_syntax.specs.WordText.{symbol_text, module_symbol}
 use Rattle.mlir_operations.specs.OperationText.{OperationText, NameClass, operation, module_name, file_name, locations, outside, unknown, class_of, misplaced_refusal, no_operation, operations_text}
+use Rattle.canonical_form.specs.Dictionaries.{module_keys}
 
 -- the operation that refusals in a module's header name
 abbrev pub header : OpName
@@ -88,10 +89,6 @@ pub record ModuleText : Type 0 where
   pub operations : List OperationText
   pub place : Place
   pub close : Place
-
--- the keys of a module's dictionary whose values are strings
-abbrev pub module_keys : List Name
-module_keys = codes "sv.namehint" ∷ []
 
 -- `attributes {..}`, or nothing
 unfoldable pub attributes_text : OpName → Reads (List Entry)

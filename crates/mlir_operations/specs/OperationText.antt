@@ -1,5 +1,5 @@
 -- The text of an operation, and of the body of a module.
-use Rattle.std.specs.Prelude.{ℕ, zero, suc, Bool, true, false, cond, ◌&&◌, not, ◌==◌, List, [], ◌∷◌, length, take, Option, Some, None, Ok, Err, codes}
+use Rattle.std.specs.Prelude.{ℕ, zero, suc, Bool, true, false, cond, ◌&&◌, not, ◌==◌, List, [], ◌∷◌, length, Option, Some, None, Ok, Err, codes}
 use Rattle.diag.specs.declared.refusal.Place.{Place}
 use Rattle.diag.specs.declared.refusal.Refusal.{Refusal}
 use Rattle.diag.specs.declared.refusal.OpName.{OpName}
@@ -7,7 +7,7 @@ use Rattle.diag.specs.declared.refusal.OpName.TheVariants as op
 use Rattle.diag.specs.declared.cause.Cause.TheVariants.{Unexpected, UnknownOperation, OutsideProfile}
 use Rattle.opcode.specs.declared.listed.Listed.{Listed}
 use Rattle.opcode.specs.declared.listed.Listed.TheVariants as listed
-use Rattle.opcode.specs.Listed.{name_of_listed, first_named}
+use Rattle.opcode.specs.Listed.{first_named}
 use Rattle.opcode.specs.Listed.{listed_operations}
 use Rattle.hw_model.specs.Types.{Name}
 use Rattle.hw_model.specs.Design.{Entry, same_name}
@@ -22,6 +22,7 @@ use Rattle.mlir_operations.specs.OperandText.{ResultNames, maybe_results}
 use Rattle.assembly_format.specs.Formats.{format_of, front_elements, type_elements}
 use Rattle.mlir_operations.specs.ElementText.{Gathered, gathered_nothing, elements_text}
 use Rattle.assembly_format.specs.declared.elements.Format.{Format}
+use Rattle.canonical_form.specs.Dictionaries.{dialect, takes_bin, string_keys}
 
 -- ---- names of operations
 
@@ -39,10 +40,6 @@ left_out =
 -- the dialects of which an unknown name is no operation
 abbrev pub known_dialects : List Name
 known_dialects = codes "hw" ∷ codes "comb" ∷ codes "seq" ∷ codes "builtin" ∷ []
-
--- a name up to its first dot
-abbrev pub dialect : Name → Name
-dialect name = take (run (λ b. not (b == 46)) name) name
 
 -- whether a name has a dot and another dialect
 abbrev pub is_foreign : Name → Bool
@@ -97,21 +94,9 @@ no_operation around s = cond (is_first is_outside s) (refusal_at OutsideProfile 
 
 -- ---- operations
 
--- whether `bin` may stand after the name
-abbrev pub takes_bin : Listed → Bool
-takes_bin o = same_name (dialect (name_of_listed o)) (codes "comb")
-
 -- `bin`, or nothing
 unfoldable pub bin_text : Listed → Reads Bool
 bin_text o s = cond (takes_bin o && is_first (is_word (codes "bin")) s) (Ok (true, after s)) (Ok (false, s))
-
--- the keys whose values are strings: a hint everywhere, the name of a register or a wire
-abbrev pub string_keys : Listed → List Name
-string_keys listed.HwWire = codes "sv.namehint" ∷ codes "name" ∷ []
-string_keys listed.SeqCompreg = codes "sv.namehint" ∷ codes "name" ∷ []
-string_keys listed.SeqCompregCe = codes "sv.namehint" ∷ codes "name" ∷ []
-string_keys listed.SeqFirreg = codes "sv.namehint" ∷ codes "name" ∷ []
-string_keys _ = codes "sv.namehint" ∷ []
 
 -- an operation as its text says it: the names of its results, its name, its `bin` mark, what is gathered, its dictionary, and its place
 pub record OperationText : Type 0 where

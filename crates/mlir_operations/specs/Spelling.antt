@@ -23,8 +23,10 @@ use Rattle.assembly_format.specs.Formats.{text_of_keyword, format_of, front_elem
 use Rattle.mlir_operations.specs.ElementText.{InherentAttributes, Gathered, gathered_nothing, with_operands, with_types, with_inherent, truth_number, Joined, instance_with, with_instance}
 use Rattle.mlir_syntax.specs.WordText.{predicate_named}
 use Rattle.mlir_operations.specs.ElementText.InherentAttributes.{with_reset, with_async_reset, predicate, position, number, literals, field_name}
-use Rattle.mlir_operations.specs.OperationText.{OperationText, takes_bin, string_keys, is_last, given_entries}
-use Rattle.mlir_operations.specs.ModuleText.{PortText, ModuleText, module_keys}
+use Rattle.mlir_operations.specs.OperationText.{OperationText, is_last, given_entries}
+use Rattle.canonical_form.specs.Dictionaries.{takes_bin, string_keys}
+use Rattle.mlir_operations.specs.ModuleText.{PortText, ModuleText}
+use Rattle.canonical_form.specs.Dictionaries.{module_keys}
 use Rattle.assembly_format.specs.declared.elements.FormatElement.{FormatElement}
 use Rattle.assembly_format.specs.declared.elements.FormatElement.TheVariants as element
 use Rattle.assembly_format.specs.declared.elements.Format.{Format}

@@ -3,7 +3,8 @@ ghost use Rattle.std.specs.Prelude.{◌≡◌, ◌≢◌, List, ℕ, map, IfSome
 ghost use Rattle.opcode.specs.Listed.{name_of_listed};
 ghost use Rattle.hw_model.specs.Design.{same_name};
 ghost use Rattle.mlir_syntax.specs.AttributeText.{is_among};
-ghost use Rattle.mlir_operations.specs.OperationText.{class_of, class_of_listed, class_of_other, dialect, is_foreign, takes_bin, is_last};
+ghost use Rattle.mlir_operations.specs.OperationText.{class_of, class_of_listed, class_of_other, is_foreign, is_last};
+ghost use Rattle.canonical_form.specs.Dictionaries.{dialect, takes_bin};
 ghost use Rattle.mlir_operations.specs.NameClasses.{class_seen};
 
 use mlir_lexer::classes::{Class, run_of};

@@ -1,42 +1,26 @@
 -- What a design must have to be printed and read again as itself.
-use Rattle.std.specs.Prelude.{◌≡◌, ◌+◌, ◌^◌, ◌<◌, true, false, List, [], ◌∷◌, ◌++◌, length, map, Option, Some, slice_get, ⊤}
-use Rattle.std.specs.Ordering.{nat_cmp, is_lt}
-use Rattle.std.specs.Cmp.Lexicographic.{slice_cmp}
-use Rattle.opcode.specs.declared.listed.Listed.{Listed}
+use Rattle.std.specs.Prelude.{◌≡◌, ◌^◌, ◌<◌, true, false, List, [], ◌∷◌, ◌++◌, length, map, Option, Some, slice_get}
 use Rattle.opcode.specs.declared.listed.Listed.TheVariants as listed
-use Rattle.hw_model.specs.Types.{Name, HwType}
-use Rattle.hw_model.specs.Kinds.{Kind, Instance}
-use Rattle.hw_model.specs.Kinds.StructOp.{struct_extract, struct_inject}
-use Rattle.hw_model.specs.Kinds.Kind.{extract, constant, aggregate_constant, on_struct, instance, output}
+use Rattle.hw_model.specs.Types.{HwType}
+use Rattle.hw_model.specs.Kinds.Kind.{output}
 use Rattle.hw_model.specs.Opcodes.{opcode_of}
-use Rattle.hw_model.specs.Design.{Entry, Ref, Port, OpResult, Op, Module, Design, is_output_op}
+use Rattle.hw_model.specs.Design.{Ref, Port, OpResult, Op, Module, Design, is_output_op}
 use Rattle.hw_model.specs.Design.Ref.{port, result, undefined}
 use Rattle.ir_store.specs.ResultTypes.{result_types}
 use Rattle.op_checks.specs.CountChecks.{operands_written, type_count}
 use Rattle.mlir_syntax.specs.Numerals.{count_limit}
-use Rattle.mlir_operations.specs.OperationText.{takes_bin, string_keys}
-use Rattle.mlir_operations.specs.ModuleText.{module_keys}
-use Rattle.mlir_reader.specs.Resolving.{kept_by_first, kept_literals, is_dropped, has_name, type_or_none}
+use Rattle.canonical_form.specs.Dictionaries.{takes_bin, string_keys}
+use Rattle.canonical_form.specs.Dictionaries.{module_keys}
+use Rattle.canonical_form.specs.Dictionaries.{has_name}
+use Rattle.canonical_form.specs.ResultTypes.{type_or_none}
 use Rattle.mlir_printer.specs.Naming.{is_pack, port_name_hints, body_name_hints}
 use Rattle.mlir_printer.specs.Texts.{parts_in}
-use Rattle.mlir_printer.specs.Spellable.{Each, AreBytes, MayBeBytes, IsInteger, IsAnyType, AreLiterals, IsEntry}
+use Rattle.canonical_form.specs.Bytes.{Each, AreBytes}
+use Rattle.canonical_form.specs.Limits.{IsAnyType}
+use Rattle.canonical_form.specs.Kinds.{KeepsConstants, IsWritten}
+use Rattle.canonical_form.specs.Dictionaries.{IsKeptDictionary}
 
 -- ---- dictionaries
-
--- keys rise by their bytes, so that none stands twice
-abbrev pub AreInOrder : List Entry → Type 0
-AreInOrder [] = ⊤
-AreInOrder (e ∷ []) = ⊤
-AreInOrder (e ∷ f ∷ es) = (is_lt (slice_cmp nat_cmp e.key f.key) ≡ true) × AreInOrder (f ∷ es)
-
--- a dictionary of an operation of a name
-pub record IsKeptDictionary (o : Listed) (strings : List Name) (es : List Entry) : Type 0 where
-  -- the entries stand by the bytes of their keys, each key once
-  pub in_order : AreInOrder es
-  -- no hint is empty, and what has a name of its own has no entry for it
-  pub kept : Each (λ (e : Entry). is_dropped o e ≡ false) es
-  -- keys are bytes, values are read where they stand, and those of some keys are strings
-  pub entries : Each (IsEntry strings) es
 
 -- ---- values
 
@@ -51,35 +35,6 @@ abbrev pub settled_result : Option HwType → OpResult
 settled_result t = record { type = type_or_none t; again = false }
 
 -- ---- kinds
-
--- constants of integer types are kept as the numbers that their bits are
-abbrev pub KeepsConstants : Kind → List HwType → Type 0
-KeepsConstants (constant z) ts = kept_by_first ts z ≡ z
-KeepsConstants (aggregate_constant ls) ts = kept_literals ls ≡ ls
-KeepsConstants _ ts = ⊤
-
--- the names that an instance has
-pub record IsWrittenInstance (i : Instance) : Type 0 where
-  -- its own name is bytes
-  pub name : AreBytes i.name
-  -- so is its inner symbol, where it has one
-  pub inner : MayBeBytes i.inner_symbol
-  -- so is the symbol of its module
-  pub symbol : AreBytes i.symbol
-  -- so are the names of the inputs
-  pub inputs : Each AreBytes i.inputs
-  -- so are the names of the outputs
-  pub outputs : Each AreBytes i.outputs
-
--- what a kind says besides operands and types can be written: numbers are below the limits of the text, names are bytes
-abbrev pub IsWritten : Kind → Type 0
-IsWritten (extract low) = low < count_limit
-IsWritten (constant z) = IsInteger z
-IsWritten (aggregate_constant ls) = AreLiterals ls 31
-IsWritten (on_struct (struct_extract name)) = AreBytes name
-IsWritten (on_struct (struct_inject name)) = AreBytes name
-IsWritten (instance i) = IsWrittenInstance i
-IsWritten _ = ⊤
 
 -- ---- operations
 

@@ -1,21 +1,15 @@
 -- What the text of a design says to its reader, and what it needs to be read as the same.
-use Rattle.std.specs.Prelude.{◌≡◌, ℕ, zero, suc, ◌+◌, ◌<◌, ◌≤◌, Bool, true, false, List, [], ◌∷◌, length, map, drop, Option, Some, None, ℤ, pos, negsuc, ⊤}
+use Rattle.std.specs.Prelude.{◌≡◌, ℕ, ◌+◌, ◌<◌, ◌≤◌, true, List, [], ◌∷◌, length, map, drop, Option, Some, None, ⊤}
 use Rattle.diag.specs.Place.{start_place}
-use Rattle.hw_model.specs.Types.{Name, HwType, FieldTypes}
-use Rattle.hw_model.specs.Types.HwType.{int, clock, array, struct}
-use Rattle.hw_model.specs.Types.FieldTypes.{no_fields, field}
-use Rattle.hw_model.specs.Kinds.{Instance, Literal, Literals}
-use Rattle.hw_model.specs.Kinds.Literal.{leaf, parts}
-use Rattle.hw_model.specs.Kinds.Literals.{no_literals, literal}
-use Rattle.hw_model.specs.Design.{Attribute, Attributes, Entry}
-use Rattle.hw_model.specs.Design.Attribute.{unit_value, text_value, symbol_value, truth_value, integer_value, list_value}
-use Rattle.hw_model.specs.Design.Attributes.{no_attributes, attribute}
+use Rattle.hw_model.specs.Types.{Name, HwType}
+use Rattle.hw_model.specs.Types.HwType.{int}
+use Rattle.hw_model.specs.Types.FieldTypes.{field}
+use Rattle.hw_model.specs.Kinds.{Instance, Literals}
+use Rattle.hw_model.specs.Design.{Entry}
 use Rattle.mlir_lexer.specs.Fronts.{suffix_length}
 use Rattle.mlir_lexer.specs.declared.token.TokenKind.{TokenKind}
 use Rattle.mlir_lexer.specs.declared.token.TokenKind.TheVariants as kind
-use Rattle.mlir_syntax.specs.Numerals.{count_limit, number_limit}
-use Rattle.mlir_syntax.specs.TypeText.{most_open}
-use Rattle.mlir_syntax.specs.AttributeText.{is_among, is_stored}
+use Rattle.mlir_syntax.specs.Numerals.{count_limit}
 use Rattle.mlir_operations.specs.OperandText.{OperandName}
 use Rattle.mlir_operations.specs.ElementText.{InherentAttributes, Gathered, with_operands, with_types, with_inherent}
 use Rattle.mlir_operations.specs.ElementText.InherentAttributes.{with_reset, with_async_reset, predicate, position, number, literals, field_name, child}
@@ -28,6 +22,8 @@ use Rattle.mlir_printer.specs.Numbers.{is_truth}
 use Rattle.mlir_printer.specs.Elements.{ValueText, Pending, first_operand, left_behind}
 use Rattle.mlir_printer.specs.Operations.{OperationText}
 use Rattle.mlir_printer.specs.Modules.{PortText, ModuleText}
+use Rattle.canonical_form.specs.Limits.{IsInteger, IsAnyType, AreLiterals, IsEntry}
+use Rattle.canonical_form.specs.Bytes.{Each, AreBytes, MayBeBytes}
 
 -- ---- what a reader reads
 
@@ -73,15 +69,6 @@ inherent_view m = record {
 
 -- ---- names, numbers, types
 
--- each of a list is so
-abbrev pub Each : {A : Type 0} → (A → Type 0) → List A → Type 0
-Each P [] = ⊤
-Each P (x ∷ xs) = P x × Each P xs
-
--- bytes, and no greater numbers
-abbrev pub AreBytes : List ℕ → Type 0
-AreBytes bytes = Each (λ b. b < 256) bytes
-
 -- a name that may stand after `%`: one suffix, digits alone or none before
 pub record IsValueName (name : Name) : Type 0 where
   -- it is not empty
@@ -89,70 +76,7 @@ pub record IsValueName (name : Name) : Type 0 where
   -- a suffix at its front has all its bytes
   pub whole : suffix_length name ≡ length name
 
--- an integer that is read: its distance from 0 is below 2^128
-abbrev pub IsInteger : ℤ → Type 0
-IsInteger (pos n) = n < number_limit
-IsInteger (negsuc n) = suc n < number_limit
-
--- aggregates may be opened: so many more, of which there is one at least
-abbrev pub Opens : (ℕ → Type 0) → ℕ → Type 0
-Opens Inner zero = ⊥
-Opens Inner (suc room) = Inner room
-
-abbrev mutual
-  -- a type that is read where so many aggregates may be opened: widths and lengths are below their limit, names are bytes
-  pub IsType : HwType → ℕ → Type 0
-  IsType (int w) room = w < count_limit
-  IsType clock room = ⊤
-  IsType (array n t) room = (n < count_limit) × Opens (λ inner. IsType t inner) room
-  IsType (struct fs) room = Opens (λ inner. AreFields fs inner) room
-
-  pub AreFields : FieldTypes → ℕ → Type 0
-  AreFields no_fields room = ⊤
-  AreFields (field name t fs) room = AreBytes name × IsType t room × AreFields fs room
-
--- a type where nothing is open
-abbrev pub IsAnyType : HwType → Type 0
-IsAnyType t = IsType t most_open
-
 -- ---- constants of aggregates, attributes, dictionaries
-
-abbrev mutual
-  -- a constant that is read where so many lists may be opened
-  pub IsLiteral : Literal → ℕ → Type 0
-  IsLiteral (leaf z t) room = IsInteger z × IsType t room
-  IsLiteral (parts ls) room = Opens (λ inner. AreLiterals ls inner) room
-
-  pub AreLiterals : Literals → ℕ → Type 0
-  AreLiterals no_literals room = ⊤
-  AreLiterals (literal l ls) room = IsLiteral l room × AreLiterals ls room
-
-abbrev mutual
-  -- an attribute that is read where so many lists may be opened; a unit stands in no list
-  pub IsAttribute : Attribute → ℕ → Type 0
-  IsAttribute unit_value room = ⊥
-  IsAttribute (text_value text) room = AreBytes text
-  IsAttribute (symbol_value name) room = AreBytes name
-  IsAttribute (truth_value b) room = ⊤
-  IsAttribute (integer_value z t) room = (is_stored z ≡ true) × IsType t room
-  IsAttribute (list_value inner) room = Opens (λ more. AreAttributes inner more) room
-
-  pub AreAttributes : Attributes → ℕ → Type 0
-  AreAttributes no_attributes room = ⊤
-  AreAttributes (attribute a rest) room = IsAttribute a room × AreAttributes rest room
-
--- the value of a key: of some keys it is a string, of another one an attribute or nothing
-abbrev pub IsValue : Bool → Attribute → Type 0
-IsValue of_string unit_value = of_string ≡ false
-IsValue of_string (text_value text) = AreBytes text
-IsValue of_string a = (of_string ≡ false) × IsAttribute a most_open
-
--- an entry of a dictionary, where the values of some keys are strings
-pub record IsEntry (strings : List Name) (e : Entry) : Type 0 where
-  -- a bare name or a string can hold the key
-  pub key : AreBytes e.key
-  -- the value is one that may stand after the key
-  pub value : IsValue (is_among e.key strings) e.value
 
 -- a dictionary, where the values of some keys are strings
 pub record IsDictionary (strings : List Name) (es : List Entry) : Type 0 where
@@ -238,11 +162,6 @@ SaysLiterals _ = ⊥
 abbrev pub SaysField : InherentAttributes → Type 0
 SaysField (field_name name) = AreBytes name
 SaysField _ = ⊥
-
--- a name, or none
-abbrev pub MayBeBytes : Option Name → Type 0
-MayBeBytes None = ⊤
-MayBeBytes (Some name) = AreBytes name
 
 -- an instance with its operands and types
 pub record IsInstance (i : Instance) (os : List ValueText) (ts : List HwType) : Type 0 where

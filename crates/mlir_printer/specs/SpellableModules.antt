@@ -8,15 +8,18 @@ use Rattle.mlir_operations.specs.OperandText.{ResultNames}
 use Rattle.mlir_operations.specs.OperandText.ResultNames.{no_names, names, pack}
 use Rattle.assembly_format.specs.Formats.{front_elements, type_elements}
 use Rattle.mlir_operations.specs.ElementText.{Gathered, gathered_nothing}
-use Rattle.mlir_operations.specs.OperationText.{takes_bin, string_keys, is_last}
-use Rattle.mlir_operations.specs.ModuleText.{module_keys}
+use Rattle.mlir_operations.specs.OperationText.{is_last}
+use Rattle.canonical_form.specs.Dictionaries.{takes_bin, string_keys}
+use Rattle.canonical_form.specs.Dictionaries.{module_keys}
 use Rattle.mlir_operations.specs.Spelling.{StandsInBody, FilePhrase, token_of}
 use Rattle.assembly_format.specs.declared.elements.FormatElement.TheVariants as element
 use Rattle.assembly_format.specs.declared.elements.Format.{Format}
 use Rattle.mlir_printer.specs.Elements.{Pending}
 use Rattle.mlir_printer.specs.Operations.{OperationText, format_shown, left_behind_all}
 use Rattle.mlir_printer.specs.Modules.{PortText, ModuleText}
-use Rattle.mlir_printer.specs.Spellable.{said_pending, inherent_view, Each, AreBytes, IsValueName, IsAnyType, IsDictionary, gathered_with_all, NeedAll}
+use Rattle.mlir_printer.specs.Spellable.{said_pending, inherent_view, IsValueName, IsDictionary, gathered_with_all, NeedAll}
+use Rattle.canonical_form.specs.Bytes.{Each, AreBytes}
+use Rattle.canonical_form.specs.Limits.{IsAnyType}
 
 -- ---- operations
 

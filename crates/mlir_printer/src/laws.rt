@@ -6,7 +6,7 @@ ghost use Rattle.mlir_reader.specs.Reading.{text_limit, read};
 ghost use Rattle.mlir_reader.specs.Spelling.{Spells, SpellsPlacelessly};
 ghost use Rattle.op_verifier.specs.Faults.{first_fault};
 ghost use Rattle.mlir_printer.specs.Modules.{ModuleText, file_bytes};
-ghost use Rattle.mlir_printer.specs.Spellable.{Each, AreBytes};
+ghost use Rattle.canonical_form.specs.Bytes.{Each, AreBytes};
 ghost use Rattle.mlir_printer.specs.SpellableModules.{IsSpellable, AreSpelled};
 ghost use Rattle.mlir_printer.specs.Texts.{ir_text};
 ghost use Rattle.mlir_printer.specs.Printable.{Printable};

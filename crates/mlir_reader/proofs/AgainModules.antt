@@ -19,7 +19,8 @@ use Rattle.mlir_syntax.specs.Reads.{want}
 use Rattle.mlir_syntax.specs.TypeText.{most_open}
 use Rattle.mlir_syntax.specs.AttributeText.{dictionary_text, is_symbol}
 use Rattle.mlir_operations.specs.OperationText.{module_name, class_of}
-use Rattle.mlir_operations.specs.ModuleText.{header, PortText, port_name, port_type, input_port, output_port, port_text, older_input, older_outputs, older_ports, ports_text, ModuleText, module_keys, attributes_text, private_text, body_text, module_behind, classed_module, module_text, modules_text, file_symbol, want_end, wrapped_text, is_file_name, file_text}
+use Rattle.mlir_operations.specs.ModuleText.{header, PortText, port_name, port_type, input_port, output_port, port_text, older_input, older_outputs, older_ports, ports_text, ModuleText, attributes_text, private_text, body_text, module_behind, classed_module, module_text, modules_text, file_symbol, want_end, wrapped_text, is_file_name, file_text}
+use Rattle.canonical_form.specs.Dictionaries.{module_keys}
 use Rattle.mlir_syntax.specs.Spelling.{Phrase, One, Mark, Word, Holding, Then, Either, Where, Nothing, Commas, Between, NamePhrase, SymbolPhrase, TypePhrase, DictionaryPhrase}
 use Rattle.mlir_operations.specs.Spelling.{ValueName, OperationsPhrase, PortPhrase, OlderInputPhrase, OlderOutputPhrase, OlderOutputsPhrase, OlderPortsPhrase, PortsPhrase, AttributesPhrase, PrivatePhrase, ModulePhrase, ModulesPhrase, FileWord, WrappedPhrase, FilePhrase, IsPlaceOf, token_of}
 use Rattle.mlir_syntax.proofs.Again.{At, at_then, at_one, at_where, at_nothing, at_as, by_either, at_either, on_ok, if_true, if_false, Leads, leads_one, leads_then, leads_where, leads_either, starts, starts_test, shorter, Again, Any}

@@ -26,7 +26,8 @@ use Rattle.assembly_format.specs.Formats.{text_of_keyword, format_of, front_elem
 use Rattle.mlir_operations.specs.ElementText.{InherentAttributes, Gathered, gathered_nothing, with_operands, with_types, with_inherent, truth_number, group_text, further_types, types_text, reset_operands, reset_text, reset_mode, sync_or_async_reset_text, input_text, output_text, inputs_text, outputs_text, instance_with, with_instance, instance_text, element_text, elements_text}
 use Rattle.mlir_syntax.specs.WordText.{predicate_named, bare_text, as_known, predicate_text, truth_named, truth_text, string_text, inner_symbol, module_symbol}
 use Rattle.mlir_operations.specs.ElementText.InherentAttributes.{with_reset, with_async_reset, predicate, position, number, literals, field_name}
-use Rattle.mlir_operations.specs.OperationText.{NameClass, operation, module_name, file_name, locations, outside, unknown, class_of, misplaced_refusal, is_outside, no_operation, takes_bin, bin_text, string_keys, OperationText, given_entries, late_dictionary, form_text, named_operation, classed_operation, operation_behind, operation_text}
+use Rattle.mlir_operations.specs.OperationText.{NameClass, operation, module_name, file_name, locations, outside, unknown, class_of, misplaced_refusal, is_outside, no_operation, bin_text, OperationText, given_entries, late_dictionary, form_text, named_operation, classed_operation, operation_behind, operation_text}
+use Rattle.canonical_form.specs.Dictionaries.{takes_bin, string_keys}
 use Rattle.mlir_operations.specs.ModuleText.{ModuleText, module_text}
 use Rattle.assembly_format.specs.declared.elements.FormatElement.{FormatElement}
 use Rattle.assembly_format.specs.declared.elements.FormatElement.TheVariants as element

@@ -1,5 +1,5 @@
 -- From what a text says to the design: kinds, dictionaries, and the values that names stand for.
-use Rattle.std.specs.Prelude.{ℕ, ◌+◌, ◌-◌, ◌^◌, Bool, true, false, cond, ◌&&◌, ◌==◌, nat_lt, not, min, max, replicate as times, List, [], ◌∷◌, ◌++◌, length, map, Option, Some, None, is_some, codes, ℤ, pos, negsuc}
+use Rattle.std.specs.Prelude.{ℕ, ◌+◌, Bool, true, false, cond, ◌==◌, nat_lt, not, min, max, replicate as times, List, [], ◌∷◌, ◌++◌, length, map, Option, Some, None, is_some, ℤ, pos}
 use Rattle.std.specs.Ordering.{nat_cmp, is_lt}
 use Rattle.std.specs.Cmp.Lexicographic.{slice_cmp}
 use Rattle.diag.specs.declared.refusal.Place as code
@@ -7,11 +7,10 @@ use Rattle.opcode.specs.declared.listed.Listed.{Listed}
 use Rattle.opcode.specs.declared.listed.Listed.TheVariants as listed
 use Rattle.hw_model.specs.Types.{Name, HwType}
 use Rattle.hw_model.specs.Types.HwType.{int}
-use Rattle.hw_model.specs.Kinds.{Kind, Predicate, Reset, Literal, Literals, Instance}
+use Rattle.hw_model.specs.Kinds.{Kind, Predicate, Reset, Literals, Instance}
 use Rattle.hw_model.specs.Kinds.Predicate.{eq}
 use Rattle.hw_model.specs.Kinds.Reset.{no_reset, sync_reset}
-use Rattle.hw_model.specs.Kinds.Literal.{leaf, parts}
-use Rattle.hw_model.specs.Kinds.Literals.{no_literals, literal}
+use Rattle.hw_model.specs.Kinds.Literals.{no_literals}
 use Rattle.hw_model.specs.Kinds.StructOp.{struct_extract, struct_inject}
 use Rattle.hw_model.specs.Kinds.RegisterOp.{compreg, compreg_ce, firreg}
 use Rattle.hw_model.specs.Kinds.Kind.{icmp, extract, constant, aggregate_constant, on_struct, instance, output, register, async_firreg}
@@ -29,35 +28,11 @@ use Rattle.mlir_operations.specs.ElementText.{InherentAttributes}
 use Rattle.mlir_operations.specs.ElementText.InherentAttributes.{with_reset, with_async_reset, predicate, position, number, literals, field_name, child}
 use Rattle.mlir_operations.specs.OperationText.{OperationText, is_last}
 use Rattle.mlir_operations.specs.ModuleText.{PortText, ModuleText}
+use Rattle.canonical_form.specs.ResultTypes.{type_or_none}
+use Rattle.canonical_form.specs.Dictionaries.{has_name, is_name_entry, is_dropped}
+use Rattle.canonical_form.specs.Constants.{kept_by_first, kept_literals}
 
 -- ---- constants
-
--- whether a constant -1 - n is in the range of an integer type that values have, of 1 to 128 bits
-abbrev pub has_negative : ℕ → ℕ → Bool
-has_negative w n = nat_lt 0 w && (nat_lt w 129 && nat_lt n (2 ^ (w - 1)))
-
--- a constant of an integer type stands for its bits where it is in range: it is kept as the number that they are
-abbrev pub kept_number : ℕ → ℤ → ℤ
-kept_number w (pos n) = pos n
-kept_number w (negsuc n) = cond (has_negative w n) (pos (2 ^ w - 1 - n)) (negsuc n)
-
-abbrev pub kept_integer : HwType → ℤ → ℤ
-kept_integer (int w) z = kept_number w z
-kept_integer _ z = z
-
-abbrev pub kept_by_first : List HwType → ℤ → ℤ
-kept_by_first [] z = z
-kept_by_first (t ∷ ts) z = kept_integer t z
-
-abbrev mutual
-  -- the constants of an aggregate, each kept so
-  pub kept_literal : Literal → Literal
-  kept_literal (leaf z t) = leaf (kept_integer t z) t
-  kept_literal (parts ls) = parts (kept_literals ls)
-
-  pub kept_literals : Literals → Literals
-  kept_literals no_literals = no_literals
-  kept_literals (literal l ls) = literal (kept_literal l) (kept_literals ls)
 
 -- ---- kinds
 
@@ -129,33 +104,10 @@ abbrev pub sort_entries : List Entry → List Entry
 sort_entries [] = []
 sort_entries (e ∷ es) = put_entry e (sort_entries es)
 
--- a hint that is empty is none
-abbrev pub is_empty_text : Attribute → Bool
-is_empty_text (text_value []) = true
-is_empty_text _ = false
-
-abbrev pub is_empty_hint : Entry → Bool
-is_empty_hint e = same_name (codes "sv.namehint") e.key && is_empty_text e.value
-
 -- the entries that meet no test
 abbrev pub without : (Entry → Bool) → List Entry → List Entry
 without test [] = []
 without test (e ∷ es) = cond (test e) (without test es) (e ∷ without test es)
-
--- whether an operation has a name of its own
-abbrev pub has_name : Listed → Bool
-has_name listed.HwWire = true
-has_name listed.SeqCompreg = true
-has_name listed.SeqCompregCe = true
-has_name listed.SeqFirreg = true
-has_name _ = false
-
-abbrev pub is_name_entry : Entry → Bool
-is_name_entry e = same_name (codes "name") e.key
-
--- whether an operation's entry is not kept: an empty hint, and the name of what has one of its own
-abbrev pub is_dropped : Listed → Entry → Bool
-is_dropped o e = cond (is_empty_hint e) true (has_name o && is_name_entry e)
 
 -- the entries that are kept of an operation
 abbrev pub kept_entries : Listed → List Entry → List Entry
@@ -286,11 +238,6 @@ mark_count (are_results i k count) = max 1 count
 abbrev pub marks : Meanings → List Definition → List Bool
 marks earlier [] = []
 marks earlier (d ∷ ds) = times (mark_count d.defined) (is_some (earlier d.name)) ++ marks (with_definition earlier d) ds
-
--- a result's type that its operation does not settle
-abbrev pub type_or_none : Option HwType → HwType
-type_or_none None = int 0
-type_or_none (Some t) = t
 
 -- results of these types with their marks; a name without a result has one of no type
 abbrev pub marked_results : List (Option HwType) → List Bool → List OpResult

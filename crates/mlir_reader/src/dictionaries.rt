@@ -1,7 +1,8 @@
 //! What is kept of the dictionary that a text gives, and the names that it holds.
 ghost use Rattle.std.specs.Prelude.{◌≡◌, ◌++◌, map, IfOk, Some};
 ghost use Rattle.ir_store.specs.DictionaryViews.{attribute_of, entry_of, entries_in};
-ghost use Rattle.mlir_reader.specs.Resolving.{is_empty_text, is_empty_hint, is_name_entry, has_name, is_dropped, without, kept_entries, kept_module_entries, sort_entries};
+ghost use Rattle.mlir_reader.specs.Resolving.{without, kept_entries, kept_module_entries, sort_entries};
+ghost use Rattle.canonical_form.specs.Dictionaries.{is_empty_text, is_empty_hint, is_name_entry, has_name, is_dropped};
 
 use io_edge::byte_text::Text;
 use ir_store::dictionary::{Attribute, Dictionary, Entry};

@@ -3,7 +3,8 @@ ghost use Rattle.std.specs.Prelude.{◌≡◌, ◌-◌, ◌^◌, true, map, IfOk
 ghost use Rattle.std.specs.Box.{box_value};
 ghost use Rattle.hw_model.specs.TypeViews.{type_of};
 ghost use Rattle.hw_model.specs.KindViews.{kind_of, integer_of, predicate_of, reset_of, literal_of, literals_in, instance_of};
-ghost use Rattle.mlir_reader.specs.Resolving.{has_negative, kept_number, kept_integer, kept_by_first, kept_literal, kept_literals, kind_named, inherent_kind, inherent_predicate, inherent_position, inherent_number, inherent_literals, inherent_field, inherent_instance, inherent_reset, firreg_kind};
+ghost use Rattle.mlir_reader.specs.Resolving.{kind_named, inherent_kind, inherent_predicate, inherent_position, inherent_number, inherent_literals, inherent_field, inherent_instance, inherent_reset, firreg_kind};
+ghost use Rattle.canonical_form.specs.Constants.{has_negative, kept_number, kept_integer, kept_by_first, kept_literal, kept_literals};
 ghost use Rattle.mlir_operations.specs.ElementText.InherentAttributes.{nothing};
 ghost use Rattle.mlir_operations.specs.Views.{inherent_of};
 

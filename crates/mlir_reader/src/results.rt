@@ -5,7 +5,8 @@ ghost use Rattle.hw_model.specs.KindViews.{kind_of};
 ghost use Rattle.hw_model.specs.TypeViews.{type_of};
 ghost use Rattle.ir_store.specs.ResultTypes.{result_types};
 ghost use Rattle.ir_store.specs.OperationViews.{results_in};
-ghost use Rattle.mlir_reader.specs.Resolving.{type_or_none, marked_results};
+ghost use Rattle.mlir_reader.specs.Resolving.{marked_results};
+ghost use Rattle.canonical_form.specs.ResultTypes.{type_or_none};
 
 use hw_model::families::Family;
 use hw_model::kinds::OpKind;

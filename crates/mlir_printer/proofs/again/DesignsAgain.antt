@@ -13,7 +13,8 @@ use Rattle.mlir_reader.proofs.Defining.{definitions_append}
 use Rattle.mlir_printer.specs.Elements.{ValueText}
 use Rattle.mlir_printer.specs.Naming.{port_name_hint, port_name_hints, input_count, body_name_hints, name_hints, hints_or_numbers, names_given, name_count, first_name, firsts, value_named}
 use Rattle.mlir_printer.specs.Texts.{parts_in, operation_shown, operations_shown, port_shown, ports_shown, module_shown, modules_shown}
-use Rattle.mlir_printer.specs.Spellable.{Each, said_operand, said_operation, said_port, inherent_view}
+use Rattle.mlir_printer.specs.Spellable.{said_operand, said_operation, said_port, inherent_view}
+use Rattle.canonical_form.specs.Bytes.{Each}
 use Rattle.mlir_printer.specs.Printable.{IsDefined, IsPrintableOp, IsPrintablePort, EndsWithOutput, IsPrintableModule, Printable}
 use Rattle.mlir_printer.proofs.names.NameTables.{Among, Finds, finds_left, finds_right, AreNew, new_left, new_right, found, all_new}
 use Rattle.mlir_printer.proofs.names.NamedDefinitions.{name_of, map_append, firsts_add, firsts_all, ports_names, body_names}

@@ -17,7 +17,8 @@ use Rattle.mlir_operations.specs.Spelling.{StandsInBody}
 use Rattle.mlir_printer.specs.Elements.{ValueText, no_value}
 use Rattle.mlir_printer.specs.Naming.{name_hints, port_name_hint, port_name_hints, input_count, body_name_hints, names_given, name_count, first_name, firsts, name_value_text, is_pack, value_at, value_in, port_value, value_named, listed_names, results_named}
 use Rattle.mlir_printer.specs.Texts.{parts_in, operation_shown, operations_shown, ports_shown, module_shown, modules_shown}
-use Rattle.mlir_printer.specs.Spellable.{Each, IsValueName, IsOperand}
+use Rattle.mlir_printer.specs.Spellable.{IsValueName, IsOperand}
+use Rattle.canonical_form.specs.Bytes.{Each}
 use Rattle.mlir_printer.specs.SpellableModules.{AreResults, MayBeValue, IsSpellableOperation, AreSpellable, IsSpellablePort, IsSpellable}
 use Rattle.op_checks.specs.CountChecks.{operands_written, type_count}
 use Rattle.mlir_printer.specs.Printable.{IsDefined, IsPrintableOp, IsPrintablePort, EndsWithOutput, IsPrintableModule, Printable}

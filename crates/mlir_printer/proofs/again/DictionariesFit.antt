@@ -16,10 +16,13 @@ use Rattle.hw_model.specs.Design.{Entry, same_name}
 use Rattle.hw_model.specs.Equality.{name_from, name_self}
 use Rattle.mlir_syntax.specs.AttributeText.{is_among}
 use Rattle.mlir_syntax.specs.Spelling.{AreOnce}
-use Rattle.mlir_reader.specs.Resolving.{put_entry, has_name}
+use Rattle.mlir_reader.specs.Resolving.{put_entry}
+use Rattle.canonical_form.specs.Dictionaries.{has_name}
 use Rattle.mlir_printer.specs.Texts.{name_entry, named_entries, entries_shown}
-use Rattle.mlir_printer.specs.Spellable.{Each, AreBytes, IsEntry, IsDictionary}
-use Rattle.mlir_printer.specs.Printable.{AreInOrder, IsKeptDictionary}
+use Rattle.mlir_printer.specs.Spellable.{IsDictionary}
+use Rattle.canonical_form.specs.Bytes.{Each, AreBytes}
+use Rattle.canonical_form.specs.Limits.{IsEntry}
+use Rattle.canonical_form.specs.Dictionaries.{AreInOrder, IsKeptDictionary}
 use Rattle.mlir_printer.proofs.again.EntriesKept.{is_less, in_order_rest, none_given}
 
 -- ---- keys that rise stand once

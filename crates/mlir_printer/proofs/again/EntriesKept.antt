@@ -13,10 +13,11 @@ use Rattle.hw_model.specs.Design.{Entry, same_name}
 use Rattle.hw_model.specs.Equality.{name_from}
 use Rattle.mlir_lexer.specs.Classes.{is_digit}
 use Rattle.mlir_lexer.specs.Runs.{run}
-use Rattle.mlir_reader.specs.Resolving.{put_entry, sort_entries, is_empty_hint, without, has_name, is_name_entry, is_dropped, kept_entries, text_in, given_name, unless_digits, name_or}
+use Rattle.mlir_reader.specs.Resolving.{put_entry, sort_entries, without, kept_entries, text_in, given_name, unless_digits, name_or}
+use Rattle.canonical_form.specs.Dictionaries.{is_empty_hint, has_name, is_name_entry, is_dropped}
 use Rattle.mlir_printer.specs.Texts.{name_entry, named_entries, entries_shown}
-use Rattle.mlir_printer.specs.Spellable.{Each}
-use Rattle.mlir_printer.specs.Printable.{AreInOrder}
+use Rattle.canonical_form.specs.Bytes.{Each}
+use Rattle.canonical_form.specs.Dictionaries.{AreInOrder}
 use Rattle.mlir_printer.proofs.names.GivenNames.{IsDigits, IsWord, digits_alone, word_not_digits}
 
 -- ---- entries in order stay so

@@ -25,10 +25,12 @@ use Rattle.mlir_printer.specs.Numbers.{is_negative, shown_number, shown_integer,
 use Rattle.mlir_printer.specs.Elements.{ValueText, Pending}
 use Rattle.mlir_printer.specs.Operations.{format_shown, output_format, is_truth_view}
 use Rattle.mlir_printer.specs.Texts.{inherent_shown}
-use Rattle.mlir_printer.specs.Spellable.{Each, AreBytes, IsInteger, IsAnyType, IsLiteral, AreLiterals, IsOperand}
+use Rattle.mlir_printer.specs.Spellable.{IsOperand}
+use Rattle.canonical_form.specs.Bytes.{Each, AreBytes}
+use Rattle.canonical_form.specs.Limits.{IsInteger, IsAnyType, IsLiteral, AreLiterals}
 use Rattle.mlir_printer.specs.SpellableModules.{IsViewAs}
 use Rattle.op_checks.specs.CountChecks.{operands_written, type_count}
-use Rattle.mlir_printer.specs.Printable.{IsWritten, IsWrittenInstance}
+use Rattle.canonical_form.specs.Kinds.{IsWritten, IsWrittenInstance}
 use Rattle.mlir_printer.proofs.lexed.LexedLiterals.{one_bit}
 use Rattle.mlir_printer.proofs.again.KindsKept.{negative_parts}
 use Rattle.mlir_printer.proofs.again.ViewForms.{pending, says_variadic, says_binary, says_comparison, says_unary, says_extraction, says_joined, says_conversion, says_choice, says_truth, says_integer, says_aggregate, says_element, says_slice, says_element_change, says_struct, says_field, says_field_change, says_instance, says_nothing, says_register, says_reset_register, says_enabled, says_reset_enabled, says_clocked, says_reset_clocked, says_async_reset_clocked}

@@ -17,11 +17,13 @@ use Rattle.mlir_operations.specs.OperandText.ResultNames.{no_names, names, pack}
 use Rattle.mlir_operations.specs.OperationText.{OperationText, is_last}
 use Rattle.mlir_reader.specs.Resolving as read
 use Rattle.mlir_reader.specs.Resolving.Defined.{are_results}
-use Rattle.mlir_reader.specs.Resolving.{Meanings, Definition, resolve_operand, marks, marked_results, names_from, names_defined, own_types, own_count, operation_at, operation_definitions, has_name, name_or, given_name, unless_digits, own_name_of}
+use Rattle.mlir_reader.specs.Resolving.{Meanings, Definition, resolve_operand, marks, marked_results, names_from, names_defined, own_types, own_count, operation_at, operation_definitions, name_or, given_name, unless_digits, own_name_of}
+use Rattle.canonical_form.specs.Dictionaries.{has_name}
 use Rattle.mlir_printer.specs.Elements.{ValueText}
 use Rattle.mlir_printer.specs.Naming.{name_hints, name_hints_of, own_name_hint, pack_name_hints, name_count, first_name, firsts, is_pack, listed_names, results_named}
 use Rattle.mlir_printer.specs.Texts.{parts_in, operation_shown, entries_shown}
-use Rattle.mlir_printer.specs.Spellable.{Each, said_operand, said_operation}
+use Rattle.mlir_printer.specs.Spellable.{said_operand, said_operation}
+use Rattle.canonical_form.specs.Bytes.{Each}
 use Rattle.op_checks.specs.CountChecks.{type_count}
 use Rattle.mlir_printer.specs.Printable.{IsDefined, settled_result, IsPrintableOp}
 use Rattle.mlir_printer.proofs.steps.Listing.{instance_length}

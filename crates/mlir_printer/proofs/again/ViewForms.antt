@@ -12,7 +12,9 @@ use Rattle.mlir_operations.specs.ElementText.InherentAttributes.{nothing, with_r
 use Rattle.assembly_format.specs.declared.elements.Format.TheVariants as format
 use Rattle.mlir_printer.specs.Numbers.{is_truth}
 use Rattle.mlir_printer.specs.Elements.{ValueText, Pending}
-use Rattle.mlir_printer.specs.Spellable.{Each, AreBytes, IsAnyType, IsInteger, AreLiterals, IsOperand, IsInstance}
+use Rattle.mlir_printer.specs.Spellable.{IsOperand, IsInstance}
+use Rattle.canonical_form.specs.Bytes.{Each, AreBytes}
+use Rattle.canonical_form.specs.Limits.{IsAnyType, IsInteger, AreLiterals}
 use Rattle.mlir_printer.specs.SpellableModules.{IsViewAs}
 
 -- operands, types and what is said besides

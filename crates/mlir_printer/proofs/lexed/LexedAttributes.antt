@@ -16,7 +16,9 @@ use Rattle.mlir_printer.specs.Strings.{name_bytes}
 use Rattle.mlir_printer.specs.Numbers.{truth_bytes}
 use Rattle.mlir_printer.specs.Commas.{comma_bytes, items_from, commas}
 use Rattle.mlir_printer.specs.Attributes.{typed_bytes, attribute_bytes, attributes_from, value_bytes, entry_bytes}
-use Rattle.mlir_printer.specs.Spellable.{Each, AreBytes, IsInteger, IsType, IsAttribute, AreAttributes, IsValue, IsEntry, IsDictionary}
+use Rattle.mlir_printer.specs.Spellable.{IsDictionary}
+use Rattle.canonical_form.specs.Bytes.{Each, AreBytes}
+use Rattle.canonical_form.specs.Limits.{IsInteger, IsType, IsAttribute, AreAttributes, IsValue, IsEntry}
 use Rattle.mlir_printer.proofs.lexed.LexedTexts.{Whole, Lexed, lexed, lexed_as, lexed_by, whole_as, then, then_on, left_bracket, right_bracket, left_brace, right_brace}
 use Rattle.mlir_printer.proofs.lexed.LexedStrings.{string_lexed}
 use Rattle.mlir_printer.proofs.lexed.LexedNames.{bare_lexed, name_lexed, symbol_lexed}

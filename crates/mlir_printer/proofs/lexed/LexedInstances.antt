@@ -15,7 +15,9 @@ use Rattle.mlir_operations.specs.Spelling.{InputPhrase, OutputPhrase, InnerSymbo
 use Rattle.mlir_printer.specs.Strings.{symbol_bytes, string_bytes}
 use Rattle.mlir_printer.specs.Commas.{commas}
 use Rattle.mlir_printer.specs.Elements.{ValueText, InputText, input_bytes, output_bytes, inputs_joined, outputs_joined, inner_bytes, instance_head, connections_bytes, instance_bytes}
-use Rattle.mlir_printer.specs.Spellable.{Each, AreBytes, IsAnyType, IsOperand, MayBeBytes, IsInstance, said_operand}
+use Rattle.mlir_printer.specs.Spellable.{IsOperand, IsInstance, said_operand}
+use Rattle.canonical_form.specs.Bytes.{Each, AreBytes, MayBeBytes}
+use Rattle.canonical_form.specs.Limits.{IsAnyType}
 use Rattle.mlir_printer.proofs.lexed.LexedTexts.{Stops, Whole, Lexed, lexed, lexed_as, lexed_by, then, then_on, then_whole, nothing, blank_on, blank_behind, left_parenthesis, right_parenthesis}
 use Rattle.mlir_printer.proofs.lexed.LexedStrings.{string_lexed}
 use Rattle.mlir_printer.proofs.lexed.LexedNames.{bare_lexed, name_lexed, symbol_lexed}

@@ -14,7 +14,8 @@ use Rattle.mlir_printer.specs.Numbers.{truth_bytes, is_truth, is_one_bit, is_sho
 use Rattle.mlir_printer.specs.Commas.{comma_bytes, items_from}
 use Rattle.mlir_printer.specs.Attributes.{typed_bytes}
 use Rattle.mlir_printer.specs.Literals.{leaf_bytes, literal_bytes, literals_from}
-use Rattle.mlir_printer.specs.Spellable.{Each, IsInteger, IsType, IsLiteral, AreLiterals}
+use Rattle.canonical_form.specs.Bytes.{Each}
+use Rattle.canonical_form.specs.Limits.{IsInteger, IsType, IsLiteral, AreLiterals}
 use Rattle.mlir_printer.proofs.lexed.LexedTexts.{Whole, Lexed, lexed, lexed_as, whole_as, whole_by, left_bracket, right_bracket}
 use Rattle.mlir_printer.proofs.lexed.LexedCommas.{commas_lexed, between}
 use Rattle.mlir_printer.proofs.lexed.LexedAttributes.{truth_lexed, typed_lexed}

@@ -11,14 +11,16 @@ use Rattle.hw_model.specs.Design.{Entry, same_name}
 use Rattle.mlir_lexer.specs.Tokens.{Lexeme, tokens_behind}
 use Rattle.mlir_lexer.specs.declared.token.TokenKind.TheVariants as kind
 use Rattle.mlir_syntax.specs.TypeText.{most_open}
-use Rattle.mlir_operations.specs.ModuleText.{module_keys}
+use Rattle.canonical_form.specs.Dictionaries.{module_keys}
 use Rattle.mlir_syntax.specs.Spelling.{One, Mark, Holding, Either, Where, Nothing, Commas, Between}
 use Rattle.mlir_operations.specs.Spelling.{PortPhrase, PortsPhrase, AttributesPhrase, PrivatePhrase, ModulePhrase, ModulesPhrase, FileWord, FilePhrase, token_of}
 use Rattle.mlir_printer.specs.Strings.{symbol_bytes, string_bytes}
 use Rattle.mlir_printer.specs.Commas.{commas}
 use Rattle.mlir_printer.specs.Attributes.{dictionary_bytes}
 use Rattle.mlir_printer.specs.Modules.{PortText, ModuleText, port_name_bytes, input_port_bytes, output_port_bytes, port_bytes_by, port_bytes, private_bytes, header_bytes, module_bytes, modules_bytes, file_bytes}
-use Rattle.mlir_printer.specs.Spellable.{Each, AreBytes, IsAnyType, IsDictionary, inherent_view, said_port}
+use Rattle.mlir_printer.specs.Spellable.{IsDictionary, inherent_view, said_port}
+use Rattle.canonical_form.specs.Bytes.{Each, AreBytes}
+use Rattle.canonical_form.specs.Limits.{IsAnyType}
 use Rattle.mlir_printer.specs.SpellableModules.{MayBeValue, IsSpellablePort, IsSpellable, AreSpelled}
 use Rattle.mlir_printer.proofs.lexed.LexedTexts.{Stops, Whole, Lexed, lexed, lexed_as, whole_as, whole_by, then, then_on, then_whole, closed, nothing, blank_on, blank_on_whole, blank_behind, line_behind, left_brace, right_brace, left_parenthesis, right_parenthesis}
 use Rattle.mlir_printer.proofs.lexed.LexedStrings.{string_lexed}

@@ -14,7 +14,8 @@ use Rattle.mlir_syntax.specs.Spelling.{One, Word, Holding, NamePhrase, SymbolPhr
 use Rattle.mlir_operations.specs.Spelling.{ValueName}
 use Rattle.mlir_printer.specs.Strings.{is_bare, name_bytes, symbol_bytes, string_bytes}
 use Rattle.mlir_printer.specs.Elements.{value_name_bytes}
-use Rattle.mlir_printer.specs.Spellable.{AreBytes, IsValueName}
+use Rattle.mlir_printer.specs.Spellable.{IsValueName}
+use Rattle.canonical_form.specs.Bytes.{AreBytes}
 use Rattle.mlir_printer.proofs.lexed.LexedTexts.{Stops, Lexed, one_token, lexed, lexed_as}
 use Rattle.mlir_printer.proofs.lexed.LexedStrings.{unlike_byte, string_lexed, symbol_string_lexed}
 

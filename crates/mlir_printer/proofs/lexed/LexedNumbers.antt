@@ -16,7 +16,7 @@ use Rattle.mlir_syntax.specs.Numerals.{number_in, number_of, count_limit, number
 use Rattle.mlir_syntax.specs.Spelling.{One, Mark, Then, AreDigits, WidthPhrase, NumberPhrase, IntegerPhrase}
 use Rattle.mlir_printer.specs.Strings.{is_bare}
 use Rattle.mlir_printer.specs.Numbers.{count_bytes, further_bytes, integer_bytes}
-use Rattle.mlir_printer.specs.Spellable.{IsInteger}
+use Rattle.canonical_form.specs.Limits.{IsInteger}
 use Rattle.mlir_printer.proofs.lexed.LexedTexts.{lexed_by, Stops, IsLexed, Lexed, one_token, joined, lexed_as}
 use Rattle.mlir_printer.proofs.lexed.LexedStrings.{unlike_byte}
 use Rattle.mlir_printer.proofs.lexed.LexedNames.{bare_lexed, signed_lexed, run_wider, run_whole, run_stops, digit_stops, none_zero}

@@ -16,7 +16,8 @@ use Rattle.assembly_format.specs.declared.elements.Keyword.TheVariants.{From, Cl
 use Rattle.mlir_printer.specs.Strings.{is_bare}
 use Rattle.mlir_printer.specs.Commas.{commas}
 use Rattle.mlir_printer.specs.Elements.{ValueText, value_name_bytes, pack_number_bytes, operand_bytes, mark_bytes, word_bytes, predicate_bytes}
-use Rattle.mlir_printer.specs.Spellable.{Each, IsValueName, IsNumber, IsOperand, IsMark, said_number, said_operand}
+use Rattle.mlir_printer.specs.Spellable.{IsValueName, IsNumber, IsOperand, IsMark, said_number, said_operand}
+use Rattle.canonical_form.specs.Bytes.{Each}
 use Rattle.mlir_printer.proofs.lexed.LexedTexts.{Stops, Whole, Lexed, lexed, lexed_as, then, nothing, blank_behind, blank_on_whole, left_parenthesis, right_parenthesis, left_brace, right_brace, left_bracket, right_bracket, less_mark, greater_mark}
 use Rattle.mlir_printer.proofs.lexed.LexedNames.{bare_lexed, value_name_lexed}
 use Rattle.mlir_printer.proofs.lexed.LexedNumbers.{pack_number_lexed}

@@ -15,7 +15,7 @@ use Rattle.mlir_operations.specs.OperandText.{ResultNames}
 use Rattle.mlir_operations.specs.OperandText.ResultNames.{no_names, names, pack}
 use Rattle.assembly_format.specs.Formats.{format_of, front_elements, type_elements}
 use Rattle.mlir_operations.specs.ElementText.{Gathered, gathered_nothing}
-use Rattle.mlir_operations.specs.OperationText.{string_keys, takes_bin}
+use Rattle.canonical_form.specs.Dictionaries.{string_keys, takes_bin}
 use Rattle.mlir_syntax.specs.Spelling.{One, MaybeDictionary}
 use Rattle.mlir_operations.specs.Spelling.{Stands, ResultsPhrase, ElementsPhrase, IsOneOf, FormPhrase, BinPhrase, MayHaveFormat, OperationPhrase, OperationsPhrase, ValueName}
 use Rattle.assembly_format.specs.declared.elements.FormatElement.{FormatElement}

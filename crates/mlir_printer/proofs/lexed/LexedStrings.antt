@@ -14,7 +14,7 @@ use Rattle.mlir_lexer.specs.declared.contents.Pending.TheVariants.{Nothing as No
 use Rattle.mlir_lexer.proofs.StringEnds.{string_rest-closed}
 use Rattle.mlir_syntax.specs.Spelling.{Holding}
 use Rattle.mlir_printer.specs.Strings.{is_plain, hex_digit, escaped_byte, escaped_bytes, string_bytes}
-use Rattle.mlir_printer.specs.Spellable.{AreBytes}
+use Rattle.canonical_form.specs.Bytes.{AreBytes}
 use Rattle.mlir_printer.proofs.lexed.LexedTexts.{Whole, one_token}
 
 -- ---- tests

@@ -13,7 +13,8 @@ use Rattle.mlir_printer.specs.Strings.{name_bytes}
 use Rattle.mlir_printer.specs.Numbers.{count_bytes}
 use Rattle.mlir_printer.specs.Commas.{comma_bytes, items_from}
 use Rattle.mlir_printer.specs.Types.{type_bytes, fields_from}
-use Rattle.mlir_printer.specs.Spellable.{Each, AreBytes, IsType, AreFields}
+use Rattle.canonical_form.specs.Bytes.{Each, AreBytes}
+use Rattle.canonical_form.specs.Limits.{IsType, AreFields}
 use Rattle.mlir_printer.proofs.lexed.LexedTexts.{Lexed, lexed, lexed_as, lexed_by, then, then_on, joined, less_mark, greater_mark}
 use Rattle.mlir_printer.proofs.lexed.LexedCommas.{colon_blank, commas_lexed, between}
 use Rattle.mlir_printer.proofs.lexed.LexedNames.{bare_lexed, name_lexed, type_word_lexed}

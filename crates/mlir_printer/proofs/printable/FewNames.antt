@@ -18,7 +18,8 @@ use Rattle.mlir_operations.specs.OperandText.ResultNames.{no_names, names, pack}
 use Rattle.mlir_operations.specs.ElementText.{InherentAttributes, Gathered, gathered_nothing}
 use Rattle.mlir_operations.specs.ElementText.InherentAttributes.{with_async_reset, child}
 use Rattle.assembly_format.specs.Formats.{front_elements, type_elements}
-use Rattle.mlir_operations.specs.OperationText.{OperationText, string_keys}
+use Rattle.mlir_operations.specs.OperationText.{OperationText}
+use Rattle.canonical_form.specs.Dictionaries.{string_keys}
 use Rattle.mlir_operations.specs.ModuleText.{PortText}
 use Rattle.mlir_reader.specs.Resolving.{Meanings, inherent_instance, firreg_kind, inherent_kind, kind_named, operation_at}
 use Rattle.mlir_syntax.specs.Spelling.{Phrase, Commas}

@@ -28,7 +28,8 @@ use Rattle.mlir_syntax.specs.AttributeText.{is_among, in_order}
 use Rattle.mlir_syntax.specs.LiteralText.{literals_in_order, truth_leaf}
 use Rattle.mlir_syntax.specs.Spelling.{Phrase, Then, Commas, Holding, NamePhrase, SymbolPhrase, IntegerPhrase, ElementPhrase, FieldPhrase, FieldsPhrase, TypeWith, TypePhrase, IntegerType, AttributePhrase, ValuePhrase, EntryPhrase, LiteralWith, PartsPhrase, LiteralPhrase, AggregatePhrase}
 use Rattle.mlir_operations.specs.Spelling.{token_of}
-use Rattle.mlir_printer.specs.Spellable.{Each, AreBytes, IsInteger, IsType, AreFields, IsLiteral, AreLiterals, IsAttribute, AreAttributes, IsValue, IsEntry}
+use Rattle.canonical_form.specs.Bytes.{Each, AreBytes}
+use Rattle.canonical_form.specs.Limits.{IsInteger, IsType, AreFields, IsLiteral, AreLiterals, IsAttribute, AreAttributes, IsValue, IsEntry}
 
 -- ---- the tokens of bytes
 

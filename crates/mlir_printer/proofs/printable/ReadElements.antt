@@ -14,8 +14,9 @@ use Rattle.mlir_syntax.specs.Spelling.{Phrase, TypePhrase}
 use Rattle.mlir_operations.specs.Spelling.{InputPhrase, OutputPhrase, InnerSymbol, InstancePhrase, ResetPhrase, FormatElementPhrase, ElementsPhrase}
 use Rattle.assembly_format.specs.declared.elements.FormatElement.{FormatElement}
 use Rattle.assembly_format.specs.declared.elements.FormatElement.TheVariants as element
-use Rattle.mlir_printer.specs.Spellable.{Each, AreBytes, MayBeBytes, IsInteger, IsAnyType, AreLiterals}
-use Rattle.mlir_printer.specs.Printable.{IsWrittenInstance}
+use Rattle.canonical_form.specs.Bytes.{Each, AreBytes, MayBeBytes}
+use Rattle.canonical_form.specs.Limits.{IsInteger, IsAnyType, AreLiterals}
+use Rattle.canonical_form.specs.Kinds.{IsWrittenInstance}
 use Rattle.mlir_printer.proofs.printable.ReadBytes.{AreTexts, said, said_first, said_then, held_bytes, name_bytes_read, symbol_bytes_read, each_read, integer_read, type_read, field_read, aggregate_read}
 
 -- what is said besides operands and types is within its limits

@@ -12,7 +12,8 @@ use Rattle.mlir_lexer.specs.declared.token.TokenKind.TheVariants as kind
 use Rattle.mlir_syntax.specs.Numerals.{count_limit}
 use Rattle.mlir_syntax.specs.TypeText.{most_open}
 use Rattle.mlir_operations.specs.OperationText.{OperationText}
-use Rattle.mlir_operations.specs.ModuleText.{PortText, ModuleText, module_keys}
+use Rattle.mlir_operations.specs.ModuleText.{PortText, ModuleText}
+use Rattle.canonical_form.specs.Dictionaries.{module_keys}
 use Rattle.mlir_reader.specs.Resolving.{Meanings, with_definitions, operation_definitions, operation_at, operations_from, port_definition, ports_from, no_meaning, port_meanings, meanings, ends_with_output, has_outputs, left_out_output, with_output, module_of, design_of}
 use Rattle.mlir_syntax.specs.Spelling.{Phrase, Either, Holding, Where, Nothing, Commas, Between}
 use Rattle.mlir_operations.specs.Spelling.{Stands, IsPlaceOf, OperationsPhrase, PortPhrase, OlderInputPhrase, OlderOutputPhrase, OlderOutputsPhrase, PortsPhrase, AttributesPhrase, ModulePhrase, ModulesPhrase, FilePhrase}
@@ -20,8 +21,9 @@ use Rattle.mlir_reader.specs.Spelling.{Spells}
 use Rattle.assembly_format.specs.declared.elements.FormatElement.TheVariants as element
 use Rattle.mlir_printer.specs.Naming.{name_hints, name_hints_of, body_name_hints, port_name_hints}
 use Rattle.mlir_printer.specs.Texts.{parts_in}
-use Rattle.mlir_printer.specs.Spellable.{Each, AreBytes, IsAnyType}
-use Rattle.mlir_printer.specs.Printable.{IsKeptDictionary}
+use Rattle.canonical_form.specs.Bytes.{Each, AreBytes}
+use Rattle.canonical_form.specs.Limits.{IsAnyType}
+use Rattle.canonical_form.specs.Dictionaries.{IsKeptDictionary}
 use Rattle.mlir_printer.proofs.printable.ReadBytes.{AreTexts, texts_of, count_of, said, said_first, said_then, said_count, held_bytes, name_bytes_read, symbol_bytes_read, each_read, type_read}
 use Rattle.mlir_printer.proofs.printable.ReadElements.{each_append}
 use Rattle.mlir_printer.proofs.printable.ReadOperations.{IsReadDictionary, kept_read, dictionary_read, IsReadOp, op_read}

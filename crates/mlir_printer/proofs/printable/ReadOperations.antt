@@ -27,13 +27,18 @@ use Rattle.mlir_operations.specs.ElementText.{InherentAttributes, Gathered, gath
 use Rattle.mlir_operations.specs.ElementText.InherentAttributes.{with_async_reset, position, number, literals, field_name, child}
 use Rattle.assembly_format.specs.Formats.{front_elements, type_elements}
 use Rattle.assembly_format.specs.declared.elements.Format.{Format}
-use Rattle.mlir_operations.specs.OperationText.{OperationText, takes_bin, string_keys, given_entries}
+use Rattle.mlir_operations.specs.OperationText.{OperationText, given_entries}
+use Rattle.canonical_form.specs.Dictionaries.{takes_bin, string_keys}
 use Rattle.mlir_reader.specs.Resolving as read
-use Rattle.mlir_reader.specs.Resolving.{Meanings, resolve_operand, has_negative, kept_number, kept_integer, kept_by_first, kept_literal, kept_literals, inherent_position, inherent_number, inherent_literals, inherent_field, inherent_instance, firreg_kind, inherent_kind, kind_named, sort_entries, without, is_dropped, has_name, is_name_entry, kept_entries, text_in, given_name, unless_digits, name_or, own_name_of, marks, marked_results, operation_definitions, operation_at}
+use Rattle.mlir_reader.specs.Resolving.{Meanings, resolve_operand, inherent_position, inherent_number, inherent_literals, inherent_field, inherent_instance, firreg_kind, inherent_kind, kind_named, sort_entries, without, kept_entries, text_in, given_name, unless_digits, name_or, own_name_of, marks, marked_results, operation_definitions, operation_at}
+use Rattle.canonical_form.specs.Constants.{has_negative, kept_number, kept_integer, kept_by_first, kept_literal, kept_literals}
+use Rattle.canonical_form.specs.Dictionaries.{is_dropped, has_name, is_name_entry}
 use Rattle.mlir_operations.specs.Spelling.{Stands, IsOneOf, FormPhrase, BinPhrase, ResultsPhrase, StandsInBody, OperationPhrase}
 use Rattle.mlir_syntax.specs.Spelling.{AreOnce, DictionaryPhrase, EntryPhrase, MaybeDictionary}
-use Rattle.mlir_printer.specs.Spellable.{Each, AreBytes, IsInteger, IsAnyType, IsLiteral, AreLiterals, IsValue, IsEntry}
-use Rattle.mlir_printer.specs.Printable.{AreInOrder, IsKeptDictionary, KeepsConstants, IsWritten, IsWrittenInstance}
+use Rattle.canonical_form.specs.Bytes.{Each, AreBytes}
+use Rattle.canonical_form.specs.Limits.{IsInteger, IsAnyType, IsLiteral, AreLiterals, IsValue, IsEntry}
+use Rattle.canonical_form.specs.Dictionaries.{AreInOrder, IsKeptDictionary}
+use Rattle.canonical_form.specs.Kinds.{KeepsConstants, IsWritten, IsWrittenInstance}
 use Rattle.mlir_printer.proofs.again.DictionariesFit.{put_in_order, each_put}
 use Rattle.mlir_printer.proofs.printable.ReadBytes.{AreTexts, said, said_first, said_then, held_bytes, each_read, entry_read}
 use Rattle.mlir_printer.proofs.printable.ReadElements.{each_weaker, IsReadInherentAttributes, IsReadPart, elements_read}

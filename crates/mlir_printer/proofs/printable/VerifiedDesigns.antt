@@ -18,7 +18,8 @@ use Rattle.mlir_syntax.specs.Stream.{stream_of, refusal}
 use Rattle.mlir_operations.specs.ModuleText.{file_text}
 use Rattle.mlir_reader.specs.Reading.{text_limit, design_read, read}
 use Rattle.mlir_syntax.specs.Numerals.{count_limit}
-use Rattle.mlir_reader.specs.Resolving.{marked_results, type_or_none}
+use Rattle.mlir_reader.specs.Resolving.{marked_results}
+use Rattle.canonical_form.specs.ResultTypes.{type_or_none}
 use Rattle.mlir_reader.specs.Spelling.{Spells}
 use Rattle.op_checks.specs.CountChecks.{operands_written, operand_count}
 use Rattle.op_verifier.specs.OpChecks.{has_again, has_undefined, op_cause}
@@ -26,7 +27,7 @@ use Rattle.op_verifier.specs.Headers.{has_port, has_output, header_cause}
 use Rattle.op_verifier.specs.Faults.{op_refusal, header_refusal, is_empty, body_fault, module_fault, faults_from, first_fault}
 use Rattle.op_verifier.proofs.NoCauseAlone.{no_cause_alone, result_number}
 use Rattle.op_verifier.proofs.Unrefused.{or_none, map_none, no_op_cause, no_header_cause}
-use Rattle.mlir_printer.specs.Spellable.{Each, AreBytes}
+use Rattle.canonical_form.specs.Bytes.{Each, AreBytes}
 use Rattle.mlir_printer.specs.Printable.{IsDefined, settled_result, IsPrintableOp, IsPrintablePort, EndsWithOutput, IsPrintableModule, Printable}
 use Rattle.mlir_printer.proofs.again.OperationsAgain.{types_counted}
 use Rattle.mlir_printer.proofs.printable.ReadOperations.{IsReadOp}

@@ -1,5 +1,5 @@
 use Rattle.std.proofs.Common.{take}
-use Rattle.mlir_printer.specs.Spellable.{AreBytes}
+use Rattle.canonical_form.specs.Bytes.{AreBytes}
 use Rattle.circt_top.proofs.outcome.are_bytes.Given as goal
 
 abbrev pub invariant-loop-byte : goal.invariant-loop-byte
