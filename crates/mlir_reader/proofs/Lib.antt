@@ -21,3 +21,4 @@ pub mod ResultCounts
 mod LocalModules
 mod LocalOperations
 mod SoundModules
+pub mod canonical

@@ -3,6 +3,8 @@
 ghost use Rattle.std.specs.Prelude.{◌≡◌, ℕ, ◌≤◌, List, length, Ok, Err};
 ghost use Rattle.diag.specs.declared.refusal.Refusal.{Refusal};
 ghost use Rattle.hw_model.specs.Design.{Design};
+ghost use Rattle.canonical_form.specs.Bytes.{AreBytes};
+ghost use Rattle.canonical_form.specs.Canonical.{IsCanonical};
 ghost use Rattle.mlir_reader.specs.Reading.{text_limit, read};
 ghost use Rattle.mlir_reader.specs.Locality.{IsOfItsSymbol, IsUnspelledFront};
 ghost use Rattle.mlir_reader.specs.Spelling.{Spells};
@@ -10,6 +12,11 @@ ghost use Rattle.mlir_reader.specs.Spelling.{Spells};
 /// Does nothing. Its clause says that what is read of a text is spelled by it.
 pub fn what_is_read_is_spelled()
     ensures { (source : List ℕ) (d : Design) → read source ≡ Ok d → Spells source d }
+{}
+
+/// Does nothing. Its clause says that a design that is read of bytes is in canonical form.
+pub fn what_is_read_is_canonical()
+    ensures { (source : List ℕ) (d : Design) → AreBytes source → read source ≡ Ok d → IsCanonical d }
 {}
 
 /// Does nothing. Its clause says that a refusal of a text that is not too long is of one of its symbols, whatever follows it:

@@ -1,15 +1,17 @@
-//! Designs of which nothing is refused.
+//! Designs of which nothing is refused, in canonical form.
 ghost use Rattle.std.proofs.Props.{props};
 ghost use Rattle.ir_store.specs.Designs.{design_of};
+ghost use Rattle.canonical_form.specs.Canonical.{IsCanonical};
 ghost use Rattle.op_verifier.specs.Verdict.{IsAccepted};
 
 use ir_store::design::Design;
 
-/// A design of which nothing is refused.
+/// A design of which nothing is refused, in canonical form.
 #[derive(Drop)]
 pub struct Verified {
     pub(crate) design: Design,
     ghost accepted: { IsAccepted (design_of design) } by { Prim.hlevel props },
+    ghost canonical: { ∥ IsCanonical (design_of design) ∥₁ },
 }
 
 impl Verified {

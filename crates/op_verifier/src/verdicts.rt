@@ -2,6 +2,7 @@
 ghost use Rattle.std.specs.Prelude.{◌≡◌, ◌<◌, length, Contains, IfOk, IfErr};
 ghost use Rattle.ir_store.specs.Designs.{design_of, modules_of};
 ghost use Rattle.design_cycles.specs.Places.{ids_at};
+ghost use Rattle.canonical_form.specs.Canonical.{IsCanonical};
 ghost use Rattle.op_verifier.specs.Verdict.{IsVerdict};
 ghost use Rattle.op_verifier.specs.Answered.{modules_verified, Explains, IsRefusedModule, IsRefusedOp};
 
@@ -15,8 +16,10 @@ use ir_store::design::Design;
 use opcode::listed::Listed;
 use std::alloc::{AllocError, Global};
 
-/// Takes a design of which nothing is refused. It is dropped where something is, and where memory is wanting.
+/// Takes a design in canonical form of which nothing is refused. It is dropped where something is, and where memory is wanting.
+/// What is read is in canonical form; of a design that is built otherwise its maker shows it.
 pub fn verify(alloc: Global, design: Design) -> Result<Verified, VerifyFail>
+    requires { IsCanonical (design_of design) }
     ensures ok { IfOk result (λ v. modules_verified v ≡ modules_of design) }
     ensures err { IfErr result (Explains (design_of design)) }
 {

@@ -18,19 +18,13 @@ use Rattle.canonical_form.specs.Dictionaries.{is_empty_hint, has_name, is_name_e
 use Rattle.mlir_printer.specs.Texts.{name_entry, named_entries, entries_shown}
 use Rattle.canonical_form.specs.Bytes.{Each}
 use Rattle.canonical_form.specs.Dictionaries.{AreInOrder}
+use Rattle.mlir_reader.proofs.canonical.EntryOrder.{is_less, in_order_rest}
 use Rattle.mlir_printer.proofs.names.GivenNames.{IsDigits, IsWord, digits_alone, word_not_digits}
 
 -- ---- entries in order stay so
 
-abbrev pub is_less : Entry → Entry → Bool
-is_less a b = is_lt (slice_cmp nat_cmp a.key b.key)
-
 pub is_order : IsStrictWeakOrder is_less
 is_order = ranks_by nat_list_cmp_total (λ (e : Entry). e.key)
-
-pub in_order_rest : (e : Entry) (es : List Entry) → AreInOrder (e ∷ es) → AreInOrder es
-in_order_rest e [] h = tt
-in_order_rest e (f ∷ es) h = h.1
 
 put_front : (e : Entry) (es : List Entry) → AreInOrder (e ∷ es) → put_entry e es ≡ e ∷ es
 put_front e [] h = refl

@@ -1,4 +1,4 @@
--- What is read of operations and modules can be printed again, but for what a verifier refuses.
+-- Operations that are read are in canonical form.
 use Rattle.std.proofs.Common.{◌≡◌, ℕ, zero, suc, ◌-◌, ◌^◌, ◌<◌, ◌≤◌, Bool, true, false, cond, ◌&&◌, List, [], ◌∷◌, ◌++◌, length, refl, ap, ◌∙◌, sym, subst, arith}
 use Rattle.std.specs.Prelude.{ℤ, pos, negsuc, nat_eq, nat_lt, Option, Some, None, ⊤}
 use Rattle.std.proofs.lemmas.List.{length-map}
@@ -35,13 +35,16 @@ use Rattle.canonical_form.specs.Constants.{has_negative, kept_number, kept_integ
 use Rattle.canonical_form.specs.Dictionaries.{is_dropped, has_name, is_name_entry}
 use Rattle.mlir_operations.specs.Spelling.{Stands, IsOneOf, FormPhrase, BinPhrase, ResultsPhrase, StandsInBody, OperationPhrase}
 use Rattle.mlir_syntax.specs.Spelling.{AreOnce, DictionaryPhrase, EntryPhrase, MaybeDictionary}
+use Rattle.canonical_form.specs.Canonical.{IsCanonicalOp}
+use Rattle.canonical_form.specs.ResultTypes.{HaveTypes}
 use Rattle.canonical_form.specs.Bytes.{Each, AreBytes}
 use Rattle.canonical_form.specs.Limits.{IsInteger, IsAnyType, IsLiteral, AreLiterals, IsValue, IsEntry}
 use Rattle.canonical_form.specs.Dictionaries.{AreInOrder, IsKeptDictionary}
 use Rattle.canonical_form.specs.Kinds.{KeepsConstants, IsWritten, IsWrittenInstance}
-use Rattle.mlir_printer.proofs.again.DictionariesFit.{put_in_order, each_put}
-use Rattle.mlir_printer.proofs.printable.ReadBytes.{AreTexts, said, said_first, said_then, held_bytes, each_read, entry_read}
-use Rattle.mlir_printer.proofs.printable.ReadElements.{each_weaker, IsReadInherentAttributes, IsReadPart, elements_read}
+use Rattle.mlir_reader.proofs.canonical.EntryOrder.{put_in_order, each_put}
+use Rattle.mlir_reader.proofs.canonical.TokenCounts.{names_few}
+use Rattle.mlir_reader.proofs.canonical.ReadBytes.{AreTexts, said, said_first, said_then, held_bytes, each_read, entry_read}
+use Rattle.mlir_reader.proofs.canonical.ReadElements.{each_weaker, IsReadInherentAttributes, IsReadPart, elements_read}
 
 -- ---- dictionaries
 
@@ -298,17 +301,12 @@ own_bytes o r strings es h g = go (has_name o)
 
 -- ---- operations
 
--- an operation that is read
-pub record IsReadOp (o : Op) : Type 0 where
-  pub again : List Bool
-  pub results : o.results ≡ marked_results (result_types o.kind o.types (length o.operands)) again
-  pub readable : Each IsAnyType o.types
-  pub kept : KeepsConstants o.kind o.types
-  pub written : IsWritten o.kind
-  pub nameless : has_name (opcode_of o.kind) ≡ false → o.name ≡ []
-  pub name : AreBytes o.name
-  pub dictionary : IsKeptDictionary (opcode_of o.kind) (string_keys (opcode_of o.kind)) o.dictionary
-  pub bin : o.bin ≡ true → takes_bin (opcode_of o.kind) ≡ true
+-- marks say nothing of types
+have_types : (ts : List (Option HwType)) (marked : List Bool) → HaveTypes (marked_results ts marked) ts
+have_types [] [] = tt
+have_types [] (m ∷ ms) = (refl, have_types [] ms)
+have_types (t ∷ ts) [] = (refl, have_types ts [])
+have_types (t ∷ ts) (m ∷ ms) = (refl, have_types ts ms)
 
 bin_read : (o : Listed) (b : Bool) (ts : List Lexeme) → BinPhrase o b ts → b ≡ true → takes_bin o ≡ true
 bin_read o true ts h e = h.0
@@ -334,23 +332,25 @@ form_read strings format h es ts texts f =
           (maybe_read strings f.2 behind.symbols behind.texts behind.is);
     }
 
-pub op_read : (At : Stands) (o : OperationText) (ts : List Lexeme) (means earlier : Meanings) (i : ℕ) → AreTexts ts → OperationPhrase At o ts
-    → IsReadOp (operation_at means earlier i o)
-op_read At o ts means earlier i texts h =
+pub op_read : (At : Stands) (o : OperationText) (ts : List Lexeme) (means earlier : Meanings) (i : ℕ) → AreTexts ts → length ts < count_limit
+    → OperationPhrase At o ts → IsCanonicalOp (operation_at means earlier i o)
+op_read At o ts means earlier i texts small h =
     let all = said ts texts h.1 in
     let given = said_first all in
     let behind = said_then (said_then all) in
     let binary = said_first behind in
     let form = said_then behind in
     let f = form.is in
+    let given_few = given.few in
     let tail = form_read (string_keys o.name) f.0 o.gathered o.dictionary form.symbols form.texts f.2 in
     let k = kind_named o.name o.gathered.inherent o.gathered.types in
     let same : opcode_of k ≡ o.name = listed_again o.name o.gathered.inherent o.gathered.types h.0 in
+    let own = result_types k o.gathered.types (length o.gathered.operands) in
+    let marked = marks earlier (operation_definitions i o) in
     record {
-      again = marks earlier (operation_definitions i o);
-      results =
-          ap (λ n. marked_results (result_types k o.gathered.types n) (marks earlier (operation_definitions i o)))
-          (sym (length-map o.gathered.operands (resolve_operand means)));
+      types =
+          subst (λ n. HaveTypes (marked_results own marked) (result_types k o.gathered.types n)) (sym (length-map o.gathered.operands (resolve_operand means)))
+          (have_types own marked);
       readable = tail.part.types;
       kept = constants_kept o.name o.gathered.inherent o.gathered.types;
       written = kind_written o.name o.gathered.inherent o.gathered.types tail.part.inherent;
@@ -360,4 +360,5 @@ op_read At o ts means earlier i texts h =
           subst (λ (l : Listed). IsKeptDictionary l (string_keys l) (kept_entries o.name o.dictionary)) (sym same)
           (kept_read o.name (string_keys o.name) o.dictionary tail.dictionary);
       bin = λ e. ap takes_bin same ∙ bin_read o.name o.bin binary.symbols binary.is e;
+      named = names_few o.results given.symbols (omega (arith, given_few, small)) given.is;
     }

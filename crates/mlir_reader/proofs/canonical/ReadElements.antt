@@ -17,7 +17,7 @@ use Rattle.assembly_format.specs.declared.elements.FormatElement.TheVariants as 
 use Rattle.canonical_form.specs.Bytes.{Each, AreBytes, MayBeBytes}
 use Rattle.canonical_form.specs.Limits.{IsInteger, IsAnyType, AreLiterals}
 use Rattle.canonical_form.specs.Kinds.{IsWrittenInstance}
-use Rattle.mlir_printer.proofs.printable.ReadBytes.{AreTexts, said, said_first, said_then, held_bytes, name_bytes_read, symbol_bytes_read, each_read, integer_read, type_read, field_read, aggregate_read}
+use Rattle.mlir_reader.proofs.canonical.ReadBytes.{AreTexts, said, said_first, said_then, held_bytes, name_bytes_read, symbol_bytes_read, each_read, integer_read, type_read, field_read, aggregate_read}
 
 -- what is said besides operands and types is within its limits
 abbrev pub IsReadInherentAttributes : InherentAttributes → Type 0
