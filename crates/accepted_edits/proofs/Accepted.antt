@@ -46,9 +46,11 @@ use Rattle.hw_edits.specs.Follows.{Valid}
 use Rattle.hw_edits.specs.Resets.{has_mark, marks_by_symbol}
 use Rattle.accepted_edits.specs.Asked.{operand_in, operands_in, called_as, around, CallsMore}
 use Rattle.accepted_edits.specs.Keeps.{IsMoved, IsPlainFitting, KeepsModule, KeepsFound, KeepsDesign, IsPrintableBody, IsFit}
-use Rattle.accepted_edits.proofs.Causes.{cause_told, fewer_causes, none_or, when_false, both_false, length_more}
+use Rattle.accepted_edits.proofs.Causes.{cause_told, fewer_causes, none_or, when_false, length_more}
 use Rattle.accepted_edits.proofs.ResetsKept.{resets_kept}
-use Rattle.accepted_edits.proofs.Resets.{found_symbol, reset_marked, no_other_reset}
+use Rattle.accepted_edits.proofs.Resets.{reset_marked, no_other_reset}
+use Rattle.hw_edits.proofs.ResetsKept.{find_symbol}
+use Rattle.std.proofs.lemmas.Bool.{or_from}
 
 -- ---- lists
 
@@ -185,7 +187,7 @@ plain_no_cause d ports before os last o x reset =
     (none_or (instance_cause d o.types (instance_in o.kind)) _ (ap (instance_cause d o.types) x.no_instance)
     (when_false (is_output_op o && not last) cause.MissingOutput (ap (λ b. b && not last) x.no_output))))
     (when_false (has_other_reset ports os (async_reset_in o) || has_other_join d ports o.operands (callee d o)) cause.AsyncReset
-    (both_false (has_other_reset ports os (async_reset_in o)) (has_other_join d ports o.operands (callee d o)) reset
+    (or_from (has_other_reset ports os (async_reset_in o)) (has_other_join d ports o.operands (callee d o)) reset
     (ap (λ y. has_other_join d ports o.operands (bind y (λ (i : Instance). find_module d i.symbol))) x.no_instance)))))
 
 -- an instance of a body is called
@@ -213,7 +215,7 @@ module _ (d e : Design) (fit : IsFit d) (keeps : KeepsDesign d e) (valid : Valid
     where
       fewer : (t : Name) (c f : Module) → find_module d t ≡ Some c → find_module e t ≡ Some f → (k : ℕ) → is_reset_port e f k ≡ true → is_reset_port d c k ≡ true
       fewer t c f old new k is =
-          ap (has_mark (is_reset_port d) k) (sym (ap (find_module d) (found_symbol e t f new) ∙ old))
+          ap (has_mark (is_reset_port d) k) (sym (ap (find_module d) (find_symbol e t f new) ∙ old))
           ∙ reset_marked e (marks_by_symbol d (is_reset_port d)) resets f k (is_sound e f k is) t new
 
       by_module : (t : Name) → In t (calls d s) → (x y : Option Module) → find_module d t ≡ x → find_module e t ≡ y → CallsMore (omap (called_as d) x) (omap (called_as e) y)
@@ -359,7 +361,7 @@ module _ (e : Design) (fit : IsFit e) where
       not_heavy s None is heavy = let light : weight d s ≡ 0 = ap (weight_of (module_weight (length d) d)) is in absurd (omega arith)
       not_heavy s (Some m) is heavy =
           let place = position_of_In m d (found_module d s m is) in
-          accepted.light place.0 m place.1 (subst (λ z. 2 ^ 28 < weight d z) (sym (found_symbol d s m is)) heavy)
+          accepted.light place.0 m place.1 (subst (λ z. 2 ^ 28 < weight d z) (sym (find_symbol d s m is)) heavy)
 
 -- an accepted design that can be printed is fit
 pub accepted_fit : (d : Design) → IsAccepted d → Printable d → IsFit d

@@ -20,9 +20,10 @@ use Rattle.op_checks.specs.OperandChecks.{has_mismatch}
 use Rattle.op_checks.specs.LimitChecks.{has_type_outside, has_constant_outside, has_extract_outside, has_broken_copy, has_wide_concat, has_unknown_divisor}
 use Rattle.op_checks.specs.OwnChecks.{cause_if, own_cause}
 use Rattle.op_verifier.specs.ResetChecks.{is_no_input, has_other_reset, joins_other, has_other_join}
-use Rattle.op_verifier.proofs.Unrefused.{or_none, when_none, not_false}
+use Rattle.op_verifier.proofs.Unrefused.{or_none, when_none}
 use Rattle.op_checks.proofs.Widths.{neither}
 use Rattle.accepted_edits.specs.Asked.{Operand, operand_in, operands_in, CalledModule, Around, called_as, around, some_undefined, second_known, reset_refused, async_refused, operand_at, is_other, join_refused, call_refused, called_cause, cause_of, AllowMore, CallsMore, AllowsMoreAround}
+use Rattle.std.proofs.lemmas.Bool.{not-false, or_from}
 
 -- ---- what is asked tells the cause
 
@@ -129,10 +130,6 @@ pub when_false : (b : Bool) (c : Cause) → b ≡ false → when b c ≡ None
 when_false false c h = refl
 when_false true c h = cc
 
-pub both_false : (a b : Bool) → a ≡ false → b ≡ false → (a || b) ≡ false
-both_false false b p q = q
-both_false true b p q = cc
-
 -- a chain of causes with another rest, and with another first test
 rest_more : (b : Bool) (c : Cause) (x y : Option Cause) → (x ≡ None → y ≡ None) → cause_if b c x ≡ None → cause_if b c y ≡ None
 rest_more false c x y to h = to h
@@ -225,7 +222,7 @@ other_more : (xs ys : List Operand) (k : ℕ) → AllowMore xs ys → is_other (
 other_more [] [] k more h = refl
 other_more [] (b ∷ ys) k more h = absurd more
 other_more (a ∷ xs) [] k more h = absurd more
-other_more (a ∷ xs) (b ∷ ys) zero (first, rest) h = ap not (first.input (not_false a.input h))
+other_more (a ∷ xs) (b ∷ ys) zero (first, rest) h = ap not (first.input (not-false a.input h))
 other_more (a ∷ xs) (b ∷ ys) (suc k) (first, rest) h = other_more xs ys k rest h
 
 at_port_more : (p : Option Port) (xs ys : List Operand) (k : ℕ) → AllowMore xs ys → is_other (operand_at p xs k) ≡ false → is_other (operand_at p ys k) ≡ false
@@ -241,7 +238,7 @@ join_more : (f g : ℕ → Bool) (ports : List Port) (xs ys : List Operand) → 
 join_more f g ports xs ys to more zero h = refl
 join_more f g ports xs ys to more (suc n) h =
     let parts = neither (join_refused f ports xs n) (f n && is_other (operand_at (slice_get ports n) xs (input_count (take n ports)))) h in
-    both_false (join_refused g ports ys n) (g n && is_other (operand_at (slice_get ports n) ys (input_count (take n ports))))
+    or_from (join_refused g ports ys n) (g n && is_other (operand_at (slice_get ports n) ys (input_count (take n ports))))
     (join_more f g ports xs ys to more n parts.0) (go (g n) refl parts.1)
   where
     go : (b : Bool) → g n ≡ b → (f n && is_other (operand_at (slice_get ports n) xs (input_count (take n ports)))) ≡ false
@@ -267,7 +264,7 @@ named_more ts (Some i) (Some c) (Some e) (ports, resets) h = ap (λ ps. when (no
 
 last_more : (out a b : Bool) → (out ≡ true → a ≡ true → b ≡ true) → (out && not a) ≡ false → (out && not b) ≡ false
 last_more false a b to h = refl
-last_more true a b to h = ap not (to refl (not_false a h))
+last_more true a b to h = ap not (to refl (not-false a h))
 
 -- an operation has no cause where no more is refused of its operands, and of what stands around it
 pub fewer_causes : (o : Op) (xs ys : List Operand) (a b : Around) → AllowMore xs ys → AllowsMoreAround o a b → cause_of o xs a ≡ None → cause_of o ys b ≡ None
@@ -290,4 +287,4 @@ fewer_causes o xs ys a b more outside h =
     (when_false (is_output_op o && not b.last) cause.MissingOutput
     (last_more (is_output_op o) a.last b.last outside.last (when_none (is_output_op o && not a.last) cause.MissingOutput ends.1)))))
     (when_false (async_refused o.kind ys || call_refused b.called ys) cause.AsyncReset
-    (both_false (async_refused o.kind ys) (call_refused b.called ys) (async_more o.kind xs ys more resets.0) (call_more a.called b.called xs ys outside.called more resets.1)))))
+    (or_from (async_refused o.kind ys) (call_refused b.called ys) (async_more o.kind xs ys more resets.0) (call_more a.called b.called xs ys outside.called more resets.1)))))

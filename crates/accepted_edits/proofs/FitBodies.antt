@@ -12,7 +12,6 @@ use Rattle.hw_model.specs.Design.{Ref, Port, OpResult, Op, Module, Design, find_
 use Rattle.hw_model.specs.Design.Ref.{port, result, undefined}
 use Rattle.hw_model.specs.Sound.{type_in}
 use Rattle.op_verifier.specs.Answers.{when}
-use Rattle.op_checks.specs.TypeLists.{known_types}
 use Rattle.op_checks.specs.OwnChecks.{own_cause}
 use Rattle.op_verifier.specs.OpChecks.{has_again, has_undefined, settled_by, settled_type, alone_cause}
 use Rattle.op_verifier.proofs.NoCauseAlone.{no_cause_alone}
@@ -22,14 +21,9 @@ use Rattle.accepted_edits.specs.Asked.{Operand, operand_in, operands_in, second_
 use Rattle.accepted_edits.specs.Keeps.{IsFitting, IsFit}
 use Rattle.accepted_edits.proofs.Causes.{undefined_told, types_told, known_told, undefined_more, types_more, known_more, length_more, own_more, none_or, when_false}
 use Rattle.accepted_edits.proofs.Accepted.{values_defined, printable_with, fit_found}
+use Rattle.op_verifier.proofs.SoundDesigns.{known_at}
 
 -- ---- types that are settled
-
-known_at : (ts : List HwType) (k : ℕ) → slice_index_or (known_types ts) k None ≡ slice_get ts k
-known_at [] zero = refl
-known_at [] (suc k) = refl
-known_at (t ∷ ts) zero = refl
-known_at (t ∷ ts) (suc k) = known_at ts k
 
 -- an operation without a cause of its own settles the types of its results
 pub settled_result : (ports : List Port) (os : List Op) (o : Op) → alone_cause ports os o ≡ None → (k : ℕ) → slice_index_or (settled_by o) k None ≡ result_type o k

@@ -21,7 +21,7 @@ use Rattle.hw_edits.proofs.Positions.{down-up, down_same, get_taken}
 use Rattle.accepted_edits.specs.Keeps.{IsFit}
 use Rattle.accepted_edits.proofs.Accepted.{fit_kept}
 use Rattle.accepted_edits.proofs.Edited.{kept_self}
-use Rattle.accepted_edits.proofs.Resets.{found_symbol}
+use Rattle.hw_edits.proofs.ResetsKept.{find_symbol}
 
 -- ---- weights of what is instanced
 
@@ -65,7 +65,7 @@ module _ (d : Design) (k : ℕ) (m : Module) (fit : IsFit d) (at : slice_get d k
   left_found : (s : Name) (n : Module) → find_module (remove d k) s ≡ Some n → find_module d s ≡ Some n
   left_found s n is =
       let place = position_of_In n (remove d k) (found_module (remove d k) s n is) in
-      ap (find_module d) (sym (found_symbol (remove d k) s n is)) ∙ (found_at d was_distinct (up k place.0) n (stood_at place.0 n place.1)).1
+      ap (find_module d) (sym (find_symbol (remove d k) s n is)) ∙ (found_at d was_distinct (up k place.0) n (stood_at place.0 n place.1)).1
 
   none_found : find_module (remove d k) m.symbol ≡ None
   none_found = go (find_module (remove d k) m.symbol) refl
@@ -74,7 +74,7 @@ module _ (d : Design) (k : ℕ) (m : Module) (fit : IsFit d) (at : slice_get d k
       go None is = is
       go (Some n) is =
           let place = position_of_In n (remove d k) (found_module (remove d k) m.symbol n is) in
-          let here : up k place.0 ≡ k = was_distinct (up k place.0) k n m (stood_at place.0 n place.1) at (found_symbol (remove d k) m.symbol n is) in
+          let here : up k place.0 ≡ k = was_distinct (up k place.0) k n m (stood_at place.0 n place.1) at (find_symbol (remove d k) m.symbol n is) in
           let clash : Some place.0 ≡ None = sym (down-up k place.0) ∙ ap (down k) here ∙ down_same k in cc
 
   is_without : IsWithout d (remove d k) m.symbol

@@ -2,7 +2,7 @@
 use Rattle.std.proofs.Common.{◌≡◌, ℕ, zero, suc, ◌+◌, ◌*◌, ◌≤◌, ◌<◌, ◌^◌, Bool, true, false, cond, not, ◌||◌, ◌==◌, List, [], ◌∷◌, ◌++◌, map, length, slice_get, Option, Some, refl, ap, ◌∙◌, arith}
 use Rattle.std.specs.Prelude.{nat_lt, nat_eq}
 use Rattle.std.specs.List.{list_any}
-use Rattle.std.proofs.lemmas.Bool.{eqb-true, ltb-true, ltb-false}
+use Rattle.std.proofs.lemmas.Bool.{eqb-true, ltb-true, ltb-false, not-false}
 use Rattle.std.proofs.lemmas.List.{length-append}
 use Rattle.hw_model.specs.Types.{Name, HwType, leaves, leaves_of_fields, list_copies}
 use Rattle.hw_model.specs.Types.HwType.{int, clock, array, struct}
@@ -30,7 +30,7 @@ use Rattle.op_verifier.specs.Verdict.{IsAccepted}
 use Rattle.op_verifier.proofs.AcceptedDesigns.{no_fault}
 use Rattle.op_verifier.proofs.Distinct.{distinct_symbols}
 use Rattle.op_verifier.proofs.NoCauseAlone.{no_cause_alone}
-use Rattle.op_verifier.proofs.Unrefused.{not_false, no_op_cause, ops_unrefused, no_header_cause, module_unrefused}
+use Rattle.op_verifier.proofs.Unrefused.{no_op_cause, ops_unrefused, no_header_cause, module_unrefused}
 use Rattle.op_checks.proofs.Widths.{neither}
 use Rattle.design_cycles.proofs.Callees.{found_at}
 use Rattle.mlir_printer.specs.Naming.{instance_name_hints, pack_name_hints, name_hints_of, name_hints, body_name_hints, port_name_hint, port_name_hints}
@@ -38,6 +38,7 @@ use Rattle.mlir_printer.specs.Texts.{parts_in}
 use Rattle.mlir_printer.specs.Printable.{IsPrintableModule, Printable}
 use Rattle.accepted_edits.specs.Keeps.{IsPrintableBody, IsFit}
 use Rattle.accepted_edits.proofs.Accepted.{each_at, each_from, light_is_accepted}
+use Rattle.mlir_printer.proofs.steps.Listing.{instance_length}
 
 -- ---- types have leaves
 
@@ -75,7 +76,7 @@ some_literal (leaf z u) t m d h = omega arith
 some_literal (parts ls) (int w) m d h = cc
 some_literal (parts ls) clock m d h = cc
 some_literal (parts no_literals) (array n t) m d h =
-    let count : 0 ≡ n = eqb-true 0 n (not_false (nat_eq 0 n) (neither (not (nat_eq 0 n)) _ m).0) in
+    let count : 0 ≡ n = eqb-true 0 n (not-false (nat_eq 0 n) (neither (not (nat_eq 0 n)) _ m).0) in
     let bad : (n == 0) ≡ false = (neither (n == 0) (has_bad_part t) h).0 in
     let clash : true ≡ false = ap (λ k. k == 0) count ∙ bad in cc
 some_literal (parts (literal l ls)) (array n t) m d h =
@@ -86,7 +87,7 @@ some_literal (parts (literal l ls)) (array n t) m d h =
     omega arith
 some_literal (parts ls) (struct no_fields) m d h = cc
 some_literal (parts no_literals) (struct (field name t fs)) m d h =
-    let count : 0 ≡ length (field_list (field name t fs)) = eqb-true 0 (length (field_list (field name t fs))) (not_false (nat_eq 0 (length (field_list (field name t fs)))) (neither (not (nat_eq 0 (length (field_list (field name t fs))))) _ m).0) in
+    let count : 0 ≡ length (field_list (field name t fs)) = eqb-true 0 (length (field_list (field name t fs))) (not-false (nat_eq 0 (length (field_list (field name t fs)))) (neither (not (nat_eq 0 (length (field_list (field name t fs))))) _ m).0) in
     absurd (omega arith)
 some_literal (parts (literal l ls)) (struct (field name t fs)) m d h =
     let a = neither (not (nat_eq (suc (literal_count ls)) _)) (is_miscounted l t || are_miscounted ls fs) m in
@@ -131,10 +132,6 @@ register_weighs compreg = omega arith
 register_weighs compreg_ce = omega arith
 register_weighs firreg = omega arith
 
-instance_names : (u : Name) (qs : List Name) → length (instance_name_hints u qs) ≡ length qs
-instance_names u [] = refl
-instance_names u (q ∷ qs) = ap suc (instance_names u qs)
-
 pack_names : (n : ℕ) → length (pack_name_hints n) ≤ 1
 pack_names zero = omega arith
 pack_names (suc n) = omega arith
@@ -172,7 +169,7 @@ module _ (inner : Name → ℕ) where
   names_weigh wire ts own n count xs inside types form operand counted = let some : length ts ≤ leaf_count ts = leaves_all ts inside in omega arith
   names_weigh (instance i) ts own n count xs inside types form operand counted =
       let some : length ts ≤ leaf_count ts = leaves_all ts inside in
-      let names : length (instance_name_hints i.name i.outputs) ≡ length i.outputs = instance_names i.name i.outputs in
+      let names : length (instance_name_hints i.name i.outputs) ≡ length i.outputs = instance_length i.name i.outputs in
       omega arith
   names_weigh output ts own n count xs inside types form operand counted = omega arith
   names_weigh (register f r) ts own n count xs inside types form operand counted =

@@ -1,12 +1,11 @@
 -- Asynchronous resets that come from marked ports: each reset port has a mark, and no operation is refused for its reset.
 use Rattle.std.proofs.Common.{◌≡◌, ℕ, zero, suc, Bool, true, false, cond, not, ◌&&◌, List, [], ◌∷◌, length, Option, Some, None, refl, sym, ap, ap₂, ◌∙◌}
 use Rattle.std.specs.Prelude.{is_some}
-use Rattle.std.specs.Cmp.Lexicographic.{same_text}
 use Rattle.wiring.specs.Wiring.{In}
 use Rattle.wiring.proofs.Options.{bind_some}
 use Rattle.hw_model.specs.Types.{Name}
 use Rattle.hw_model.specs.Kinds.{Instance}
-use Rattle.hw_model.specs.Design.{Ref, Op, Module, Design, same_name, find_module, instance_in, callee}
+use Rattle.hw_model.specs.Design.{Ref, Op, Module, Design, find_module, instance_in, callee}
 use Rattle.hw_model.specs.Design.Ref.{port}
 use Rattle.hw_model.specs.Flat.{ResetBy, async_reset_in, port_ref}
 use Rattle.hw_model.specs.Resets.{IsMarkedInput, IsConstantOf, ResetsFromPorts}
@@ -15,23 +14,8 @@ use Rattle.port_checks.specs.ResetPorts.{IsBitInput, IsResetPort, is_reset_port}
 use Rattle.port_checks.specs.ResetPorts.IsResetPort.{named, joined}
 use Rattle.port_checks.proofs.Least.{is_sound}
 use Rattle.op_verifier.specs.ResetChecks.{is_input_port, is_no_input, is_constant_op, is_constant_ref, has_other_reset, joins_other, has_other_join}
-use Rattle.accepted_edits.proofs.Causes.{both_false}
-
-some_from : {A : Type 0} {a b : A} → Some a ≡ Some b → a ≡ b
-some_from {a = a} h = ap (λ (o : Option _). value a o) h
-  where
-    value : {A : Type 0} → A → Option A → A
-    value d None = d
-    value d (Some x) = x
-
--- the module that is found has the symbol
-pub found_symbol : (d : Design) (s : Name) (m : Module) → find_module d s ≡ Some m → m.symbol ≡ s
-found_symbol [] s m is = cc
-found_symbol (x ∷ d) s m is = go (same_name x.symbol s) refl is (found_symbol d s m)
-  where
-    go : (b : Bool) → same_name x.symbol s ≡ b → cond b (Some x) (find_module d s) ≡ Some m → (find_module d s ≡ Some m → m.symbol ≡ s) → m.symbol ≡ s
-    go true same here rest = ap (λ (y : Module). y.symbol) (sym (some_from here)) ∙ same_text x.symbol s (sym same)
-    go false same here rest = rest here
+use Rattle.op_verifier.proofs.WholeDesigns.{some_from}
+use Rattle.std.proofs.lemmas.Bool.{or_from}
 
 -- ---- values
 
@@ -85,7 +69,7 @@ module _ (e : Design) (marked : Module → ℕ → Bool) (resets : ResetsFromPor
         at : (c : Module) → callee e o ≡ Some c → (n : ℕ) → joins_other (is_reset_port e c) m.ports (port_ref c.ports o.operands) n ≡ false
         at c leads zero = refl
         at c leads (suc n) =
-            both_false (joins_other (is_reset_port e c) m.ports (port_ref c.ports o.operands) n) (is_reset_port e c n && is_no_input m.ports (port_ref c.ports o.operands n))
+            or_from (joins_other (is_reset_port e c) m.ports (port_ref c.ports o.operands) n) (is_reset_port e c n && is_no_input m.ports (port_ref c.ports o.operands n))
             (at c leads n) (by_port (is_reset_port e c n) refl)
           where
             by_port : (b : Bool) → is_reset_port e c n ≡ b → (b && is_no_input m.ports (port_ref c.ports o.operands n)) ≡ false

@@ -7,31 +7,16 @@ use Rattle.wiring.proofs.Options.{bind_some}
 use Rattle.hw_model.specs.Types.{Name}
 use Rattle.hw_model.specs.Kinds.{Instance}
 use Rattle.hw_model.specs.Design.{Ref, Port, Op, Module, Design, find_module, instance_in, callee}
-use Rattle.hw_model.specs.Design.Ref.{port, result, undefined}
+use Rattle.hw_model.specs.Design.Ref.{port}
 use Rattle.hw_model.specs.Flat.{ResetBy, has_async_reset, async_parts, async_reset_in, input_count, operand_for, port_ref}
 use Rattle.hw_model.specs.Resets.{IsMarkedInput, IsConstantOf, ResetsFromPorts}
-use Rattle.op_verifier.specs.ResetChecks.{is_constant_op, is_constant_ref}
 use Rattle.hw_edits.specs.Resets.{has_mark, marks_by_symbol}
 use Rattle.accepted_edits.specs.Asked.{operand_in, operands_in, AllowsMore, AllowMore}
 use Rattle.accepted_edits.specs.Keeps.{IsMoved, IsPlainFitting, KeepsModule, KeepsDesign}
-use Rattle.accepted_edits.proofs.Resets.{found_symbol, constant_told}
-
-some_from : {A : Type 0} {a b : A} → Some a ≡ Some b → a ≡ b
-some_from {a = a} h = ap (λ (o : Option _). value a o) h
-  where
-    value : {A : Type 0} → A → Option A → A
-    value d None = d
-    value d (Some x) = x
-
--- what the checks see as a constant is one
-pub constant_from : (os : List Op) (r : Ref) → is_constant_ref os r ≡ true → IsConstantOf os r
-constant_from os (port j) h = cc
-constant_from os undefined h = cc
-constant_from os (result j k) h = go (slice_get os j) refl h
-  where
-    go : (x : Option Op) → slice_get os j ≡ x → is_constant_op x ≡ true → IsConstantOf os (result j k)
-    go None is g = cc
-    go (Some o) is g = record { position = j; number = k; is_result = refl; op = o; there = is; is_one = g }
+use Rattle.accepted_edits.proofs.Resets.{constant_told}
+use Rattle.hw_edits.proofs.ResetsKept.{find_symbol}
+use Rattle.op_verifier.proofs.InputResets.{constant_is}
+use Rattle.op_verifier.proofs.WholeDesigns.{some_from}
 
 -- ---- operands of a register that is moved
 
@@ -84,7 +69,7 @@ module _ (d e : Design) (marked : Module → ℕ → Bool) (keeps : KeepsDesign 
     keeps_old = (keeps.modules s n is).keeps
 
     marks_same : (j : ℕ) → marks n j ≡ marked old j
-    marks_same j = ap (λ z. has_mark marked j (find_module d z)) (found_symbol e s n is) ∙ ap (has_mark marked j) (keeps.modules s n is).is_found
+    marks_same j = ap (λ z. has_mark marked j (find_module d z)) (find_symbol e s n is) ∙ ap (has_mark marked j) (keeps.modules s n is).is_found
 
     -- a port that was a marked input is one
     marked_now : (r : Ref) → IsMarkedInput marked old r → (q : Ref) → q ≡ r → IsMarkedInput marks n q
@@ -116,12 +101,12 @@ module _ (d e : Design) (marked : Module → ℕ → Bool) (keeps : KeepsDesign 
         let value = resets.values s old x.was w.reset (keeps.modules s n is).is_found x.was_there w.has_reset in
         let stays : slice_get o.operands 2 ≡ Some (port signal.number) = x.ports_stay 2 signal.number (w.old_signal ∙ ap Some signal.is_port) in (
           marked_now w.reset.signal signal r.signal (some_from (sym w.new_signal ∙ stays) ∙ sym signal.is_port),
-          constant_from n.body r.value (w.value.constant (constant_told old.body w.reset.value value)),
+          constant_is n.body r.value (w.value.constant (constant_told old.body w.reset.value value)),
         )
     register_now o r async (inr x) =
         let stays = x.reset r async in
         let signal = resets.signals s old stays.was stays.reset (keeps.modules s n is).is_found stays.was_there stays.has_reset in
-        (marked_now stays.reset.signal signal r.signal (sym stays.signal), constant_from n.body r.value stays.constant)
+        (marked_now stays.reset.signal signal r.signal (sym stays.signal), constant_is n.body r.value stays.constant)
 
     register_in_body : (o : Op) (r : ResetBy) → In o n.body → async_reset_in o ≡ Some r → IsMarkedInput marks n r.signal × IsConstantOf n.body r.value
     register_in_body o r here async =

@@ -13,6 +13,7 @@ use Rattle.design_cycles.specs.declared.layout.Span.{Span}
 use Rattle.graphs.specs.Graphs.{edges}
 use Rattle.design_cycles.specs.Local.{operands_at, where_typed, op_wires, result_wires}
 use Rattle.design_cycles.specs.Nodes.{size_by, size_in, sizes_in, AreSpans, IsLayout, node_ref, nodes_in, port_refs, op_refs, result_refs, body_refs, table_by, node_needs, body_lists, times_over, lists_at, lists_of_op}
+use Rattle.design_cycles.proofs.NodeNumbers.{length-op_refs}
 
 -- ---- what the results of one operation need
 
@@ -125,10 +126,6 @@ module _ (ports : ℕ) (rows : Name → List (List ℕ)) (os : List Op) where
   graph_ends j lists all are = are ∙ ap (λ xs. map (node_needs ports rows os) (body_refs ports (sizes_in rows xs))) (take_all j os all)
 
 -- ---- how many nodes there are
-
-length-op_refs : (j k n : ℕ) → length (op_refs j k n) ≡ n
-length-op_refs j k zero = refl
-length-op_refs j k (suc n) = ap suc (length-op_refs j (suc k) n)
 
 length-port_refs : (p n : ℕ) → length (port_refs p n) ≡ n
 length-port_refs p zero = refl

@@ -8,7 +8,7 @@ use Rattle.wiring.proofs.Chains.{Chain-append}
 use Rattle.wiring.proofs.Heights.{by_heights}
 use Rattle.hw_model.specs.Types.{Name, HwType, width}
 use Rattle.hw_model.specs.Kinds.{Instance}
-use Rattle.hw_model.specs.Design.{Ref, Port, Op, Module, Design, find_module, instance_in, is_instance, callee, result_type}
+use Rattle.hw_model.specs.Design.{Ref, Port, Op, Module, Design, find_module, instance_in, callee, result_type}
 use Rattle.hw_model.specs.Design.Ref.{port, result, undefined}
 use Rattle.hw_model.specs.Flat.{Path, Net, net, instances, module_at, base, body_state, state, input_of, input_width, copy_of, joined_ref, joined_at, given_ref, held_of, made_of, port_ref}
 use Rattle.hw_model.specs.Flat.Source.{nowhere, input}
@@ -18,7 +18,7 @@ use Rattle.hw_model.specs.Hierarchy.{calls, HasNoRecursion}
 use Rattle.hw_model.proofs.Sorts.{Sort, sort_of}
 use Rattle.hw_model.proofs.Sorts.Sort.{a_register, an_instance, an_output, a_made}
 use Rattle.hw_model.proofs.Paths.{module_inside, input_ports, joined_body, op_in, result_in, result_here}
-use Rattle.hw_model.proofs.Gone.{called_In}
+use Rattle.hw_model.proofs.Gone.{called_In, from_In-instances}
 use Rattle.hw_model.proofs.Content.{call_heights}
 
 -- ---- paths within instance u
@@ -57,15 +57,6 @@ pub lift_away : (u : ℕ) (n : Net) (r : Ref) → net [] r ≡ lift u n → ⊥
 lift_away u n r same = snoc_apart n.path u (sym (ap (λ (x : Net). x.path) same))
 
 -- ---- what nothing needs
-
-from_In-instances : (os : List Op) (o : Op) → In o (instances os) → In o os
-from_In-instances [] o here = absurd here
-from_In-instances (y ∷ ys) o here = go (is_instance y) here (from_In-instances ys o)
-  where
-    go : (b : Bool) → In o (cond b (y ∷ instances ys) (instances ys)) → (In o (instances ys) → In o ys) → In o (y ∷ ys)
-    go true (inl same) rest = inl same
-    go true (inr later) rest = inr (rest later)
-    go false later rest = inr (rest later)
 
 no_needs_input : (x : Option Port) (start : ℕ) → needs_of (input_of x start) ≡ []
 no_needs_input None start = refl

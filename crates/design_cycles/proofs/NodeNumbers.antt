@@ -27,7 +27,7 @@ port_at p zero k below = absurd (omega arith)
 port_at p (suc n) zero below = let e : p ≡ p + 0 = omega arith in ap (λ m. Some (port m)) e
 port_at p (suc n) (suc k) below = port_at (suc p) n k (omega arith) ∙ (let e : suc p + k ≡ p + suc k = omega arith in ap (λ m. Some (port m)) e)
 
-length-op_refs : (j k n : ℕ) → length (op_refs j k n) ≡ n
+pub length-op_refs : (j k n : ℕ) → length (op_refs j k n) ≡ n
 length-op_refs j k zero = refl
 length-op_refs j k (suc n) = ap suc (length-op_refs j (suc k) n)
 

@@ -122,7 +122,7 @@ tried_taken ts w n h = record { within = omega (arith, h.within, length-append {
 
 -- ---- tables
 
-get_front : {A : Type 0} (xs : List A) (x y : A) (i : ℕ) → slice_get (xs ++ x ∷ []) i ≡ Some y → (slice_get xs i ≡ Some y) ⊎ (i ≡ length xs) × (x ≡ y)
+pub get_front : {A : Type 0} (xs : List A) (x y : A) (i : ℕ) → slice_get (xs ++ x ∷ []) i ≡ Some y → (slice_get xs i ≡ Some y) ⊎ (i ≡ length xs) × (x ≡ y)
 get_front [] x y zero e = inr (refl, cc)
 get_front [] x y (suc i) e = cc
 get_front (z ∷ xs) x y zero e = inl e
@@ -183,14 +183,6 @@ key_last b ks k e = ap (λ t. cond t ks (ks ++ k ∷ [])) e
 -- a key that is there changes nothing
 pub key_kept : {K : Type 0} (b : Bool) (ks : List K) (k : K) → b ≡ true → cond b ks (ks ++ k ∷ []) ≡ ks
 key_kept b ks k e = ap (λ t. cond t ks (ks ++ k ∷ [])) e
-
-pub not_there : (b : Bool) → not b ≡ true → b ≡ false
-not_there true e = cc
-not_there false e = refl
-
-pub is_there : (b : Bool) → not b ≡ false → b ≡ true
-is_there true e = refl
-is_there false e = cc
 
 pub one_more : {A : Type 0} (xs : List A) (x : A) → length (xs ++ x ∷ []) ≡ length xs + 1
 one_more [] x = refl

@@ -3,19 +3,19 @@ use Rattle.std.proofs.Common.{◌≡◌, ℕ, zero, suc, Bool, true, false, cond
 use Rattle.std.specs.Cmp.Lexicographic.{same_text}
 use Rattle.wiring.specs.Options.{bind, omap}
 use Rattle.wiring.specs.Wiring.{In}
-use Rattle.wiring.proofs.Options.{bind_some, some_or_none}
+use Rattle.wiring.proofs.Options.{bind_some}
 use Rattle.wiring.proofs.Members.{from_In-map}
 use Rattle.hw_model.specs.Types.{Name}
 use Rattle.hw_model.specs.Kinds.{Kind, Instance}
 use Rattle.hw_model.specs.Kinds.Kind.{async_firreg}
-use Rattle.hw_model.specs.Design.{Ref, Port, Op, Module, Design, same_name, find_module, instance_in, is_instance, callee}
-use Rattle.hw_model.specs.Design.Ref.{port, result}
+use Rattle.hw_model.specs.Design.{Ref, Port, Op, Module, Design, same_name, find_module, instance_in, callee}
+use Rattle.hw_model.specs.Design.Ref.{result}
 use Rattle.hw_model.specs.Flat.{ResetBy, port_ref, has_async_reset, async_parts, async_reset_in, input_count, operand_for}
-use Rattle.hw_model.specs.Resets.{is_constant, IsMarkedInput, IsConstantOf, ResetsFromPorts}
+use Rattle.hw_model.specs.Resets.{IsMarkedInput, IsConstantOf, ResetsFromPorts}
 use Rattle.hw_model.specs.Sound.{body_of, ports_of}
 use Rattle.hw_model.proofs.Sorts.{Sort, sort_of}
 use Rattle.hw_model.proofs.Sorts.Sort.{a_register, an_instance, an_output, a_made}
-use Rattle.hw_edits.specs.Edit.{retarget, is_anchor, anchors, Edit, Kept, EditedModule}
+use Rattle.hw_edits.specs.Edit.{retarget, is_anchor, anchors, Edit, EditedModule}
 use Rattle.hw_edits.specs.Resets.{has_mark, marks_by_symbol, KeepsResetValues}
 
 -- ---- anchors among the operations of a body
@@ -85,7 +85,7 @@ retarget_port f ps rs j q is = go (slice_get ps j) is
 
 -- ---- modules
 
-find_symbol : (d : Design) (s : Name) (m : Module) → find_module d s ≡ Some m → m.symbol ≡ s
+pub find_symbol : (d : Design) (s : Name) (m : Module) → find_module d s ≡ Some m → m.symbol ≡ s
 find_symbol [] s m is = cc
 find_symbol (x ∷ d) s m is = go (same_name x.symbol s) refl (find_symbol d s m) is
   where

@@ -20,11 +20,12 @@ use Rattle.canonical_form.specs.Dictionaries.{takes_bin, string_keys}
 use Rattle.mlir_syntax.specs.Spelling.{Phrase, Mark, Then}
 use Rattle.mlir_operations.specs.Spelling.{ValueName, ResultsPhrase, BinPhrase, FormPhrase, TailPhrase, StandsInBody, OperationPhrase, OperationsPhrase, IsPlaceOf}
 use Rattle.mlir_syntax.proofs.Again.{At, at_then, at_one, at_where, at_nothing, on_ok, if_true, if_false, Leads, leads_one, leads_then, leads_where, starts, starts_test, shorter}
-use Rattle.mlir_syntax.proofs.AgainTokens.{is_kind_of, unlike, no_word, other_word, next_at, no_next, leads_commas, no_mark, both_true, false_too}
+use Rattle.mlir_syntax.proofs.AgainTokens.{is_kind_of, unlike, no_word, other_word, next_at, no_next, leads_commas, no_mark}
 use Rattle.mlir_operations.proofs.AgainOperands.{NoValue, again_results, leads_value}
 use Rattle.mlir_operations.proofs.AgainElements.{word_first}
 use Rattle.mlir_operations.proofs.AgainForms.{OperationEnd, form_at}
 use Rattle.mlir_operations.proofs.FormStarts.{no_bin, format_at}
+use Rattle.std.proofs.lemmas.Bool.{and_from, and_right}
 
 -- ---- names of operations
 
@@ -76,11 +77,11 @@ bin_at : (o : Listed) (b : Bool) {s left : List Symbol} → is_first (is_word (c
 unfolding bin_text
 bin_at o false clear a =
     let same = at_nothing a in
-    if_false _ (false_too (takes_bin o) _ (ap (is_first (is_word (codes "bin"))) same ∙ clear)) (ap (λ y. Ok (false, y)) same)
+    if_false _ (and_right (takes_bin o) _ (ap (is_first (is_word (codes "bin"))) same ∙ clear)) (ap (λ y. Ok (false, y)) same)
 bin_at o true clear a =
     let (takes, p) = at_where a in
     let (next, behind) = word_first p in
-    if_true _ (both_true (takes_bin o) _ takes next) (ap (λ y. Ok (true, y)) behind)
+    if_true _ (and_from (takes_bin o) _ takes next) (ap (λ y. Ok (true, y)) behind)
 
 -- what is after an operation's name
 named_at : (o : OperationText) {s left : List Symbol} → OperationEnd left → (is_last o.name ≡ true → NoValue left)

@@ -95,11 +95,6 @@ module _ {A B : Type 0} (f : A → B) where
   passes done new b rest e r =
       rw r (append-nil new ∙ e ∙ ap (λ bs. bs ++ b ∷ []) (sym (append-nil done)))
 
--- none is left
-pub none_left : {A : Type 0} (xs : List A) → length xs ≡ 0 → xs ≡ []
-none_left [] h = refl
-none_left (x ∷ xs) h = absurd (omega (arith, h))
-
 -- one more id
 pub numbered_more : (done new : List BodyOp) (op : BodyOp) → new ≡ done ++ op ∷ [] → ids_in done ≡ numbers_below (length (ids_in done))
     → op.id ≡ length (ids_in done) → ids_in new ≡ numbers_below (length (ids_in new))

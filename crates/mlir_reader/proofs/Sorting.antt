@@ -3,12 +3,8 @@ use Rattle.std.proofs.Common.{◌≡◌, ℕ, suc, ◌<◌, ◌≤◌, Bool, tru
 use Rattle.std.specs.Prelude.{not, filter}
 use Rattle.std.specs.Cmp.{IsStrictWeakOrder}
 use Rattle.std.specs.List.Sorted.{IsSortedBy, IsStableBy, ties}
-use Rattle.std.proofs.lemmas.Bool.{and_parts}
+use Rattle.std.proofs.lemmas.Bool.{and_parts, not-true}
 use Rattle.std.proofs.lemmas.List.Sorted.{sorted_far}
-
-not_false : (b : Bool) → not b ≡ true → b ≡ false
-not_false true h = cc
-not_false false h = refl
 
 same_tail : {X : Type 0} (b c : Bool) (x y : X) (xs ys : List X) → b ≡ c → cond b (x ∷ xs) xs ≡ cond c (y ∷ ys) ys → xs ≡ ys
 same_tail true true x y xs ys h e = cc
@@ -74,7 +70,7 @@ module _ {X : Type 0} (lt : X → X → Bool) (o : IsStrictWeakOrder lt) where
   -- ---- elements that tie keep their order
 
   tied : (q w : X) → ties lt q w ≡ true → (lt q w ≡ false) × (lt w q ≡ false)
-  tied q w h = let p = and_parts (not (lt q w)) (not (lt w q)) h in (not_false (lt q w) p.0, not_false (lt w q) p.1)
+  tied q w h = let p = and_parts (not (lt q w)) (not (lt w q)) h in (not-true (lt q w) p.0, not-true (lt w q) p.1)
 
   put_stable : (q e : X) (ws : List X) → filter (ties lt q) (put e ws) ≡ filter (ties lt q) (e ∷ ws)
   put_stable q e [] = refl

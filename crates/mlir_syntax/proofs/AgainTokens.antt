@@ -1,6 +1,6 @@
 -- What single tokens, numbers and lists say is read of them.
 use Rattle.std.proofs.Common.{◌≡◌, ◌⊎◌, ℕ, zero, suc, ◌<◌, ◌≤◌, Bool, true, false, ◌&&◌, cond, nat_lt, List, [], ◌∷◌, ◌++◌, length, map, Ok, refl, sym, ◌∙◌, ap, inl, inr, pos, ℤ, arith}
-use Rattle.std.proofs.lemmas.Bool.{eq-eqb, lt-ltb}
+use Rattle.std.proofs.lemmas.Bool.{eq-eqb, lt-ltb, and_from, and_right}
 use Rattle.std.specs.Cmp.Lexicographic.{bytes_decides}
 use Rattle.diag.specs.declared.refusal.OpName.{OpName}
 use Rattle.hw_model.specs.Types.{Name}
@@ -31,20 +31,12 @@ Unlike k t = is_kind t.kind k ≡ false
 pub unlike : (k j : TokenKind) → is_kind j k ≡ false → (t : Lexeme) → t.kind ≡ j → Unlike k t
 unlike k j h t e = ap (λ i. is_kind i k) e ∙ h
 
-pub both_true : (a b : Bool) → a ≡ true → b ≡ true → (a && b) ≡ true
-both_true true b h g = g
-both_true false b h g = absurd cc
-
 false_of : (a b : Bool) → a ≡ false → (a && b) ≡ false
 false_of true b h = absurd cc
 false_of false b h = refl
 
-pub false_too : (a b : Bool) → b ≡ false → (a && b) ≡ false
-false_too true b h = h
-false_too false b h = refl
-
 pub is_word_of : {name : List ℕ} (t : Lexeme) → t.kind ≡ kind.BareName → t.text ≡ name → is_word name t ≡ true
-is_word_of {name} t k w = both_true (is_kind t.kind kind.BareName) (same_name t.text name) (is_kind_of k) ((bytes_decides t.text name).1 w)
+is_word_of {name} t k w = and_from (is_kind t.kind kind.BareName) (same_name t.text name) (is_kind_of k) ((bytes_decides t.text name).1 w)
 
 -- a token of another kind is no word
 pub no_word : (name : List ℕ) (j : TokenKind) → is_kind j kind.BareName ≡ false → (t : Lexeme) → t.kind ≡ j → is_word name t ≡ false
@@ -52,7 +44,7 @@ no_word name j h t e = false_of (is_kind t.kind kind.BareName) (same_name t.text
 
 -- a word is no other word
 pub other_word : (name text : List ℕ) → same_name text name ≡ false → (t : Lexeme) → t.text ≡ text → is_word name t ≡ false
-other_word name text h t e = false_too (is_kind t.kind kind.BareName) (same_name t.text name) (ap (λ x. same_name x name) e ∙ h)
+other_word name text h t e = and_right (is_kind t.kind kind.BareName) (same_name t.text name) (ap (λ x. same_name x name) e ∙ h)
 
 -- ---- a token
 

@@ -1,10 +1,11 @@
 -- Names that are taken by one list or another.
-use Rattle.std.proofs.Common.{◌≡◌, Bool, true, false, cond, ◌||◌, nat_eq, List, [], ◌∷◌, ◌++◌, refl, sym, ap, ◌∙◌}
+use Rattle.std.proofs.Common.{◌≡◌, Bool, true, false, cond, ◌||◌, nat_eq, List, [], ◌∷◌, ◌++◌, refl, sym, ◌∙◌}
 use Rattle.std.specs.Cmp.Lexicographic.{pointwise}
 use Rattle.hw_model.specs.Types.{Name}
 use Rattle.hw_model.specs.Design.{same_name}
 use Rattle.verilog_model.specs.Checks.{contains_name}
 use Rattle.fresh_names.specs.Fresh.{is_taken}
+use Rattle.std.proofs.lemmas.Bool.{or_right, or_from}
 
 pub is_taken-append : (ts us : List Name) (q : Name) → is_taken (ts ++ us) q ≡ (is_taken ts q || is_taken us q)
 is_taken-append [] us q = refl
@@ -20,16 +21,6 @@ contains_name-is_taken q (t ∷ ts) = go (same_name t q) (contains_name-is_taken
   go : (b : Bool) → contains_name q ts ≡ is_taken ts q → (b || contains_name q ts) ≡ cond b true (is_taken ts q)
   go true e = refl
   go false e = e
-
-pub or_false : (a b : Bool) → a ≡ false → b ≡ false → (a || b) ≡ false
-or_false a b p q = ap (λ x. x || b) p ∙ q
-
-pub or_first : (a b : Bool) → a ≡ true → (a || b) ≡ true
-or_first a b p = ap (λ x. x || b) p
-
-pub or_second : (a b : Bool) → b ≡ true → (a || b) ≡ true
-or_second true b p = refl
-or_second false b p = p
 
 pub neither_first : (a b : Bool) → (a || b) ≡ false → a ≡ false
 neither_first true b p = p
@@ -47,7 +38,7 @@ pub free_second : (ts us : List Name) (q : Name) → is_taken (ts ++ us) q ≡ f
 free_second ts us q e = neither_second (is_taken ts q) (is_taken us q) (sym (is_taken-append ts us q) ∙ e)
 
 pub free_both : (ts us : List Name) (q : Name) → is_taken ts q ≡ false → is_taken us q ≡ false → is_taken (ts ++ us) q ≡ false
-free_both ts us q e f = is_taken-append ts us q ∙ or_false (is_taken ts q) (is_taken us q) e f
+free_both ts us q e f = is_taken-append ts us q ∙ or_from (is_taken ts q) (is_taken us q) e f
 
 pub taken_behind : (ts us : List Name) (q : Name) → is_taken us q ≡ true → is_taken (ts ++ us) q ≡ true
-taken_behind ts us q e = is_taken-append ts us q ∙ or_second (is_taken ts q) (is_taken us q) e
+taken_behind ts us q e = is_taken-append ts us q ∙ or_right (is_taken ts q) (is_taken us q) e

@@ -9,7 +9,7 @@ use Rattle.verilog_model.proofs.Numerals.{and_first, and_second, is_decimal-deci
 use Rattle.fresh_names.specs.Fresh.{is_taken, with_suffix, free_from, free_name}
 use Rattle.fresh_names.proofs.Taken.{same_is}
 use Rattle.fresh_names.proofs.Free.{all_below, name_stays, name_suffixed}
-use Rattle.name_legalise.proofs.Members.{or_first, or_second}
+use Rattle.std.proofs.lemmas.Bool.{or_left, or_right}
 
 -- whether a name ends with `_` and digits
 abbrev pub is_numbered : Name → Bool
@@ -40,8 +40,8 @@ numbered_free q (w ∷ ws) h none = go (pointwise nat_eq w q) refl (numbered_fre
   go false e r = r
 
 numbered_behind : (w ds : List ℕ) → IsTrue (all_bytes is_digit ds) → IsTrue (is_numbered (w ++ (95 ∷ ds)))
-numbered_behind [] ds h = or_first (all_bytes is_digit ds) (is_numbered ds) h
-numbered_behind (b ∷ w) ds h = or_second (b == 95 && all_bytes is_digit (w ++ (95 ∷ ds))) (is_numbered (w ++ (95 ∷ ds))) (numbered_behind w ds h)
+numbered_behind [] ds h = or_left (all_bytes is_digit ds) (is_numbered ds) h
+numbered_behind (b ∷ w) ds h = or_right (b == 95 && all_bytes is_digit (w ++ (95 ∷ ds))) (is_numbered (w ++ (95 ∷ ds))) (numbered_behind w ds h)
 
 -- (a number of 2^64 or more is no number of code)
 pub suffixed_unreserved : (w : Name) (k : ℕ) → k < 2 ^ 64 → is_taken reserved_words (with_suffix w k) ≡ false

@@ -10,9 +10,10 @@ use Rattle.fresh_names.proofs.Taken.{same_is, taken_more, taken_last, one_more}
 use Rattle.fresh_names.proofs.Free.{name_free, name_stays}
 use Rattle.verilog_model.specs.Reserved.{reserved_words}
 use Rattle.name_legalise.specs.Kept.{names_at, taken_count, IsTable, with_reserved}
-use Rattle.name_legalise.proofs.Members.{is_taken-append, or_first}
+use Rattle.name_legalise.proofs.Members.{is_taken-append}
 use Rattle.name_legalise.proofs.Suffixes.{reserved_count, name_unreserved}
 use Rattle.name_legalise.proofs.Least.{name_alike, name_beyond}
+use Rattle.std.proofs.lemmas.Bool.{or_left}
 
 -- ---- names at positions
 
@@ -90,7 +91,7 @@ taken_reserved rs ts n q t = is_taken-append rs (ts ++ n ∷ []) q ∙ ap (λ b.
   go : (b : Bool) → pointwise nat_eq n q ≡ b → (is_taken rs q || (is_taken ts q || cond b true false)) ≡ (is_taken rs q || is_taken ts q)
   go true e =
       let r : is_taken rs q ≡ true = ap (is_taken rs) (sym (same_is n q e)) ∙ t in
-      or_first (is_taken rs q) (is_taken ts q || true) r ∙ sym (or_first (is_taken rs q) (is_taken ts q) r)
+      or_left (is_taken rs q) (is_taken ts q || true) r ∙ sym (or_left (is_taken rs q) (is_taken ts q) r)
   go false e = plain (is_taken rs q) (is_taken ts q)
 
 table_reserved : (ts : List Name) (ps : List ℕ) (n : Name) → IsTable ts ps → is_taken reserved_words n ≡ true → is_taken ts n ≡ false → IsTable (ts ++ n ∷ []) ps

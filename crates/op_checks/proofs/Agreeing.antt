@@ -1,24 +1,20 @@
 -- What tests that do not hold say of lists of types.
-use Rattle.std.proofs.Common.{◌≡◌, ℕ, zero, suc, ◌≤◌, Bool, true, false, not, List, [], ◌∷◌, length, take, refl, ap, ◌∙◌, arith, inl, inr}
+use Rattle.std.proofs.Common.{◌≡◌, ℕ, zero, suc, ◌≤◌, true, false, not, List, [], ◌∷◌, length, take, refl, ap, ◌∙◌, arith, inl, inr}
 use Rattle.std.specs.Prelude.{Option, Some, None, is_some, slice_get, nat_eq}
 use Rattle.std.specs.List.{list_all}
-use Rattle.std.proofs.lemmas.Bool.{eqb-true}
+use Rattle.std.proofs.lemmas.Bool.{eqb-true, not-false}
 use Rattle.hw_model.specs.Types.{HwType}
 use Rattle.hw_model.specs.SameType.{same_type, type_from}
 use Rattle.hw_model.specs.Sound.{AllAre}
 use Rattle.op_checks.specs.TypeLists.{known_types, differs, any_differs, differ}
 use Rattle.op_checks.proofs.Widths.{neither}
 
-pub not_false : (b : Bool) → not b ≡ false → b ≡ true
-not_false true h = refl
-not_false false h = cc
-
 pub same_number : (m n : ℕ) → not (nat_eq m n) ≡ false → m ≡ n
-same_number m n h = eqb-true m n (not_false (nat_eq m n) h)
+same_number m n h = eqb-true m n (not-false (nat_eq m n) h)
 
 -- types that do not differ are one
 pub agreed : (t u : HwType) → differs (Some t) (Some u) ≡ false → t ≡ u
-agreed t u h = type_from t u (not_false (same_type t u) h)
+agreed t u h = type_from t u (not-false (same_type t u) h)
 
 -- each of them is the type
 pub all_agreed : (us : List HwType) (t : HwType) → any_differs (known_types us) (Some t) ≡ false → AllAre t (known_types us)

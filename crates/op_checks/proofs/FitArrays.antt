@@ -17,8 +17,9 @@ use Rattle.op_checks.specs.TypeLists.{known_types, is_no_array, is_no_int, diffe
 use Rattle.op_checks.specs.OperandChecks.{is_no_array_of, has_other_array}
 use Rattle.op_checks.specs.LimitChecks.{of_type}
 use Rattle.op_checks.proofs.Widths.{neither, bits_within}
-use Rattle.op_checks.proofs.Agreeing.{not_false, agreed, all_agreed, pairwise_agreed, single}
+use Rattle.op_checks.proofs.Agreeing.{agreed, all_agreed, pairwise_agreed, single}
 use Rattle.op_checks.proofs.FitIntegers.{apart, three_agreed}
+use Rattle.std.proofs.lemmas.Bool.{not-false}
 
 product_of_ones : (a b : ℕ) → 1 ≤ a → 1 ≤ b → 1 ≤ a * b
 product_of_ones zero b h k = absurd (omega arith)
@@ -86,7 +87,7 @@ arrays_of e (array n u ∷ ts) h =
     let rest = arrays_of e ts p.1 in
     let all : ts ≡ map (λ (n : ℕ). array n e) rest.0 = rest.1 in
     let sum : length_joined (Some e) ts ≡ Some (total rest.0) = rest.2 in
-    let one : elements_in (Some e) (array n u) ≡ Some n = ap (λ b. cond b (Some n) None) (not_false (same_type u e) p.0) in
+    let one : elements_in (Some e) (array n u) ≡ Some n = ap (λ b. cond b (Some n) None) (not-false (same_type u e) p.0) in
     (n ∷ rest.0, cc, ap (λ m. sum_of m (length_joined (Some e) ts)) one ∙ ap (sum_of (Some n)) sum)
 arrays_of e (int w ∷ ts) h = absurd (apart h)
 arrays_of e (clock ∷ ts) h = absurd (apart h)

@@ -2,7 +2,7 @@
 use Rattle.std.proofs.Common.{◌≡◌, ℕ, ◌+◌, ◌*◌, ◌/◌, ◌%◌, ◌<◌, ◌≤◌, ◌==◌, true, false, not, ◌||◌, List, [], ◌∷◌, map, length, refl, sym, ap, subst, ◌∙◌, arith}
 use Rattle.std.specs.Prelude.{Some, slice_get}
 use Rattle.std.specs.List.{list_any}
-use Rattle.std.proofs.lemmas.Bool.{ltb-false, eqb-true}
+use Rattle.std.proofs.lemmas.Bool.{ltb-false, eqb-true, not-false}
 use Rattle.std.proofs.lemmas.Bool.Decides.{nat_tests}
 use Rattle.wiring.specs.Lists.{total}
 use Rattle.hw_model.specs.Types.{HwType, width}
@@ -13,7 +13,7 @@ use Rattle.op_checks.specs.TypeChecks.{is_int}
 use Rattle.op_checks.specs.TypeLists.{known_types, int_width, differs, any_differs, differ, differ_in_two, differ_in_three}
 use Rattle.op_checks.specs.LimitChecks.{of_both, reaches_past, is_no_multiple, is_too_wide}
 use Rattle.op_checks.proofs.Widths.{neither}
-use Rattle.op_checks.proofs.Agreeing.{not_false, agreed, all_agreed, one_agreed, two_agreed, pairwise_agreed, single}
+use Rattle.op_checks.proofs.Agreeing.{agreed, all_agreed, one_agreed, two_agreed, pairwise_agreed, single}
 
 pub apart : true ≡ false → ⊥
 apart h = cc
@@ -72,7 +72,7 @@ whole_copies : (w v : ℕ) → (w == 0) || ((v == 0) || not (v % w == 0)) ≡ fa
 whole_copies w v h =
     let a = neither (w == 0) _ h in
     let b = neither (v == 0) _ a.1 in
-    let c : v % w ≡ 0 = eqb-true (v % w) 0 (not_false (v % w == 0) b.1) in
+    let c : v % w ≡ 0 = eqb-true (v % w) 0 (not-false (v % w == 0) b.1) in
     let p : 0 < w = grind (arith, nat_tests, a.0) in
     (p, grind arith)
 

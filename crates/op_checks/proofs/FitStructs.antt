@@ -17,8 +17,9 @@ use Rattle.op_checks.specs.LiteralChecks.{literal_count, literal_differs, any_li
 use Rattle.op_checks.specs.OperandChecks.{parts_differ, register_differs}
 use Rattle.op_checks.specs.CountChecks.{reset_operands, parts_miscounted}
 use Rattle.op_checks.proofs.Widths.{neither}
-use Rattle.op_checks.proofs.Agreeing.{not_false, same_number, agreed, all_agreed, one_agreed, pairwise_agreed, single}
+use Rattle.op_checks.proofs.Agreeing.{same_number, agreed, all_agreed, one_agreed, pairwise_agreed, single}
 use Rattle.op_checks.proofs.FitIntegers.{apart, none_left, pair_agreed}
+use Rattle.std.proofs.lemmas.Bool.{not-false}
 
 -- ---- aggregate constants
 
@@ -27,7 +28,7 @@ one_more a b n w e f = grind arith
 
 mutual
   literal_fits : (l : Literal) (t : HwType) → literal_differs l t ≡ false → is_miscounted l t ≡ false → literal_width l ≡ width t
-  literal_fits (leaf z u) (int w) h m = ap width (type_from u (int w) (not_false (same_type u (int w)) h))
+  literal_fits (leaf z u) (int w) h m = ap width (type_from u (int w) (not-false (same_type u (int w)) h))
   literal_fits (leaf z u) clock h m = absurd (apart h)
   literal_fits (leaf z u) (array n t) h m = absurd (apart h)
   literal_fits (leaf z u) (struct fs) h m = absurd (apart h)
@@ -85,7 +86,7 @@ construction (clock ∷ []) rs us k t n m o f h d e = absurd (apart f)
 construction (array c v ∷ []) rs us k t n m o f h d e = absurd (apart f)
 construction (u ∷ v ∷ ts) rs us k t n m o f h d e = absurd (omega arith)
 
-is_some_type : (x : Option HwType) → is_none x ≡ false → (t : HwType) × (x ≡ Some t)
+pub is_some_type : (x : Option HwType) → is_none x ≡ false → (t : HwType) × (x ≡ Some t)
 is_some_type None h = absurd (apart h)
 is_some_type (Some t) h = (t, refl)
 

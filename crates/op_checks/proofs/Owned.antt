@@ -50,7 +50,3 @@ pub own_index : (rs : List NewResult) (n : ℕ) (r : NewResult) → n < length r
 own_index [] n r low is = absurd (omega arith)
 own_index (x ∷ rs) zero r low is = ap (λ (y : NewResult). Some (type_of y.ty)) is
 own_index (x ∷ rs) (suc n) r low is = own_index rs n r (omega arith) is
-
-pub denied : (b : Bool) → not b ≡ true → b ≡ false
-denied true is = cc
-denied false is = refl

@@ -1,5 +1,5 @@
 -- The types that an operation settles for its results, where nothing is refused of it by itself: they are those of its results.
-use Rattle.std.proofs.Common.{◌≡◌, ℕ, ◌+◌, max, Bool, false, cond, not, List, [], ◌∷◌, drop, length, is_none, Option, Some, None, refl, sym, ap, ◌∙◌, arith}
+use Rattle.std.proofs.Common.{◌≡◌, ℕ, ◌+◌, max, Bool, false, cond, not, List, [], ◌∷◌, drop, length, Option, Some, None, refl, sym, ap, ◌∙◌, arith}
 use Rattle.std.specs.List.{list_any}
 use Rattle.std.proofs.lemmas.List.{length-drop}
 use Rattle.hw_model.specs.Types.{HwType}
@@ -17,8 +17,10 @@ use Rattle.op_checks.specs.OperandChecks.{is_no_array_of, has_other_array, has_o
 use Rattle.op_checks.specs.LimitChecks.{has_unknown_field}
 use Rattle.op_checks.specs.CountChecks.{operands_written, operand_count, type_count}
 use Rattle.op_checks.proofs.Widths.{neither}
-use Rattle.op_checks.proofs.Agreeing.{not_false, pairwise_agreed}
+use Rattle.op_checks.proofs.Agreeing.{pairwise_agreed}
 use Rattle.op_checks.proofs.NoOwnCause.{NoOwnCause}
+use Rattle.op_checks.proofs.FitStructs.{is_some_type}
+use Rattle.std.proofs.lemmas.Bool.{not-false}
 
 -- ---- the types that are settled
 
@@ -66,7 +68,7 @@ length_known : (e : HwType) (ts : List HwType) → list_any (is_no_array_of (Som
 length_known e [] h = (0, refl)
 length_known e (array n t ∷ ts) h =
     let split = neither (is_no_array_of (Some e) (array n t)) (list_any (is_no_array_of (Some e)) ts) h in
-    let one : elements_in (Some e) (array n t) ≡ Some n = ap (λ b. cond b (Some n) None) (not_false (same_type t e) split.0) in
+    let one : elements_in (Some e) (array n t) ≡ Some n = ap (λ b. cond b (Some n) None) (not-false (same_type t e) split.0) in
     let rest = length_known e ts split.1 in
     (n + rest.0, ap (λ m. sum_of m (length_joined (Some e) ts)) one ∙ ap (sum_of (Some n)) rest.1)
 length_known e (int w ∷ ts) h = cc
@@ -89,10 +91,6 @@ joined_arrays (array c e ∷ ts) n some count h =
 joined_arrays (int w ∷ ts) n some count h = cc
 joined_arrays (clock ∷ ts) n some count h = cc
 joined_arrays (struct fs ∷ ts) n some count h = cc
-
-field_known : (x : Option HwType) → is_none x ≡ false → (t : HwType) × (x ≡ Some t)
-field_known None h = cc
-field_known (Some t) h = (t, refl)
 
 fields_known : (x : Option HwType) → Settles (fields_of x) (field_count x)
 fields_known None = record { us = []; same = refl; number = refl }
@@ -133,7 +131,7 @@ settles_all (on_array array_get) ts n form field operands types =
     one (element_of (first_type ts)) u.0 u.1
 settles_all (on_array array_inject) ts n form field operands types = let t = first_of_two ts types in one (first_type ts) t.0 t.1
 settles_all (on_struct (struct_extract name)) ts n form field operands types =
-    let t = field_known (field_of (first_type ts) name) field in one (field_of (first_type ts) name) t.0 t.1
+    let t = is_some_type (field_of (first_type ts) name) field in one (field_of (first_type ts) name) t.0 t.1
 settles_all (on_struct struct_explode) ts n form field operands types = fields_known (first_type ts)
 settles_all (instance i) ts n form field operands types =
     record { us = drop (length i.inputs) ts; same = refl; number = length-drop (length i.inputs) ts }

@@ -1,6 +1,6 @@
 -- In a design of which nothing is refused asynchronous resets come from input ports, and reset to constants.
 use Rattle.std.proofs.Common.{◌≡◌, ℕ, zero, suc, ◌<◌, nat_eq, Bool, true, false, cond, ◌&&◌, is_some, List, [], ◌∷◌, map, length, take, slice_get, Option, Some, None, refl, sym, ap, ap₂, ◌∙◌, arith, eqb-true}
-use Rattle.std.proofs.lemmas.Bool.{eqb-false}
+use Rattle.std.proofs.lemmas.Bool.{eqb-false, not-false}
 use Rattle.std.proofs.lemmas.Option.{slice_get_within}
 use Rattle.wiring.specs.Options.{omap}
 use Rattle.wiring.specs.Wiring.{In}
@@ -24,10 +24,11 @@ use Rattle.port_checks.proofs.Least.{reset_some, is_sound, is_complete}
 use Rattle.op_verifier.specs.Faults.{first_fault}
 use Rattle.op_verifier.specs.ResetChecks.{is_input_port, is_no_input, is_constant_op, is_constant_ref, has_other_reset, joins_other, has_other_join}
 use Rattle.op_verifier.proofs.NoCauseAlone.{no_cause_alone, result_number}
-use Rattle.op_verifier.proofs.Unrefused.{not_false, NoOpCause, no_op_cause, ops_unrefused, module_unrefused}
-use Rattle.op_verifier.proofs.SoundDesigns.{both_true, sound_design}
+use Rattle.op_verifier.proofs.Unrefused.{NoOpCause, no_op_cause, ops_unrefused, module_unrefused}
+use Rattle.op_verifier.proofs.SoundDesigns.{sound_design}
 use Rattle.op_verifier.proofs.WholeDesigns.{some_from}
 use Rattle.op_checks.proofs.Widths.{neither}
+use Rattle.hw_model.specs.Equality.{both_of}
 
 -- ---- values
 
@@ -56,7 +57,7 @@ input_typed : (ports : List Port) (os : List Op) (r : Ref) (i : IsInput ports r)
 input_typed ports os r i =
     ap (type_in ports os) i.is_port ∙ ap input_type i.there ∙ ap (λ (b : Bool). cond b None (Some i.port_of.type)) i.inward
 
-constant_is : (os : List Op) (r : Ref) → is_constant_ref os r ≡ true → IsConstantOf os r
+pub constant_is : (os : List Op) (r : Ref) → is_constant_ref os r ≡ true → IsConstantOf os r
 constant_is os (port j) h = cc
 constant_is os (result j k) h = go (slice_get os j) refl h
   where
@@ -105,7 +106,7 @@ joins_input resets ports joined (suc n) k q none less resets_k joins = go (nat_e
     go : (b : Bool) → nat_eq k n ≡ b → (k < n → is_input_port ports q ≡ true) → is_input_port ports q ≡ true
     go true e rest =
         let same : n ≡ k = sym (eqb-true k n e) in
-        not_false (is_input_port ports q)
+        not-false (is_input_port ports q)
         (ap₂ (λ (b : Bool) (x : Option Ref). b && is_no_input ports x) (sym (ap resets same ∙ resets_k)) (sym (ap joined same ∙ joins)) ∙ both.1)
     go false e rest = rest (below_unless k n (omega (arith, less)) (eqb-false k n e))
 
@@ -159,8 +160,8 @@ module _ (d : Design) (no_fault : first_fault d ≡ None) (s : Name) (m : Module
   -- the reset of a register that has an asynchronous one is an input port, and its value a constant
   parts_told : (o : Op) (r : ResetBy) → In o m.body → async_reset_in o ≡ Some r → (is_input_port m.ports r.signal ≡ true) × (is_constant_ref m.body r.value ≡ true)
   parts_told o r within is =
-      both_true (is_input_port m.ports r.signal) (is_constant_ref m.body r.value)
-      (not_false (is_input_port m.ports r.signal && is_constant_ref m.body r.value)
+      both_of (is_input_port m.ports r.signal) (is_constant_ref m.body r.value)
+      (not-false (is_input_port m.ports r.signal && is_constant_ref m.body r.value)
       (ap (has_other_reset m.ports m.body) (sym is) ∙ (unrefused o within).no_cause.reset))
 
   signal_typed : (o : Op) (r : ResetBy) → In o m.body → async_reset_in o ≡ Some r → type_in m.ports m.body r.signal ≡ Some (int 1)

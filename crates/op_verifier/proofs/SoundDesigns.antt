@@ -20,35 +20,25 @@ use Rattle.op_verifier.specs.Faults.{first_fault}
 use Rattle.op_checks.proofs.Fitting.{fits, instance_types, output_types as outputs_typed}
 use Rattle.op_verifier.proofs.NoCauseAlone.{types_of, no_cause_alone}
 use Rattle.op_checks.proofs.Settled.{settles}
-use Rattle.op_verifier.proofs.Unrefused.{when_none, not_false, no_op_cause, no_header_cause, IsUnrefused, ops_unrefused, module_unrefused}
+use Rattle.op_verifier.proofs.Unrefused.{when_none, no_op_cause, no_header_cause, IsUnrefused, ops_unrefused, module_unrefused}
+use Rattle.hw_model.specs.Equality.{both_of}
+use Rattle.op_verifier.proofs.WholeDesigns.{some_from}
+use Rattle.std.proofs.lemmas.Bool.{not-false}
 
 -- ---- small facts
 
-some_from : {A : Type 0} {a b : A} → Some a ≡ Some b → a ≡ b
-some_from {a = a} h = ap (λ (o : Option _). value a o) h
-  where
-    value : {A : Type 0} → A → Option A → A
-    value d None = d
-    value d (Some x) = x
-
-known_at : (ts : List HwType) (k : ℕ) → slice_index_or (known_types ts) k None ≡ slice_get ts k
+pub known_at : (ts : List HwType) (k : ℕ) → slice_index_or (known_types ts) k None ≡ slice_get ts k
 known_at [] zero = refl
 known_at [] (suc k) = refl
 known_at (t ∷ ts) zero = refl
 known_at (t ∷ ts) (suc k) = known_at ts k
-
-pub both_true : (p q : Bool) → (p && q) ≡ true → (p ≡ true) × (q ≡ true)
-both_true true true h = (refl, refl)
-both_true true false h = cc
-both_true false true h = cc
-both_true false false h = cc
 
 same_types : (ts us : List HwType) → pointwise same_type ts us ≡ true → ts ≡ us
 same_types [] [] h = refl
 same_types [] (u ∷ us) h = cc
 same_types (t ∷ ts) [] h = cc
 same_types (t ∷ ts) (u ∷ us) h =
-    let p = both_true (same_type t u) (pointwise same_type ts us) h in
+    let p = both_of (same_type t u) (pointwise same_type ts us) h in
     let e : t ≡ u = type_from t u p.0 in
     let f : ts ≡ us = same_types ts us p.1 in cc
 
@@ -147,9 +137,9 @@ instance_fits d ports os all o h i is = go (find_module d i.symbol) refl called
         → (c : Module) × (find_module d i.symbol ≡ Some c) × (map (type_in ports os) o.operands ≡ known_types (input_types c.ports)) × (types_of o.results ≡ output_types c.ports)
     go None e f = cc
     go (Some c) e f =
-        let named = not_false (names_ports i o.types c.ports) (when_none (not (names_ports i o.types c.ports)) InstancePorts f) in
-        let halves = both_true _ _ named in
-        let types = both_true _ _ halves.1 in
+        let named = not-false (names_ports i o.types c.ports) (when_none (not (names_ports i o.types c.ports)) InstancePorts f) in
+        let halves = both_of _ _ named in
+        let types = both_of _ _ halves.1 in
         let ins = same_types (take (length i.inputs) o.types) (input_types c.ports) types.0 in
         let outs = same_types (drop (length i.inputs) o.types) (output_types c.ports) types.1 in
         (c, e, x.operands ∙ ap known_types (typed.0 ∙ ins), typed.1 ∙ outs)
@@ -179,7 +169,7 @@ outputs_fit d ports os all there =
     let x = known_op d ports os all o h in
     let others = (no_op_cause d ports os h.last o h.none).outputs in
     let types : o.types ≡ output_types ports = same_types o.types (output_types ports)
-    (not_false (pointwise same_type o.types (output_types ports)) (ap (λ (b : Bool). b && not (pointwise same_type o.types (output_types ports))) (sym got.3) ∙ others)) in
+    (not-false (pointwise same_type o.types (output_types ports)) (ap (λ (b : Bool). b && not (pointwise same_type o.types (output_types ports))) (sym got.3) ∙ others)) in
     let operands : x.us ≡ o.types = outputs_typed o.types (types_of o.results) o.named x.us (divides_by_constant os o.operands)
     (ap (λ (k : Kind). own_cause k o.types (types_of o.results) o.named (known_types x.us) (divides_by_constant os o.operands)) (sym kind) ∙ x.none) in
     ap (map (type_in ports os)) got.4 ∙ x.operands ∙ ap known_types (operands ∙ types)

@@ -13,6 +13,7 @@ use Rattle.op_checks.specs.TypeChecks.{is_outside, has_bad_field}
 use Rattle.op_verifier.specs.Headers.{has_port, has_wrong_clock, has_twice, has_output, ports_cause, names_cause, header_cause}
 use Rattle.op_verifier.specs.Faults.{op_refusal, header_refusal, is_empty, body_fault, module_fault, faults_from, first_fault}
 use Rattle.op_checks.proofs.Widths.{neither}
+use Rattle.std.proofs.lemmas.Bool.{not-false}
 
 pub or_none : {A : Type 0} (a b : Option A) → or_else a b ≡ None → (a ≡ None) × (b ≡ None)
 or_none None b h = (refl, h)
@@ -25,10 +26,6 @@ map_none f (Some x) h = cc
 pub when_none : (b : Bool) (c : Cause) → when b c ≡ None → b ≡ false
 when_none false c h = refl
 when_none true c h = cc
-
-pub not_false : (b : Bool) → not b ≡ false → b ≡ true
-not_false true h = refl
-not_false false h = cc
 
 -- what holds of an operation of a body that is refused for no cause, `last` saying whether it is the last
 pub record NoOpCause (d : Design) (ports : List Port) (os : List Op) (last : Bool) (o : Op) : Type 0 where
@@ -87,7 +84,7 @@ no_header_cause d n m h =
       clocks = when_none (has_port has_wrong_clock m.ports) ClockOperand e.1;
       symbol = when_none (is_some (find_module (take n d) m.symbol)) DuplicateSymbol f.0;
       names = when_none (has_twice (map (λ (q : Port). q.name) m.ports)) DuplicatePort g.0;
-      ends = not_false (has_output m.body) (when_none (not (has_output m.body)) MissingOutput g.1);
+      ends = not-false (has_output m.body) (when_none (not (has_output m.body)) MissingOutput g.1);
     }
 
 -- what is refused of no operation, each by itself

@@ -9,8 +9,9 @@ use Rattle.hw_model.specs.Kinds.{Instance}
 use Rattle.hw_model.specs.Design.{Op, Module, Design, same_name, find_module, instance_in, callee}
 use Rattle.port_checks.specs.ResetPorts.{IsBitInput, IsResetPort, is_bit_input, makes_reset, is_reset_within, port_count, is_reset_port}
 use Rattle.port_checks.specs.ResetPorts.IsResetPort.{named, joined}
-use Rattle.port_checks.proofs.Booleans.{and_left, and_right, and_both, any_some, any_member}
+use Rattle.port_checks.proofs.Booleans.{and_left, and_right, any_some, any_member}
 use Rattle.port_checks.proofs.ResetTests.{Names, Joins, bit_input_some, some_bit_input, bit_input_within, makes_some, some_names_makes, some_joins_makes}
+use Rattle.std.proofs.lemmas.Bool.{and_from}
 
 -- ---- modules that are called
 
@@ -45,7 +46,7 @@ module _ (d : Design) where
   some_reset : (n : ℕ) (m : Module) (j : ℕ) (o : Op) → IsBitInput m j → In o m.body → makes_reset d (is_reset_within n d) j o ≡ true
       → is_reset_within (suc n) d m j ≡ true
   some_reset n m j o is here makes =
-      and_both (is_bit_input (slice_get m.ports j)) (list_any (makes_reset d (is_reset_within n d) j) m.body) (some_bit_input m j is)
+      and_from (is_bit_input (slice_get m.ports j)) (list_any (makes_reset d (is_reset_within n d) j) m.body) (some_bit_input m j is)
       (any_member (makes_reset d (is_reset_within n d) j) m.body o here makes)
 
   pub reset_named : (n : ℕ) (m : Module) (j : ℕ) (o : Op) → IsBitInput m j → In o m.body → Names j o → is_reset_within (suc n) d m j ≡ true

@@ -11,7 +11,8 @@ use Rattle.hw_model.specs.Flat.{ResetBy, async_reset_in, port_ref, operand_for, 
 use Rattle.diag.specs.declared.cause.Cause.{Cause}
 use Rattle.port_checks.specs.InstanceChecks.{instance_cause}
 use Rattle.port_checks.specs.ResetPorts.{IsBitInput, is_bit_type, is_bit_input, is_port, names_port, joins_below, joins_marked, makes_reset}
-use Rattle.port_checks.proofs.Booleans.{and_left, and_right, and_both, or_cases, or_left, or_right, not_true}
+use Rattle.port_checks.proofs.Booleans.{and_left, and_right}
+use Rattle.std.proofs.lemmas.Bool.{not-true, and_from, or_left, or_right, or_cases}
 
 -- ---- one port
 
@@ -29,13 +30,13 @@ bit_input_some m j h = go (slice_get m.ports j) refl h
     go (Some q) e is = record {
       port_there = q;
       there = e;
-      is_input = not_true q.is_output (and_left (not q.is_output) (is_bit_type q.type) is);
+      is_input = not-true q.is_output (and_left (not q.is_output) (is_bit_type q.type) is);
       is_bit = bit_is_int q.type (and_right (not q.is_output) (is_bit_type q.type) is);
     }
 
 pub some_bit_input : (m : Module) (j : ℕ) → IsBitInput m j → is_bit_input (slice_get m.ports j) ≡ true
 some_bit_input m j is =
-    ap is_bit_input is.there ∙ and_both (not is.port_there.is_output) (is_bit_type is.port_there.type) (ap not is.is_input) (ap is_bit_type is.is_bit)
+    ap is_bit_input is.there ∙ and_from (not is.port_there.is_output) (is_bit_type is.port_there.type) (ap not is.is_input) (ap is_bit_type is.is_bit)
 
 pub bit_input_within : (m : Module) (j : ℕ) → IsBitInput m j → j < length m.ports
 bit_input_within m j is = slice_get_within m.ports j is.port_there is.there
@@ -98,7 +99,7 @@ module _ (marked : ℕ → Bool) (ports : List Port) (operands : List Ref) (j : 
       go : (k ≡ n) ⊎ (k < n) → (k < n → joins_below marked ports operands j n ≡ true) → joins_below marked ports operands j (suc n) ≡ true
       go (inl same) rest =
           or_left (marked n && is_port j (port_ref ports operands n)) (joins_below marked ports operands j n)
-          (and_both (marked n) (is_port j (port_ref ports operands n)) (ap marked (sym same) ∙ has)
+          (and_from (marked n) (is_port j (port_ref ports operands n)) (ap marked (sym same) ∙ has)
           (some_is_port j (port_ref ports operands n) (ap (port_ref ports operands) (sym same) ∙ is)))
       go (inr less) rest =
           or_right (marked n && is_port j (port_ref ports operands n)) (joins_below marked ports operands j n) (rest less)
@@ -134,7 +135,7 @@ module _ (d : Design) (marked : Module → ℕ → Bool) (j : ℕ) (o : Op) wher
   pub some_joins_makes : (c : Module) (k : ℕ) → Joins d j o c k → marked c k ≡ true → makes_reset d marked j o ≡ true
   some_joins_makes c k (found, allowed, joined) has =
       or_right (names_port j o) (not (is_some (instance_cause d o.types (instance_in o.kind))) && joins_marked marked j o (callee d o))
-      (and_both (not (is_some (instance_cause d o.types (instance_in o.kind)))) (joins_marked marked j o (callee d o))
+      (and_from (not (is_some (instance_cause d o.types (instance_in o.kind)))) (joins_marked marked j o (callee d o))
       (ap (λ x. not (is_some x)) allowed)
       (ap (joins_marked marked j o) found
       ∙ some_below (marked c) c.ports o.operands j (length c.ports) k (port_ref_within c.ports o.operands k (port j) joined) has joined))

@@ -12,7 +12,7 @@ use Rattle.port_checks.proofs.Booleans.{same_tests}
 back : (a b : Name) → same_name a b ≡ true → same_name b a ≡ true
 back a b h = let e : a ≡ b = same_text a b (sym h) in ap (λ x. same_name x a) (sym e) ∙ name_self a
 
-both_ways : (a b : Name) → same_name a b ≡ same_name b a
+pub both_ways : (a b : Name) → same_name a b ≡ same_name b a
 both_ways a b = same_tests (same_name a b) (same_name b a) (back a b) (back b a)
 
 pub module_place : (q : Name) (d : Design) → bind (symbol_place q (map (λ (m : Module). m.symbol) d)) (slice_get d) ≡ find_module d q

@@ -10,6 +10,7 @@ use Rattle.resolution_proof.specs.Literal.{is_on, holds}
 use Rattle.resolution_proof.specs.Clause.{is_subset, without}
 use Rattle.resolution_proof.specs.Replay.{learnt_clauses, is_number, clause_at, fits, resolvent_by, is_chain, chain_end, survives, covers, chain_of, names_chain, derives, replays_from}
 use Rattle.resolution_proof.proofs.Sets.{holds-resolvent}
+use Rattle.std.proofs.Math.Bool.{or-false}
 
 pub and-true : (b : Bool) → (b && true) ≡ b
 and-true true = refl
@@ -58,10 +59,6 @@ chain_step known a hs h l off =
 or-true : (b : Bool) → (b || true) ≡ true
 or-true true = refl
 or-true false = refl
-
-or-false : (b : Bool) → (b || false) ≡ b
-or-false true = refl
-or-false false = refl
 
 pub chain_found : (known : List (List Literal)) (a : List Literal) (hs : List Hint) (h : Hint) (l : Literal) → is_on h.pivot l ≡ false → holds (clause_at known h.clause) l ≡ true → holds (chain_end known a (hs ++ h ∷ [])) l ≡ true
 chain_found known a hs h l off found = chain_step known a hs h l off ∙ ap (λ (b : Bool). holds (chain_end known a hs) l || b) found ∙ or-true (holds (chain_end known a hs) l)

@@ -40,7 +40,7 @@ pub constant_kind : (kind : Kind) → is_constant_kind kind ≡ true → (z : �
 constant_kind (constant z) is = (z, refl)
 constant_kind _ is = absurd (false≢true is)
 
-division_types : (kind : Kind) (ts : List HwType) (xs : List (Option HwType)) (t : HwType) (k : ℕ) → is_division kind ≡ true → Fits kind ts xs t k
+pub division_types : (kind : Kind) (ts : List HwType) (xs : List (Option HwType)) (t : HwType) (k : ℕ) → is_division kind ≡ true → Fits kind ts xs t k
     → xs ≡ Some t ∷ Some t ∷ []
 division_types (division d) ts xs t k is fits = fits
 division_types _ ts xs t k is fits = absurd (false≢true is)

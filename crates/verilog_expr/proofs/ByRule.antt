@@ -1,6 +1,6 @@
 -- The wires of a body are those that the rule gives.
 use Rattle.std.proofs.Common.{◌≡◌, ℕ, zero, suc, ◌<◌, ◌≤◌, Bool, true, false, cond, not, ◌&&◌, ◌||◌, ◌↔◌, nat_eq, nat_le, nat_lt, ◌⊎◌, List, [], ◌∷◌, map, Option, Some, None, is_some, slice_get, refl, sym, ap, subst, ◌∙◌, inl, inr, eq-eqb, arith}
-use Rattle.std.proofs.lemmas.Bool.{leb-true, leb-false, ltb-true, ltb-false, eqb-true}
+use Rattle.std.proofs.lemmas.Bool.{leb-true, leb-false, ltb-true, ltb-false, eqb-true, and_from, or_left, or_right, or_cases}
 use Rattle.wiring.specs.Wiring.{In, greatest, IsAcyclic}
 use Rattle.wiring.proofs.Members.{from_In-map, map_same}
 use Rattle.wiring.proofs.Heights.{greatest-le}
@@ -22,25 +22,9 @@ use Rattle.verilog_expr.proofs.Heights.{heights_hold}
 
 -- ---- tests and what they say
 
-or_cases : (a b : Bool) → (a || b) ≡ true → (a ≡ true) ⊎ (b ≡ true)
-or_cases true b h = inl refl
-or_cases false b h = inr h
-
-or_left : (a b : Bool) → a ≡ true → (a || b) ≡ true
-or_left true b h = refl
-or_left false b h = cc
-
-or_right : (a b : Bool) → b ≡ true → (a || b) ≡ true
-or_right true b h = refl
-or_right false b h = h
-
 and_both : (a b : Bool) → (a && b) ≡ true → (a ≡ true) × (b ≡ true)
 and_both true b h = (refl, h)
 and_both false b h = cc
-
-and_true : (a b : Bool) → a ≡ true → b ≡ true → (a && b) ≡ true
-and_true true b p q = q
-and_true false b p q = cc
 
 and_false : (a : Bool) → (a && false) ≡ false
 and_false true = refl
@@ -51,7 +35,7 @@ same_number n = eq-eqb n n refl
 
 same_itself : (r : Ref) → same_ref r r ≡ true
 same_itself (port j) = same_number j
-same_itself (result i k) = and_true (nat_eq i i) (nat_eq k k) (same_number i) (same_number k)
+same_itself (result i k) = and_from (nat_eq i i) (nat_eq k k) (same_number i) (same_number k)
 same_itself undefined = refl
 
 same_told : (x r : Ref) → same_ref x r ≡ true → x ≡ r
@@ -99,7 +83,7 @@ some_passes p (o ∷ os) h = go (or_cases (p o) (some_op p os) h) (some_passes p
   go (inl here) rest = (0, o, refl, here)
   go (inr later) rest = let found = rest later in (suc found.0, found.1, found.2, found.3)
 
-passes_some : (p : Op → Bool) (os : List Op) (i : ℕ) (o : Op) → slice_get os i ≡ Some o → p o ≡ true → some_op p os ≡ true
+pub passes_some : (p : Op → Bool) (os : List Op) (i : ℕ) (o : Op) → slice_get os i ≡ Some o → p o ≡ true → some_op p os ≡ true
 passes_some p [] i o there h = cc
 passes_some p (q ∷ os) zero o there h = let e : q ≡ o = cc in or_left (p q) (some_op p os) (ap p e ∙ h)
 passes_some p (q ∷ os) (suc i) o there h = or_right (p q) (some_op p os) (passes_some p os i o there h)
@@ -112,7 +96,7 @@ module _ (ports : List Port) (os : List Op) where
       record { place = found.0; op = found.1; there = found.2; operand = has_place r found.1.operands both.1; narrower = both.0 }
 
   told_cut : (r : Ref) → IsCut ports os r → some_op (cuts ports os r) os ≡ true
-  told_cut r is = passes_some (cuts ports os r) os is.place is.op is.there (and_true _ _ is.narrower (place_had r is.op.operands is.operand))
+  told_cut r is = passes_some (cuts ports os r) os is.place is.op is.there (and_from _ _ is.narrower (place_had r is.op.operands is.operand))
 
   joined_told : (r : Ref) → some_op (joins r) os ≡ true → IsJoined os r
   joined_told r h =
@@ -121,7 +105,7 @@ module _ (ports : List Port) (os : List Op) where
       record { place = found.0; op = found.1; there = found.2; operand = has_place r found.1.operands both.1; instance = both.0 }
 
   told_joined : (r : Ref) → IsJoined os r → some_op (joins r) os ≡ true
-  told_joined r is = passes_some (joins r) os is.place is.op is.there (and_true _ _ is.instance (place_had r is.op.operands is.operand))
+  told_joined r is = passes_some (joins r) os is.place is.op is.there (and_from _ _ is.instance (place_had r is.op.operands is.operand))
 
   hint_told : (h : Name) → is_nonempty h ≡ true → h ≡ [] → ⊥
   hint_told [] some none = cc

@@ -1,16 +1,16 @@
 -- The expression of an operation, by the template of its kind.
-use Rattle.std.proofs.Common.{◌≡◌, ℕ, suc, ◌+◌, ◌-◌, ◌/◌, ◌≤◌, ◌≢◌, Bool, true, false, cond, ◌&&◌, ◌==◌, nat_le, List, [], ◌∷◌, length, None, decimal, refl, sym, ap, subst, ◌∙◌, arith, ne_eqb}
+use Rattle.std.proofs.Common.{◌≡◌, ℕ, suc, ◌+◌, ◌-◌, ◌/◌, ◌≤◌, ◌≢◌, Bool, true, false, cond, ◌&&◌, ◌==◌, List, [], ◌∷◌, length, None, decimal, refl, sym, ap, subst, ◌∙◌, arith, ne_eqb}
 use Rattle.hw_model.specs.Kinds.{Kind, Predicate, Variadic, Division, Shift}
 use Rattle.hw_model.specs.Kinds.Predicate.{eq, ne, slt, sle, sgt, sge, ult, ule, ugt, uge, ceq, cne, weq, wne}
 use Rattle.hw_model.specs.Kinds.Kind.{variadic, sub, division, shift, icmp, parity, extract, concat, replicate, mux, constant, bitcast, wire}
 use Rattle.verilog_model.specs.Tree as tree
 use Rattle.verilog_model.specs.Tree.{Expr}
-use Rattle.verilog_model.specs.Tree.Expr.{name, bit_select, part_select, literal, joined, repeated, as_signed, as_unsigned, paren, odd, binary, choice}
+use Rattle.verilog_model.specs.Tree.Expr.{name, bit_select, part_select, repeated, odd, binary}
 use Rattle.verilog_model.specs.Tree.Exprs.{last}
 use Rattle.verilog_model.specs.Grammar.{level, strength, primary_level}
 use Rattle.verilog_model.specs.Expression.{Context, is_signed, context_of, binary_signed}
 use Rattle.verilog_model.specs.Expression.Context.{both_operands, left_operand, no_operand}
-use Rattle.verilog_expr.specs.Building.{no_expr, literal_of, unsigned, parenthesize, unsigned_at, of_one_expr, of_two_exprs, of_three_exprs, unsigned_pair, chain, variadic_expr, signed_pair, unsigned_shift, signed_shift, unsigned_division, signed_division, comparison, select, select_bits, concatenation, conditional, first_width, kind_expr, division_expr, shift_expr, variadic_operator, division_operator, shift_operator, is_signed_division, is_signed_shift}
+use Rattle.verilog_expr.specs.Building.{no_expr, literal_of, parenthesize, unsigned_at, of_one_expr, of_two_exprs, of_three_exprs, unsigned_pair, chain, variadic_expr, signed_pair, unsigned_shift, unsigned_division, signed_division, comparison, select, select_bits, concatenation, conditional, first_width, kind_expr, division_expr, shift_expr, variadic_operator, division_operator, shift_operator, is_signed_division, is_signed_shift}
 use Rattle.verilog_expr.specs.Text.{expr_text}
 use Rattle.verilog_expr.specs.Forms.{operator_of, operator_in_code}
 use Rattle.verilog_expr.specs.Templates.{chain_template, template_of_count, division_form, shift_form, comparison_form, extract_template, template_for, template_text, template_signed, template_level}
@@ -18,11 +18,12 @@ use Rattle.verilog_expr.specs.ExprNode.{sole_name, template_name}
 use Rattle.verilog_expr.specs.declared.form.Operator.{Operator}
 use Rattle.verilog_expr.specs.declared.form.Operator.TheVariants as signs
 use Rattle.verilog_expr.specs.declared.form.Form.{Form}
-use Rattle.verilog_expr.specs.declared.form.Form.TheVariants.{Same, Chain, SignedPair, UnsignedShift, SignedShift, UnsignedDivision, SignedDivision, Parity, Braces, Copies, Choice}
+use Rattle.verilog_expr.specs.declared.form.Form.TheVariants.{Same, Chain, SignedPair, UnsignedShift, UnsignedDivision, SignedDivision, Parity, Braces, Copies, Choice}
 use Rattle.verilog_expr.specs.declared.template.Template.{Template}
 use Rattle.verilog_expr.specs.declared.template.Template.TheVariants.{Missing, Select, Operands}
 use Rattle.verilog_expr.proofs.Operators.{division_context, shift_context, operator_back}
 use Rattle.verilog_expr.proofs.FormTexts.{same_text, chain_text, signed_pair_text, unsigned_shift_text, signed_shift_text, unsigned_division_text, signed_division_text, parity_text, braces_text, copies_text, choice_text}
+use Rattle.verilog_expr.proofs.Signed.{select_unsigned, unsigned_at_signed, unsigned_signed}
 
 -- an expression is that of a template over others
 pub record IsTemplate (e : Expr) (template : Template) (es : List Expr) : Type 0 where
@@ -38,23 +39,6 @@ same_is : (a : Expr) → IsTemplate a (Operands Same) (a ∷ [])
 same_is a = record { text = same_text a; signed = refl; level_is = refl; called = refl }
 
 -- ---- signs
-
-unsigned_not : (e : Expr) → is_signed (unsigned e) ≡ false
-unsigned_not e = go (is_signed e) refl
-  where
-    go : (b : Bool) → is_signed e ≡ b → is_signed (cond b (as_unsigned e) e) ≡ false
-    go true is = refl
-    go false is = is
-
-placed_sign : (l : ℕ) (e : Expr) → is_signed (parenthesize l e) ≡ is_signed e
-placed_sign l e = go (nat_le l (level e))
-  where
-    go : (b : Bool) → is_signed (cond b e (paren e)) ≡ is_signed e
-    go true = refl
-    go false = refl
-
-unsigned_at_not : (l : ℕ) (e : Expr) → is_signed (unsigned_at l e) ≡ false
-unsigned_at_not l e = placed_sign l (unsigned e) ∙ unsigned_not e
 
 binary_not : (o : tree.Operator) (a b : Expr) → is_signed a ≡ false → is_signed (binary o a b) ≡ false
 binary_not o a b is = ap (λ s. binary_signed (context_of o) s (is_signed b)) is ∙ go (context_of o)
@@ -82,7 +66,7 @@ chain_is : (o : Operator) (a b : Expr) (bs : List Expr)
     → IsTemplate (chain (operator_of o) (unsigned_at (strength (operator_of o)) a) (b ∷ bs)) (Operands (Chain o)) (a ∷ b ∷ bs)
 chain_is o a b bs = record {
   text = chain_text o a (b ∷ bs);
-  signed = chained_sign (operator_of o) (unsigned_at (strength (operator_of o)) a) (b ∷ bs) (unsigned_at_not (strength (operator_of o)) a);
+  signed = chained_sign (operator_of o) (unsigned_at (strength (operator_of o)) a) (b ∷ bs) (unsigned_at_signed (strength (operator_of o)) a);
   level_is = chained_level (operator_of o) (unsigned_at (strength (operator_of o)) a) (unsigned_at (suc (strength (operator_of o))) b) bs;
   called = chained_name (operator_of o) (unsigned_at (strength (operator_of o)) a) (unsigned_at (suc (strength (operator_of o))) b) bs;
 }
@@ -133,7 +117,7 @@ signed_is o a b sign = record { text = signed_pair_text o a b; signed = sign; le
 shift_is : (o : Operator) (a b : Expr) → IsTemplate (unsigned_shift (operator_of o) a b) (Operands (UnsignedShift o)) (a ∷ b ∷ [])
 shift_is o a b = record {
   text = unsigned_shift_text o a b;
-  signed = binary_not (operator_of o) (unsigned_at (strength (operator_of o)) a) (parenthesize (suc (strength (operator_of o))) b) (unsigned_at_not (strength (operator_of o)) a);
+  signed = binary_not (operator_of o) (unsigned_at (strength (operator_of o)) a) (parenthesize (suc (strength (operator_of o))) b) (unsigned_at_signed (strength (operator_of o)) a);
   level_is = refl;
   called = refl;
 }
@@ -141,7 +125,7 @@ shift_is o a b = record {
 division_is : (o : Operator) (w d : ℕ) (a b : Expr) → IsTemplate (unsigned_division (operator_of o) w d a) (Operands (UnsignedDivision o w d)) (a ∷ b ∷ [])
 division_is o w d a b = record {
   text = unsigned_division_text o w d a;
-  signed = binary_not (operator_of o) (unsigned_at (strength (operator_of o)) a) (literal_of w false d) (unsigned_at_not (strength (operator_of o)) a);
+  signed = binary_not (operator_of o) (unsigned_at (strength (operator_of o)) a) (literal_of w false d) (unsigned_at_signed (strength (operator_of o)) a);
   level_is = refl;
   called = refl;
 }
@@ -153,7 +137,7 @@ signed_division_is o w d a b sign = record { text = signed_division_text o w d a
 choice_is : (c a b : Expr) → IsTemplate (conditional c a b) (Operands Choice) (c ∷ a ∷ b ∷ [])
 choice_is c a b = record {
   text = choice_text c a b;
-  signed = ap (λ s. s && is_signed (unsigned_at 1 b)) (unsigned_not a);
+  signed = ap (λ s. s && is_signed (unsigned_at 1 b)) (unsigned_signed a);
   level_is = refl;
   called = refl;
 }
@@ -175,14 +159,6 @@ comparison_is weq es = two_is (Chain signs.Equals) (comparison weq) (pair_is sig
 comparison_is wne es = two_is (Chain signs.Differs) (comparison wne) (pair_is signs.Differs) es
 
 -- ---- selects
-
-select_sign : (low w : ℕ) (a : Expr) → is_signed (select low w a) ≡ false
-select_sign low w (name n) = go (w == 1)
-  where
-    go : (b : Bool) → is_signed (cond b (bit_select n (decimal low)) (part_select n (decimal (low + w - 1)) (decimal low))) ≡ false
-    go true = refl
-    go false = refl
-select_sign low w _ = refl
 
 select_level : (low w : ℕ) (a : Expr) → level (select low w a) ≡ 11
 select_level low w (name n) = go (w == 1)
@@ -206,7 +182,7 @@ extract_is low w v (a ∷ []) = go (low == 0 && w == v)
   where
     go : (b : Bool) → IsTemplate (cond b a (select low w a)) (cond b (Operands Same) (Select low w)) (a ∷ [])
     go true = same_is a
-    go false = record { text = refl; signed = select_sign low w a; level_is = select_level low w a; called = select_name low w a }
+    go false = record { text = refl; signed = select_unsigned low w a; level_is = select_level low w a; called = select_name low w a }
 extract_is low w v (a ∷ b ∷ es) =
     subst (λ r. IsTemplate no_expr r (a ∷ b ∷ es))
     (sym (ap (λ t. cond t (cond (low == 0 && w == v) (Operands Same) (Select low w)) Missing) (ne_eqb (suc (suc (length es))) 1 (λ e. omega (arith, e))))) (missing_is (a ∷ b ∷ es))

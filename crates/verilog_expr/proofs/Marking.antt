@@ -13,6 +13,7 @@ use Rattle.verilog_expr.specs.Spilling.{one_if, places_in, use_count, cuts, join
 use Rattle.verilog_expr.specs.Marks.{no_mark, mark_at, note_use, one_use, after_operands, is_cut_by, after_ops}
 use Rattle.verilog_expr.specs.declared.marks.Mark.{Mark}
 use Rattle.verilog_expr.proofs.Drops.{split}
+use Rattle.std.proofs.Math.Bool.{or-false}
 
 -- ---- places
 
@@ -117,14 +118,10 @@ ops_step ports os r i o m one whole at h p =
     ∙ sym (ap (λ l. after_ops ports os r l m) (drop_at os i o at))
     ∙ h
 
-or_false : (b : Bool) → (b || false) ≡ b
-or_false true = refl
-or_false false = refl
-
 pub ops_end : (ports : List Port) (os : List Op) (r : Ref) (i : ℕ) (m whole : Mark) → m.uses < 3 → length os ≤ i
     → after_ops ports os r (drop i os) m ≡ whole → m ≡ whole
 ops_end ports os r i m whole few le h =
-    let none : after_ops ports os r [] m ≡ m = same_mark (min 2 (m.uses + 0)) (m.cut || false) (m.joined || false) m (omega arith) (or_false m.cut) (or_false m.joined) in
+    let none : after_ops ports os r [] m ≡ m = same_mark (min 2 (m.uses + 0)) (m.cut || false) (m.joined || false) m (omega arith) (or-false m.cut) (or-false m.joined) in
     sym none ∙ sym (ap (λ l. after_ops ports os r l m) (drop_all i os le)) ∙ h
 
 pub all_none : (n i : ℕ) → mark_at (replicate n no_mark) i ≡ no_mark

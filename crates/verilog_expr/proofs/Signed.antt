@@ -5,7 +5,7 @@ use Rattle.hw_model.specs.Kinds.{Kind, Predicate}
 use Rattle.hw_model.specs.Kinds.Predicate.{eq, ne, slt, sle, sgt, sge, ult, ule, ugt, uge, ceq, cne, weq, wne}
 use Rattle.hw_model.specs.Kinds.Kind.{variadic, sub, division, shift, icmp, parity, extract, concat, replicate, mux, constant, bitcast, wire}
 use Rattle.verilog_model.specs.Tree.{Operator, Expr}
-use Rattle.verilog_model.specs.Tree.Operator.{times, over, modulo, plus, minus, left_shift, right_shift, signed_right_shift, below, at_most, above, at_least, equals, differs, bit_and, bit_xor, bit_or}
+use Rattle.verilog_model.specs.Tree.Operator.{minus, below, at_most, above, at_least, equals, differs}
 use Rattle.verilog_model.specs.Tree.Expr.{name, bit_select, part_select, as_signed, as_unsigned, paren, binary}
 use Rattle.verilog_model.specs.Grammar.{strength, choice_level, primary_level, level}
 use Rattle.verilog_model.specs.Expression.{Context, context_of, binary_signed, is_signed}
@@ -21,13 +21,13 @@ Keep es = (e : Expr) → In e es → keeps_signs e ≡ true
 
 -- ---- places
 
-placed_signed : (l : ℕ) (e : Expr) → is_signed (parenthesize l e) ≡ is_signed e
+pub placed_signed : (l : ℕ) (e : Expr) → is_signed (parenthesize l e) ≡ is_signed e
 placed_signed l e = go (nat_le l (level e)) where
   go : (b : Bool) → is_signed (cond b e (paren e)) ≡ is_signed e
   go true = refl
   go false = refl
 
-unsigned_signed : (e : Expr) → is_signed (unsigned e) ≡ false
+pub unsigned_signed : (e : Expr) → is_signed (unsigned e) ≡ false
 unsigned_signed e = go (is_signed e) refl where
   go : (b : Bool) → is_signed e ≡ b → is_signed (cond b (as_unsigned e) e) ≡ false
   go true is = refl
@@ -245,7 +245,7 @@ comparison_unsigned cne a b = refl
 comparison_unsigned weq a b = refl
 comparison_unsigned wne a b = refl
 
-select_unsigned : (low w : ℕ) (a : Expr) → is_signed (select low w a) ≡ false
+pub select_unsigned : (low w : ℕ) (a : Expr) → is_signed (select low w a) ≡ false
 select_unsigned low w (name n) = go (w == 1) where
   go : (b : Bool) → is_signed (cond b (bit_select n (decimal low)) (part_select n (decimal (low + w - 1)) (decimal low))) ≡ false
   go true = refl

@@ -1,13 +1,13 @@
 -- No parentheses of a built expression can be left out.
 use Rattle.std.proofs.Common.{◌≡◌, ℕ, suc, ◌+◌, ◌-◌, Bool, true, false, cond, not, ◌&&◌, ◌==◌, nat_le, ◌⊎◌, List, [], ◌∷◌, ◌++◌, map, decimal, refl, sym, ap, subst, ◌∙◌, inl, inr, arith}
-use Rattle.std.proofs.lemmas.Bool.{leb-false}
+use Rattle.std.proofs.lemmas.Bool.{leb-false, not-true, and_right}
 use Rattle.wiring.specs.Wiring.{In}
 use Rattle.wiring.proofs.Members.{In-append_cases, from_In-map}
 use Rattle.hw_model.specs.Kinds.{Kind, Predicate}
 use Rattle.hw_model.specs.Kinds.Predicate.{eq, ne, slt, sle, sgt, sge, ult, ule, ugt, uge, ceq, cne, weq, wne}
 use Rattle.hw_model.specs.Kinds.Kind.{variadic, sub, division, shift, icmp, parity, extract, concat, replicate, mux, constant, bitcast, wire}
 use Rattle.verilog_model.specs.Tree.{Operator, Expr, Exprs}
-use Rattle.verilog_model.specs.Tree.Operator.{times, over, modulo, plus, minus, left_shift, right_shift, signed_right_shift, below, at_most, above, at_least, equals, differs, bit_and, bit_xor, bit_or}
+use Rattle.verilog_model.specs.Tree.Operator.{times, minus, below, at_most, above, at_least, equals, differs}
 use Rattle.verilog_model.specs.Tree.Expr.{name, bit_select, part_select, literal, joined, repeated, as_signed, as_unsigned, paren, odd, binary, choice}
 use Rattle.verilog_model.specs.Tree.Exprs.{last, more}
 use Rattle.verilog_model.specs.Grammar.{strength, choice_level, primary_level, level, fits, all_fit}
@@ -170,17 +170,13 @@ tight_carried = record { none = refl; called = λ n. refl; each = built_tight }
 
 -- ---- what is left without a pair of parentheses
 
-no_right : (a b : Bool) → b ≡ false → (a && b) ≡ false
-no_right true b h = h
-no_right false b h = refl
-
 bad_left : (p q r t : Bool) → (p && q) ≡ false → ((p && r) && (q && t)) ≡ false
-bad_left true false r t h = no_right (true && r) (false && t) refl
+bad_left true false r t h = and_right (true && r) (false && t) refl
 bad_left true true r t h = cc
 bad_left false q r t h = refl
 
 bad_right : (p q r t : Bool) → (p && q) ≡ false → ((r && p) && (t && q)) ≡ false
-bad_right true false r t h = no_right (r && true) (t && false) (no_right t false refl)
+bad_right true false r t h = and_right (r && true) (t && false) (and_right t false refl)
 bad_right true true r t h = cc
 bad_right false q true t h = refl
 bad_right false q false t h = refl
@@ -206,10 +202,6 @@ some_level _ = refl
 from_level : (e : Expr) → (nat_le choice_level (level e) && fits e) ≡ false → fits e ≡ false
 from_level e h = sym (ap (λ b. b && fits e) (some_level e)) ∙ h
 
-not_true : (b : Bool) → not b ≡ true → b ≡ false
-not_true true h = sym h
-not_true false h = refl
-
 -- each is unfit that is opened in a part
 abbrev Opens : ℕ → Expr → Type 0
 Opens l e = (y : Expr) → In y (opened e) → (nat_le l (level y) && fits y) ≡ false
@@ -219,12 +211,12 @@ unfit_pair : (o : Operator) (a b : Expr) (l : ℕ) (x : Expr) → Opens (strengt
 unfit_pair o a b l x left right (inl here) =
     let found = from_In-map (λ y. binary o y b) x (opened a) here in
     subst (λ y. (nat_le l (level y) && fits y) ≡ false) (sym found.2)
-    (no_right (nat_le l (strength o)) (fits (binary o found.0 b))
+    (and_right (nat_le l (strength o)) (fits (binary o found.0 b))
     (bad_left (nat_le (strength o) (level found.0)) (fits found.0) (nat_le (suc (strength o)) (level b)) (fits b) (left found.0 found.1)))
 unfit_pair o a b l x left right (inr here) =
     let found = from_In-map (λ y. binary o a y) x (opened b) here in
     subst (λ y. (nat_le l (level y) && fits y) ≡ false) (sym found.2)
-    (no_right (nat_le l (strength o)) (fits (binary o a found.0))
+    (and_right (nat_le l (strength o)) (fits (binary o a found.0))
     (bad_right (nat_le (suc (strength o)) (level found.0)) (fits found.0) (nat_le (strength o) (level a)) (fits a) (right found.0 found.1)))
 
 unfit_choice : (c a b : Expr) (l : ℕ) (x : Expr) → Opens (suc choice_level) c → Opens 0 a → Opens choice_level b
@@ -236,21 +228,21 @@ unfit_choice c a b l x first second third here =
       late (inl there) =
           let found = from_In-map (λ y. choice c y b) x (opened a) there in
           subst (λ y. (nat_le l (level y) && fits y) ≡ false) (sym found.2)
-          (no_right (nat_le l choice_level) (fits (choice c found.0 b))
-          (no_right (nat_le (suc choice_level) (level c)) (fits c && (fits found.0 && fits b))
-          (no_right (fits c) (fits found.0 && fits b) (ap (λ p. p && fits b) (only_fits (level found.0) (fits found.0) (second found.0 found.1))))))
+          (and_right (nat_le l choice_level) (fits (choice c found.0 b))
+          (and_right (nat_le (suc choice_level) (level c)) (fits c && (fits found.0 && fits b))
+          (and_right (fits c) (fits found.0 && fits b) (ap (λ p. p && fits b) (only_fits (level found.0) (fits found.0) (second found.0 found.1))))))
       late (inr there) =
           let found = from_In-map (λ y. choice c a y) x (opened b) there in
           subst (λ y. (nat_le l (level y) && fits y) ≡ false) (sym found.2)
-          (no_right (nat_le l choice_level) (fits (choice c a found.0))
-          (no_right (nat_le (suc choice_level) (level c)) (fits c && (fits a && fits found.0))
-          (no_right (fits c) (fits a && fits found.0) (no_right (fits a) (fits found.0) (from_level found.0 (third found.0 found.1))))))
+          (and_right (nat_le l choice_level) (fits (choice c a found.0))
+          (and_right (nat_le (suc choice_level) (level c)) (fits c && (fits a && fits found.0))
+          (and_right (fits c) (fits a && fits found.0) (and_right (fits a) (fits found.0) (from_level found.0 (third found.0 found.1))))))
 
       go : In x (map (λ y. choice y a b) (opened c)) ⊎ In x (map (λ y. choice c y b) (opened a) ++ map (λ y. choice c a y) (opened b)) → (nat_le l (level x) && fits x) ≡ false
       go (inl there) =
           let found = from_In-map (λ y. choice y a b) x (opened c) there in
           subst (λ y. (nat_le l (level y) && fits y) ≡ false) (sym found.2)
-          (no_right (nat_le l choice_level) (fits (choice found.0 a b))
+          (and_right (nat_le l choice_level) (fits (choice found.0 a b))
           (bad_first (nat_le (suc choice_level) (level found.0)) (fits found.0) (fits a && fits b) (first found.0 found.1)))
       go (inr there) = late (In-append_cases x (map (λ y. choice c y b) (opened a)) (map (λ y. choice c a y) (opened b)) there)
 
@@ -261,7 +253,7 @@ unfit_more e es xs first rest (inl here) =
     subst (λ ys. all_fit ys ≡ false) (sym found.2) (ap (λ b. b && all_fit es) (only_fits (level found.0) (fits found.0) (first found.0 found.1)))
 unfit_more e es xs first rest (inr here) =
     let found = from_In-map (λ ys. more e ys) xs (opened_parts es) here in
-    subst (λ ys. all_fit ys ≡ false) (sym found.2) (no_right (fits e) (all_fit found.0) (rest found.0 found.1))
+    subst (λ ys. all_fit ys ≡ false) (sym found.2) (and_right (fits e) (all_fit found.0) (rest found.0 found.1))
 
 mutual
   unfit : (e : Expr) (l : ℕ) (x : Expr) → tight_at l e ≡ true → In x (opened e) → (nat_le l (level x) && fits x) ≡ false
@@ -271,27 +263,27 @@ mutual
   unfit (literal w s d) l x h here = absurd here
   unfit (joined es) l x h here =
       let found = from_In-map joined x (opened_parts es) here in
-      subst (λ y. (nat_le l (level y) && fits y) ≡ false) (sym found.2) (no_right (nat_le l primary_level) (all_fit found.0) (unfit_parts es found.0 h found.1))
+      subst (λ y. (nat_le l (level y) && fits y) ≡ false) (sym found.2) (and_right (nat_le l primary_level) (all_fit found.0) (unfit_parts es found.0 h found.1))
   unfit (repeated n es) l x h here =
       let found = from_In-map (repeated n) x (opened_parts es) here in
-      subst (λ y. (nat_le l (level y) && fits y) ≡ false) (sym found.2) (no_right (nat_le l primary_level) (all_fit found.0) (unfit_parts es found.0 h found.1))
+      subst (λ y. (nat_le l (level y) && fits y) ≡ false) (sym found.2) (and_right (nat_le l primary_level) (all_fit found.0) (unfit_parts es found.0 h found.1))
   unfit (as_signed e) l x h here =
       let found = from_In-map as_signed x (opened e) here in
-      subst (λ y. (nat_le l (level y) && fits y) ≡ false) (sym found.2) (no_right (nat_le l primary_level) (fits found.0) (only_fits (level found.0) (fits found.0) (unfit e 0 found.0 h found.1)))
+      subst (λ y. (nat_le l (level y) && fits y) ≡ false) (sym found.2) (and_right (nat_le l primary_level) (fits found.0) (only_fits (level found.0) (fits found.0) (unfit e 0 found.0 h found.1)))
   unfit (as_unsigned e) l x h here =
       let found = from_In-map as_unsigned x (opened e) here in
-      subst (λ y. (nat_le l (level y) && fits y) ≡ false) (sym found.2) (no_right (nat_le l primary_level) (fits found.0) (only_fits (level found.0) (fits found.0) (unfit e 0 found.0 h found.1)))
+      subst (λ y. (nat_le l (level y) && fits y) ≡ false) (sym found.2) (and_right (nat_le l primary_level) (fits found.0) (only_fits (level found.0) (fits found.0) (unfit e 0 found.0 h found.1)))
   unfit (paren e) l x h (inl same) =
       let weak : not (nat_le l (level e)) ≡ true = and_first (not (nat_le l (level e))) (tight_at 0 e) h in
-      subst (λ y. (nat_le l (level y) && fits y) ≡ false) (sym same) (ap (λ b. b && fits e) (not_true (nat_le l (level e)) weak))
+      subst (λ y. (nat_le l (level y) && fits y) ≡ false) (sym same) (ap (λ b. b && fits e) (not-true (nat_le l (level e)) weak))
   unfit (paren e) l x h (inr here) =
       let found = from_In-map paren x (opened e) here in
       subst (λ y. (nat_le l (level y) && fits y) ≡ false) (sym found.2)
-      (no_right (nat_le l primary_level) (fits found.0)
+      (and_right (nat_le l primary_level) (fits found.0)
       (only_fits (level found.0) (fits found.0) (unfit e 0 found.0 (and_second (not (nat_le l (level e))) (tight_at 0 e) h) found.1)))
   unfit (odd e) l x h here =
       let found = from_In-map odd x (opened e) here in
-      subst (λ y. (nat_le l (level y) && fits y) ≡ false) (sym found.2) (no_right (nat_le l 10) (nat_le primary_level (level found.0) && fits found.0) (unfit e primary_level found.0 h found.1))
+      subst (λ y. (nat_le l (level y) && fits y) ≡ false) (sym found.2) (and_right (nat_le l 10) (nat_le primary_level (level found.0) && fits found.0) (unfit e primary_level found.0 h found.1))
   unfit (binary o a b) l x h here =
       unfit_pair o a b l x
       (λ y within. unfit a (strength o) y (and_first (tight_at (strength o) a) (tight_at (suc (strength o)) b) h) within)

@@ -2,7 +2,7 @@
 use Rattle.std.proofs.Common.{◌≡◌, ℕ, ℤ, zero, suc, pos, negsuc, ◌-◌, ◌*◌, ◌≤◌, ◌<◌, ◌^◌, Bool, true, false, not, ◌&&◌, List, [], ◌∷◌, map, length, slice_get, Option, Some, None, refl, sym, ap, ◌∙◌, subst, arith, option_map, pow-suc}
 use Rattle.std.specs.Prelude.{nat_eq}
 use Rattle.std.specs.List.{list_any}
-use Rattle.std.proofs.lemmas.Bool.{eqb-true}
+use Rattle.std.proofs.lemmas.Bool.{eqb-true, not-false}
 use Rattle.std.proofs.lemmas.Bool.Decides.{nat_tests}
 use Rattle.bits_core.specs.Word.{number, bits, bits_of_ℤ}
 use Rattle.bits_core.proofs.Numbers.{length-bits, number-bits-below}
@@ -14,7 +14,7 @@ use Rattle.hw_model.specs.Kinds.{Kind}
 use Rattle.hw_model.specs.Kinds.Kind.{division, constant}
 use Rattle.hw_model.specs.Design.{Ref, Port, OpResult, Op, result_type}
 use Rattle.hw_model.specs.Design.Ref.{port, result, undefined}
-use Rattle.hw_model.specs.Sound.{type_in, Fits, OpFits}
+use Rattle.hw_model.specs.Sound.{type_in, OpFits}
 use Rattle.ir_store.specs.ResultTypes.{result_type as kind_result_type, result_types}
 use Rattle.op_checks.specs.TypeChecks.{is_outside}
 use Rattle.op_checks.specs.TypeLists.{known_types}
@@ -25,12 +25,12 @@ use Rattle.op_checks.specs.CountChecks.{operands_written, operand_count}
 use Rattle.op_verifier.specs.OpChecks.{is_nonzero, is_nonzero_kind, is_nonzero_op, divides_by_constant}
 use Rattle.op_verifier.proofs.NoCauseAlone.{types_of, NoCauseAlone}
 use Rattle.op_checks.proofs.Settled.{settles}
-use Rattle.op_verifier.proofs.Unrefused.{not_false}
 use Rattle.op_checks.proofs.Widths.{neither}
 use Rattle.verilog_expr.specs.Expressions.{constant_number}
 use Rattle.verilog_expr.specs.Spilling.{is_constant_kind}
 use Rattle.verilog_expr.specs.Values.{is_division, IsDivision}
 use Rattle.export_verilog.proofs.accepted.AcceptedTypes.{some_bits}
+use Rattle.verilog_expr.proofs.Bodies.{division_types}
 
 -- ---- numbers
 
@@ -92,17 +92,13 @@ constant_worth kind ts rs n t nonzero form outside range same is = cc
 
 known_divisor : (kind : Kind) (b : Bool) → is_division kind ≡ true → has_unknown_divisor kind b ≡ false → b ≡ true
 unfolding has_unknown_divisor
-known_divisor (division d) b h e = not_false b e
+known_divisor (division d) b h e = not-false b e
 known_divisor kind b h e = cc
 
 two_operands : (kind : Kind) (ts : List HwType) (n : ℕ) → is_division kind ≡ true → n ≡ operand_count kind ts n → n ≡ 2
 unfolding operands_written operand_count
 two_operands (division d) ts n h e = e
 two_operands kind ts n h e = cc
-
-division_fits : (kind : Kind) (ts : List HwType) (xs : List (Option HwType)) (t : HwType) (k : ℕ) → is_division kind ≡ true → Fits kind ts xs t k → xs ≡ Some t ∷ Some t ∷ []
-division_fits (division d) ts xs t k h fits = fits
-division_fits kind ts xs t k h fits = cc
 
 -- two operands, of which the second is the result of a nonzero constant
 record IsDivided (os : List Op) (rs : List Ref) : Type 0 where
@@ -159,5 +155,5 @@ constant_division ports os all o tests fits is =
       not_zero = λ t typed. constant_worth by.by.kind by.by.types by.by.results (length by.by.operands) t by.nonzero own.form own.written own.constant (settles by.by.kind by.by.types (types_of by.by.results) own)
           (ap (λ (x : Option Op). bind x (λ (p : Op). result_type p 0)) (sym by.there)
           ∙ second_is (type_in ports os by.dividend) (type_in ports os (result by.divisor 0)) t
-          (ap (map (type_in ports os)) (sym by.operands) ∙ division_fits o.kind o.types (map (type_in ports os) o.operands) t 0 is (fits 0 t typed)));
+          (ap (map (type_in ports os)) (sym by.operands) ∙ division_types o.kind o.types (map (type_in ports os) o.operands) t 0 is (fits 0 t typed)));
     }

@@ -19,9 +19,10 @@ use Rattle.export_verilog.specs.Room.{HasRoomToExport}
 use Rattle.export_verilog.proofs.accepted.AcceptedDivisions.{constant_division}
 use Rattle.export_verilog.proofs.accepted.AcceptedOps.{found, op_tested, port_within}
 use Rattle.export_verilog.proofs.accepted.AcceptedTypes.{none_of, HasSomeBits, within_limits}
-use Rattle.export_verilog.proofs.accepted.AcceptedValues.{one_result, no_result, single, nothing, some_operand, in_list, result_bits, small_value, clock_port, clocked}
+use Rattle.export_verilog.proofs.accepted.AcceptedValues.{one_result, no_result, single, some_operand, in_list, result_bits, small_value, clock_port, clocked}
 use Rattle.export_verilog.proofs.accepted.AcceptedWeights.{few_names}
 use Rattle.export_verilog.proofs.accepted.NoAggregates.{IsPlain, ports_plain, op_plain}
+use Rattle.std.proofs.lemmas.List.{nil_from_length}
 
 below : {w : ℕ} → w < 129 → w < 2 ^ 64
 below h = omega (arith, h)
@@ -69,7 +70,7 @@ module _ (d : Design) (fine : IsAccepted d) (plain : HasNoAggregates d) (n : ℕ
   exportable_op j o at = record {
     integers = (plain_ops j o at).kind;
     one_result = one j o at;
-    no_result = λ is. nothing o.results (result_number m.ports m.body o (tests j o at) ∙ no_result o.kind o.types is);
+    no_result = λ is. nil_from_length o.results (result_number m.ports m.body o (tests j o at) ∙ no_result o.kind o.types is);
     bits = λ k r is. (result_bits m.ports m.body o (tests j o at) (plain_ops j o at) k r is).some;
     filled = λ is. some_operand o.kind o.types (length o.operands) is (tests j o at).operands;
     division = constant_division m.ports m.body tests o (tests j o at) (body_fits j o at);

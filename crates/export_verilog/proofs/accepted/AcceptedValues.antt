@@ -44,10 +44,6 @@ single [] h = cc
 single (x ∷ []) h = (x, refl)
 single (x ∷ y ∷ xs) h = absurd (omega (arith, h))
 
-pub nothing : {A : Type 0} (xs : List A) → length xs ≡ 0 → xs ≡ []
-nothing [] h = refl
-nothing (x ∷ xs) h = absurd (omega (arith, h))
-
 -- an operation of any number of operands has one at least
 pub some_operand : (kind : Kind) (ts : List HwType) (n : ℕ) → is_variadic kind ≡ true → n ≡ operand_count kind ts n → 1 ≤ n
 unfolding operands_written operand_count

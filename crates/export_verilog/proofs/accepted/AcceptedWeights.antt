@@ -10,7 +10,7 @@ use Rattle.hw_model.specs.Kinds.{Kind, RegisterOp}
 use Rattle.hw_model.specs.Kinds.RegisterOp.{compreg, firreg}
 use Rattle.hw_model.specs.Kinds.Reset.{sync_reset}
 use Rattle.hw_model.specs.Kinds.Kind.{variadic, sub, division, shift, icmp, parity, extract, concat, replicate, mux, constant, aggregate_constant, on_array, on_struct, bitcast, wire, instance, output, register, async_firreg}
-use Rattle.hw_model.specs.Design.{Port, OpResult, Op, Module, Design, instance_in, is_instance, is_register, is_output_op}
+use Rattle.hw_model.specs.Design.{Port, Op, Module, Design, instance_in, is_instance, is_register, is_output_op}
 use Rattle.hw_model.specs.Design.Ref.{result}
 use Rattle.hw_model.specs.Weight.{leaf_count, reset_weight, register_weight, kind_weight, body_weight, weight_of, module_weight, weight}
 use Rattle.ir_store.specs.ResultTypes.{result_count}
@@ -20,11 +20,12 @@ use Rattle.op_verifier.proofs.NoCauseAlone.{NoCauseAlone, result_number}
 use Rattle.op_checks.proofs.Widths.{neither}
 use Rattle.verilog_expr.specs.Spilling.{is_wire_kind, spilled}
 use Rattle.verilog_expr.specs.Values.{is_aggregate_kind}
-use Rattle.export_verilog.specs.Identifiers.{Identifier, each, result_identifiers, identifiers_of, op_identifiers, port_identifiers, module_identifiers}
+use Rattle.export_verilog.specs.Identifiers.{Identifier, each, identifiers_of, op_identifiers, port_identifiers, module_identifiers}
 use Rattle.export_verilog.specs.Identifiers.Emission.{inline, as_wire, as_reg, as_instance}
 use Rattle.export_verilog.specs.Aggregates.{is_aggregate, HasNoAggregates}
 use Rattle.export_verilog.proofs.accepted.AcceptedOps.{found, op_tested}
 use Rattle.export_verilog.proofs.accepted.NoAggregates.{IsPlain, ports_plain, op_plain}
+use Rattle.export_verilog.proofs.names.GivenNames.{result_count}
 
 -- ---- leaves
 
@@ -95,10 +96,6 @@ module _ (inner : Name → ℕ) where
       let p = leaves_of_all ts plain in omega (arith, p, results)
   instance_weighs kind ts n count is plain results = cc
 
-long_results : (i k : ℕ) (rs : List OpResult) → length (result_identifiers i k rs) ≡ length rs
-long_results i k [] = refl
-long_results i k (r ∷ rs) = ap suc (long_results i (suc k) rs)
-
 -- what is no instance has at most one name
 one_identifier : (a b c e f : Bool) (i : ℕ) (o : Op) → b ≡ false → length (identifiers_of (cond a as_reg (cond b as_instance (cond c inline (cond e as_wire (cond f as_wire inline))))) i o) ≤ 1
 one_identifier true b c e f i o h = omega arith
@@ -111,7 +108,7 @@ one_identifier false false false false false i o h = omega arith
 -- nothing has more than one beside its results
 some_identifiers : (a c e f : Bool) (i : ℕ) (o : Op) → length (identifiers_of (cond a as_reg (cond true as_instance (cond c inline (cond e as_wire (cond f as_wire inline))))) i o) ≤ 1 + length o.results
 some_identifiers true c e f i o = omega arith
-some_identifiers false c e f i o = let p = long_results i 0 o.results in omega (arith, p)
+some_identifiers false c e f i o = let p = result_count i 0 o.results in omega (arith, p)
 
 identifiers_weigh : (inner : Name → ℕ) (ports : List Port) (os : List Op) (i : ℕ) (o : Op) → NoCauseAlone ports os o → IsPlain o
     → length (op_identifiers ports os i o) ≤ kind_weight inner o.kind o.types (length o.operands)

@@ -62,7 +62,7 @@ low_whole k w size = ap (low_bits k) (extended_full k false w size) ∙ low_all 
 pub constant_form : (k : Kind) (z : ℤ) → k ≡ constant z → (register_form k ≡ None) × (instance_in k ≡ None) × (is_division k ≡ false)
 constant_form k z e = (ap register_form e, ap instance_in e, ap is_division e)
 
-made_gives : (o : Op) → register_form o.kind ≡ None → instance_in o.kind ≡ None → is_output_kind o.kind ≡ false → gives_values o ≡ true
+pub made_gives : (o : Op) → register_form o.kind ≡ None → instance_in o.kind ≡ None → is_output_kind o.kind ≡ false → gives_values o ≡ true
 made_gives o r n u = simp (r, n, u)
 
 module _ (d : Design) (x : Setting d) (top : Name) (inputs content : Word) where

@@ -1,6 +1,6 @@
 -- The clocks and the asynchronous resets of an exported tree come from the inputs at the top.
 use Rattle.std.proofs.Common.{◌≡◌, ℕ, zero, suc, ◌+◌, ◌⊎◌, Bool, true, false, not, cond, ◌&&◌, ◌||◌, List, [], ◌∷◌, take, length, slice_get, Option, Some, None, refl, sym, ◌∙◌, ap, subst, inl, inr, zero-add}
-use Rattle.std.proofs.lemmas.Bool.{false≢true}
+use Rattle.std.proofs.lemmas.Bool.{false≢true, or_cases}
 use Rattle.wiring.specs.Options.{omap}
 use Rattle.wiring.specs.Wiring.{In}
 use Rattle.wiring.proofs.Members.{In-slice_get}
@@ -33,10 +33,6 @@ use Rattle.export_verilog.proofs.items.Resets.{input_written, signal_port}
 use Rattle.export_verilog.proofs.items.Settings.{Setting, Called, module_ok, called_by, callee_is, result_at_first}
 use Rattle.export_verilog.proofs.items.Writable.{named_input}
 use Rattle.export_verilog.proofs.checks.Stated.{place_of_input, placed_in}
-
-either : (a b : Bool) → (a || b) ≡ true → (a ≡ true) ⊎ (b ≡ true)
-either true b h = inl refl
-either false b h = inr h
 
 -- a block of a register without an asynchronous reset has no second event
 no_second_event : (n : Name) (ex : Ref → Expr) (q : Name) (next : Ref) (e : Option Ref) (b : Option ResetBy) → resets_by n (block_of ex q next e b) ≡ false
@@ -164,7 +160,7 @@ module _ (d : Design) (x : Setting d) where
 
         in_block : (i : ℕ) (o : Op) (r : Register) → slice_get c.body i ≡ Some o → emission_of c.ports c.body i o ≡ as_reg → register_in o ≡ Some r → uses_clock inner a (block_at c i o r) ≡ true → IsClockInput c a
         in_block i o r there emission at h =
-            go (either (same_name (name_or_nothing (value_name c r.clock)) a) (resets_by a (module_block c (identifier_text c (value_identifier i 0)) r (async_reset_in o))) h) where
+            go (or_cases (same_name (name_or_nothing (value_name c r.clock)) a) (resets_by a (module_block c (identifier_text c (value_identifier i 0)) r (async_reset_in o))) h) where
               go : (same_name (name_or_nothing (value_name c r.clock)) a ≡ true) ⊎ (resets_by a (module_block c (identifier_text c (value_identifier i 0)) r (async_reset_in o)) ≡ true) → IsClockInput c a
               go (inl u) = in_register i o r there emission at u
               go (inr u) = in_reset o r (async_reset_in o) (In-slice_get o c.body i there) refl (identifier_text c (value_identifier i 0)) u
@@ -193,7 +189,7 @@ module _ (d : Design) (x : Setting d) where
             → ((t : Name) (z : Module) → find_module d t ≡ Some z → (w : Name) → is_clock n (tree_of d) (symbol_name d t) w ≡ true → IsClockInput z w)
             → inner_clock inner a (symbol_name d y.kind.symbol) es ≡ true → IsClockInput c a
         in_connections i o within y [] from below h = absurd (false≢true h)
-        in_connections i o within y (e ∷ es) from below h = go (either (inner (symbol_name d y.kind.symbol) e.port && is_name a e.value) (inner_clock inner a (symbol_name d y.kind.symbol) es) h) (in_connections i o within y es (λ f w. from f (inr w)) below) where
+        in_connections i o within y (e ∷ es) from below h = go (or_cases (inner (symbol_name d y.kind.symbol) e.port && is_name a e.value) (inner_clock inner a (symbol_name d y.kind.symbol) es) h) (in_connections i o within y es (λ f w. from f (inr w)) below) where
           go : ((inner (symbol_name d y.kind.symbol) e.port && is_name a e.value) ≡ true) ⊎ (inner_clock inner a (symbol_name d y.kind.symbol) es ≡ true) → (inner_clock inner a (symbol_name d y.kind.symbol) es ≡ true → IsClockInput c a) → IsClockInput c a
           go (inl u) rest = let f = from e (inl refl) in in_connection i o within y f.0 f.1 f.2 e f.3 below u
           go (inr u) rest = rest u
@@ -216,7 +212,7 @@ module _ (d : Design) (x : Setting d) where
         in_items : (ys : List Item) → ((y : Item) → In y ys → From d c y) → any_uses_clock inner a ys ≡ true
             → ((t : Name) (z : Module) → find_module d t ≡ Some z → (w : Name) → is_clock n (tree_of d) (symbol_name d t) w ≡ true → IsClockInput z w) → IsClockInput c a
         in_items [] from h below = absurd (false≢true h)
-        in_items (y ∷ ys) from h below = go (either (uses_clock inner a y) (any_uses_clock inner a ys) h) (λ u. in_items ys (λ z w. from z (inr w)) u below) where
+        in_items (y ∷ ys) from h below = go (or_cases (uses_clock inner a y) (any_uses_clock inner a ys) h) (λ u. in_items ys (λ z w. from z (inr w)) u below) where
           go : (uses_clock inner a y ≡ true) ⊎ (any_uses_clock inner a ys ≡ true) → (any_uses_clock inner a ys ≡ true → IsClockInput c a) → IsClockInput c a
           go (inl u) rest = in_item y (from y (inl refl)) below u
           go (inr u) rest = rest u

@@ -1,7 +1,7 @@
 -- The operands of instances and of outputs are there, with the types of the ports.
-use Rattle.std.proofs.Common.{◌≡◌, ℕ, zero, suc, Bool, true, false, cond, List, [], ◌∷◌, map, take, slice_get, Option, Some, None, refl, sym, ◌∙◌, ap}
+use Rattle.std.proofs.Common.{◌≡◌, ℕ, zero, suc, true, false, List, [], ◌∷◌, map, take, slice_get, Option, Some, None, refl, sym, ◌∙◌, ap}
 use Rattle.wiring.specs.Options.{omap}
-use Rattle.wiring.proofs.Options.{omap_some, omap_none}
+use Rattle.wiring.proofs.Options.{omap_none}
 use Rattle.hw_model.specs.Types.{HwType}
 use Rattle.hw_model.specs.Design.{Ref, Port, OpResult, Op, Module, Design, result_type, output_refs}
 use Rattle.hw_model.specs.Flat.{input_count}
@@ -9,30 +9,12 @@ use Rattle.hw_model.specs.Sound.{type_in, input_types, output_types, SoundBody}
 use Rattle.export_verilog.proofs.items.Items.{output_count}
 use Rattle.export_verilog.proofs.items.Settings.{Called}
 use Rattle.export_verilog.proofs.items.Drives.{place_of_output}
+use Rattle.hw_model.proofs.NetWidths.{input_found, typed_at}
 
 pub get_map : {A B : Type 0} (f : A → B) (xs : List A) (n : ℕ) → slice_get (map f xs) n ≡ omap f (slice_get xs n)
 get_map f [] n = refl
 get_map f (x ∷ xs) zero = refl
 get_map f (x ∷ xs) (suc n) = get_map f xs n
-
--- the type of an input, among those of the inputs
-pub input_type_at : (ps : List Port) (j : ℕ) (q : Port) → slice_get ps j ≡ Some q → q.is_output ≡ false → slice_get (input_types ps) (input_count (take j ps)) ≡ Some q.type
-input_type_at [] j q is inward = cc
-input_type_at (x ∷ ps) zero q is inward =
-    let same : x ≡ q = cc in
-    let inward' : x.is_output ≡ false = ap (λ (y : Port). y.is_output) same ∙ inward in
-    ap (λ b. slice_get (cond b (input_types ps) (x.type ∷ input_types ps)) 0) inward' ∙ ap (λ (y : Port). Some y.type) same
-input_type_at (x ∷ ps) (suc j) q is inward = go x.is_output (input_type_at ps j q is inward) where
-  go : (b : Bool) → slice_get (input_types ps) (input_count (take j ps)) ≡ Some q.type
-      → slice_get (cond b (input_types ps) (x.type ∷ input_types ps)) (cond b (input_count (take j ps)) (suc (input_count (take j ps)))) ≡ Some q.type
-  go true rest = rest
-  go false rest = rest
-
--- what stands at a position of a list whose types are known
-pub typed_at : (type_of : Ref → Option HwType) (rs : List Ref) (ts : List HwType) (n : ℕ) (t : HwType) → map type_of rs ≡ map (λ (u : HwType). Some u) ts → slice_get ts n ≡ Some t
-    → (r : Ref) × (slice_get rs n ≡ Some r) × (type_of r ≡ Some t)
-typed_at type_of rs ts n t same is =
-    omap_some type_of (slice_get rs n) (sym (get_map type_of rs n) ∙ ap (λ xs. slice_get xs n) same ∙ get_map (λ (u : HwType). Some u) ts n ∙ ap (omap (λ (u : HwType). Some u)) is)
 
 pub none_at : (type_of : Ref → Option HwType) (rs : List Ref) (ts : List HwType) (n : ℕ) → map type_of rs ≡ map (λ (u : HwType). Some u) ts → slice_get ts n ≡ None
     → slice_get rs n ≡ None
@@ -49,7 +31,7 @@ output_ref_at d m sound j y there out =
 pub operand_at : (d : Design) (m : Module) (o : Op) (c : Called d m o) (j : ℕ) (y : Port) → slice_get c.module_of.ports j ≡ Some y → y.is_output ≡ false
     → (r : Ref) × (slice_get o.operands (input_count (take j c.module_of.ports)) ≡ Some r) × (type_in m.ports m.body r ≡ Some y.type)
 operand_at d m o c j y there inward =
-    typed_at (type_in m.ports m.body) o.operands (input_types c.module_of.ports) (input_count (take j c.module_of.ports)) y.type c.inputs (input_type_at c.module_of.ports j y there inward)
+    typed_at (type_in m.ports m.body) o.operands (input_types c.module_of.ports) (input_count (take j c.module_of.ports)) y.type c.inputs (input_found c.module_of.ports j y there inward)
 
 -- the type of an instance's result, among those of the outputs
 pub output_type_at : (d : Design) (m : Module) (o : Op) (c : Called d m o) (k : ℕ) → slice_get (output_types c.module_of.ports) k ≡ result_type o k

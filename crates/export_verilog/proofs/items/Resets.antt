@@ -1,5 +1,5 @@
 -- Asynchronous resets of an exportable design: the signal is an input port that has a mark, the value a constant's.
-use Rattle.std.proofs.Common.{◌≡◌, ℕ, ℤ, true, false, slice_get, Some, None, refl, sym, ◌∙◌, ap}
+use Rattle.std.proofs.Common.{◌≡◌, ℕ, ℤ, true, false, slice_get, Some, refl, sym, ◌∙◌, ap}
 use Rattle.wiring.specs.Wiring.{In}
 use Rattle.wiring.specs.Options.{bind}
 use Rattle.wiring.proofs.Options.{omap_some}
@@ -22,9 +22,7 @@ use Rattle.export_verilog.specs.Exported.{expression, assigned_expr}
 use Rattle.export_verilog.proofs.items.Settings.{Setting, module_ok, one_result_of}
 use Rattle.export_verilog.proofs.items.Writable.{named_input, only_first, writable}
 use Rattle.export_verilog.proofs.behaviour.Sources.{inner_acyclic}
-
-constant_gives : (o : Op) → register_form o.kind ≡ None → instance_in o.kind ≡ None → is_output_kind o.kind ≡ false → gives_values o ≡ true
-constant_gives o r n u = simp (r, n, u)
+use Rattle.export_verilog.proofs.behaviour.NetValues.{made_gives}
 
 module _ (d : Design) (x : Setting d) (s : Name) (m : Module) (is : find_module d s ≡ Some m) where
   -- an input port is written by its name
@@ -90,7 +88,7 @@ module _ (d : Design) (x : Setting d) (s : Name) (m : Module) (is : find_module 
           number = k.0;
           kind = k.1;
           typed = ap (result_type c.op) (sym first) ∙ typed_here;
-          gives = constant_gives c.op (ap register_form k.1) (ap instance_in k.1) (ap is_output_kind k.1);
+          gives = made_gives c.op (ap register_form k.1) (ap instance_in k.1) (ap is_output_kind k.1);
         }
 
   -- its literal is what is assigned to its name

@@ -24,6 +24,7 @@ use Rattle.export_verilog.proofs.names.IdentifierNames.{AreNames, text_named, na
 use Rattle.export_verilog.proofs.names.IdentifiersOf.{emission_of_register, emission_of_instance, emission_of_made, port_in, net_in, variable_in, result_in_identifiers}
 use Rattle.export_verilog.proofs.items.Settings.{Setting, module_ok, module_sound, one_result_of}
 use Rattle.export_verilog.proofs.behaviour.Sources.{pure_sort}
+use Rattle.verilog_expr.proofs.ByRule.{passes_some}
 
 pub only_first : {A : Type 0} (xs : List A) (z : A) (k : ℕ) (y : A) → xs ≡ z ∷ [] → slice_get xs k ≡ Some y → k ≡ 0
 only_first xs z zero y is at = refl
@@ -40,14 +41,6 @@ ref_self : (r : Ref) → same_ref r r ≡ true
 ref_self (port j) = eq-eqb j j refl
 ref_self (result i k) = ap₂ (λ a b. a && b) (eq-eqb i i refl) (eq-eqb k k refl)
 ref_self undefined = refl
-
-some_op_at : (p : Op → Bool) (os : List Op) (i : ℕ) (o : Op) → slice_get os i ≡ Some o → p o ≡ true → some_op p os ≡ true
-some_op_at p [] i o there is = cc
-some_op_at p (y ∷ os) zero o there is = ap (λ b. b || some_op p os) (ap p (let e : y ≡ o = cc in e) ∙ is)
-some_op_at p (y ∷ os) (suc i) o there is = go (p y) (some_op_at p os i o there is) where
-  go : (b : Bool) → some_op p os ≡ true → (b || some_op p os) ≡ true
-  go true rest = refl
-  go false rest = rest
 
 no_bits_cut : (kind : Kind) (w : ℕ) → is_narrower kind w 0 ≡ false
 no_bits_cut (extract low) w = go (nat_lt w 0) refl where
@@ -66,7 +59,7 @@ module _ (ports : List Port) (os : List Op) where
     counted = ap (λ rs. nat_lt 0 (places_in (result j 0) rs)) only ∙ ap (λ b. nat_lt 0 (one_if b + 0)) (ref_self (result j 0))
 
     cut : some_op (cuts ports os (result j 0)) os ≡ true
-    cut = some_op_at (cuts ports os (result j 0)) os i o user (ap₂ (λ a b. a && b) narrow counted)
+    cut = passes_some (cuts ports os (result j 0)) os i o user (ap₂ (λ a b. a && b) narrow counted)
 
     shared_here : is_shared ports os (result j 0) o' ≡ true
     shared_here = or_second _ _ _ cut

@@ -72,7 +72,7 @@ module _ (ports : List Port) (os : List Op) where
 
 -- ---- the names of an operation's things
 
-result_count : (i k : ℕ) (rs : List OpResult) → length (result_identifiers i k rs) ≡ length rs
+pub result_count : (i k : ℕ) (rs : List OpResult) → length (result_identifiers i k rs) ≡ length rs
 result_count i k [] = refl
 result_count i k (r ∷ rs) = ap suc (result_count i (suc k) rs)
 

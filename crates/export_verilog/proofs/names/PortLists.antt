@@ -3,16 +3,7 @@ use Rattle.std.proofs.Common.{◌≡◌, ◌⊎◌, inl, inr, ℕ, zero, suc, Li
 use Rattle.hw_model.specs.Design.{Module, Design}
 use Rattle.export_verilog.specs.declared.named_design.PortNames.{PortNames}
 use Rattle.export_verilog.specs.NamedDesigns.{ArePortsOf}
-
-front_or_last : {A : Type 0} (xs : List A) (x y : A) (i : ℕ) → slice_get (xs ++ x ∷ []) i ≡ Some y → (slice_get xs i ≡ Some y) ⊎ (i ≡ length xs) × (x ≡ y)
-front_or_last [] x y zero e = inr (refl, cc)
-front_or_last [] x y (suc i) e = cc
-front_or_last (z ∷ xs) x y zero e = inl e
-front_or_last (z ∷ xs) x y (suc i) e = go (front_or_last xs x y i e)
-  where
-    go : ((slice_get xs i ≡ Some y) ⊎ (i ≡ length xs) × (x ≡ y)) → (slice_get xs i ≡ Some y) ⊎ (suc i ≡ suc (length xs)) × (x ≡ y)
-    go (inl h) = inl h
-    go (inr h) = inr (ap suc h.0, h.1)
+use Rattle.fresh_names.proofs.Taken.{get_front}
 
 pub length_last : {A : Type 0} (xs : List A) (x : A) → length (xs ++ x ∷ []) ≡ suc (length xs)
 length_last [] x = refl
@@ -21,7 +12,7 @@ length_last (y ∷ xs) x = ap suc (length_last xs x)
 pub ports_more : (d : Design) (ls : List PortNames) (l : PortNames) (m : Module) → slice_get d (length ls) ≡ Some m → ArePortsOf m l
     → ((n : ℕ) (o : Module) (x : PortNames) → slice_get d n ≡ Some o → slice_get ls n ≡ Some x → ArePortsOf o x)
     → (n : ℕ) (o : Module) (x : PortNames) → slice_get d n ≡ Some o → slice_get (ls ++ l ∷ []) n ≡ Some x → ArePortsOf o x
-ports_more d ls l m at named before n o x e f = go (front_or_last ls l x n f)
+ports_more d ls l m at named before n o x e f = go (get_front ls l x n f)
   where
     go : ((slice_get ls n ≡ Some x) ⊎ (n ≡ length ls) × (l ≡ x)) → ArePortsOf o x
     go (inl h) = before n o x e h

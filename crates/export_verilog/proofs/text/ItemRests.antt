@@ -6,7 +6,7 @@ use Rattle.verilog_model.specs.Tree.Expr.{name}
 use Rattle.verilog_model.specs.Tree.Item.{wire, reg, assign, always, instance}
 use Rattle.verilog_expr.specs.Text.{expr_text}
 use Rattle.export_verilog.specs.Layout.{Text, range_text, load_text, if_text, event_text, block_text, connection_text, connection_lines, connections_text, item_text, items_text}
-use Rattle.export_verilog.proofs.text.Rests.{expr_rest, load_rest, if_rest, range_rest, connection_rest}
+use Rattle.export_verilog.proofs.text.Rests.{expr_rest, load_rest, if_rest, range_rest, connection_rest, three_rest}
 
 -- a condition and a load before a rest
 if_load_rest : (f i : Text) (c : Expr) (l : Load) (a b : Text) → if_text f c (load_text i l (a ++ b)) ≡ if_text f c (load_text i l a) ++ b
@@ -48,10 +48,6 @@ unfolding connections_text
 connections_rest [] a b = refl
 connections_rest (c ∷ cs) a b = ap (λ x. 10 ∷ x) (lines_rest c cs (codes "  );" ++ (10 ∷ a)) b)
 
--- three parts before a rest
-front_rest : (x y z a b : Text) → x ++ (y ++ (z ++ (a ++ b))) ≡ (x ++ (y ++ (z ++ a))) ++ b
-front_rest x y z a b = simp append_assoc
-
 named_rest : (h : Option Numeral) (n a b : Text) → range_text h (n ++ (59 ∷ 10 ∷ (a ++ b))) ≡ range_text h (n ++ (59 ∷ 10 ∷ a)) ++ b
 named_rest h n a b = ap (range_text h) (sym (append_assoc n (59 ∷ 10 ∷ a) b)) ∙ range_rest h (n ++ (59 ∷ 10 ∷ a)) b
 
@@ -61,13 +57,13 @@ item_rest (wire h n) a b = ap (λ x. codes "  wire " ++ x) (named_rest h n a b)
 item_rest (reg h n) a b = ap (λ x. codes "  reg " ++ x) (named_rest h n a b)
 item_rest (assign n e) a b =
     ap (λ x. codes "  assign " ++ (n ++ (codes " = " ++ x))) (expr_rest e (59 ∷ 10 ∷ a) b)
-    ∙ front_rest (codes "  assign ") n (codes " = ") (expr_text e (59 ∷ 10 ∷ a)) b
+    ∙ three_rest (codes "  assign ") n (codes " = ") (expr_text e (59 ∷ 10 ∷ a)) b
 item_rest (always clock k) a b =
     ap (λ x. codes "  always @(posedge " ++ (clock ++ x)) (ap (event_text k) (block_rest k a b) ∙ event_rest k (block_text k a) b)
     ∙ ap (λ x. codes "  always @(posedge " ++ x) (sym (append_assoc clock (event_text k (block_text k a)) b))
 item_rest (instance m n cs) a b =
     ap (λ x. codes "  " ++ (m ++ (32 ∷ n ++ (codes " (" ++ x)))) (connections_rest cs a b)
-    ∙ ap (λ x. codes "  " ++ (m ++ x)) (front_rest (32 ∷ []) n (codes " (") (connections_text cs a) b)
+    ∙ ap (λ x. codes "  " ++ (m ++ x)) (three_rest (32 ∷ []) n (codes " (") (connections_text cs a) b)
     ∙ ap (λ x. codes "  " ++ x) (sym (append_assoc m (32 ∷ n ++ (codes " (" ++ connections_text cs a)) b))
 
 pub items_rest : (is : List Item) (a b : Text) → items_text is (a ++ b) ≡ items_text is a ++ b

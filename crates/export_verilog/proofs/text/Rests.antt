@@ -27,7 +27,7 @@ five_parts out one two thr fou end a b c d e p q r s t =
 -- ---- expressions
 
 -- three and five parts before a rest
-three_rest : (x y z a b : Text) → x ++ (y ++ (z ++ (a ++ b))) ≡ (x ++ (y ++ (z ++ a))) ++ b
+pub three_rest : (x y z a b : Text) → x ++ (y ++ (z ++ (a ++ b))) ≡ (x ++ (y ++ (z ++ a))) ++ b
 three_rest x y z a b = simp append_assoc
 
 mutual

@@ -1,6 +1,6 @@
 -- Names are read as what they hold.
 use Rattle.std.proofs.Common.{◌≡◌, inl, inr, ℕ, suc, ◌+◌, ◌≤◌, Bool, true, false, ◌||◌, ◌==◌, cond, List, [], ◌∷◌, ◌++◌, length, refl, ◌∙◌, ap, arith, add-one}
-use Rattle.std.proofs.lemmas.Bool.{cond-true, cond-false, eqb-true, and_parts}
+use Rattle.std.proofs.lemmas.Bool.{cond-true, cond-false, eqb-true, and_parts, or_from}
 use Rattle.hw_model.specs.Types.{Name}
 use Rattle.mlir_lexer.specs.Classes.{is_space, is_digit, is_name_start, is_name_byte, is_suffix_byte}
 use Rattle.mlir_lexer.specs.Runs.{run}
@@ -53,10 +53,6 @@ digit_stops b h =
 
 -- ---- bare names
 
-either_of : (a b : Bool) → a ≡ false → b ≡ false → (a || b) ≡ false
-either_of true b h g = absurd cc
-either_of false b h g = g
-
 name_front : (b : ℕ) (bs : List ℕ) → is_name_start b ≡ true → front_of b bs ≡ Token kind.BareName (run is_name_byte bs + 1)
 unfolding front_of
 name_front b bs h =
@@ -64,7 +60,7 @@ name_front b bs h =
     let blank = unlike_byte is_name_start b 32 refl h in
     let tab = unlike_byte is_name_start b 9 refl h in
     let back = unlike_byte is_name_start b 13 refl h in
-    let space : is_space b ≡ false = either_of _ _ blank (either_of _ _ tab back) in
+    let space : is_space b ≡ false = or_from _ _ blank (or_from _ _ tab back) in
     cond-false (b == 10) LineEnd _ line ∙ cond-false (is_space b) _ _ space ∙ cond-true (is_name_start b) _ _ h
 
 -- a bare name is read as one word

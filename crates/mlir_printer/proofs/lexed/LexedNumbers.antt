@@ -3,7 +3,7 @@ use Rattle.std.proofs.Common.{◌≡◌, inl, inr, ℕ, suc, ◌+◌, ◌-◌, �
 use Rattle.std.specs.Prelude.{codes, ℤ, pos, negsuc}
 use Rattle.std.proofs.lemmas.Fmt.{decimal_by_steps_wide}
 use Rattle.std.proofs.lemmas.List.{length-append}
-use Rattle.std.proofs.lemmas.Bool.{cond-true, cond-false, eqb-true, eq-eqb}
+use Rattle.std.proofs.lemmas.Bool.{cond-true, cond-false, eqb-true, eq-eqb, and_right}
 use Rattle.diag.specs.declared.refusal.Place.{Place}
 use Rattle.mlir_lexer.specs.Classes.{is_space, is_digit, is_hex_digit, is_name_byte, is_name_start, is_suffix_byte}
 use Rattle.mlir_lexer.specs.Runs.{run, begins}
@@ -92,10 +92,6 @@ digit_front b bs h =
     cond-false (b == 10) LineEnd _ line ∙ cond-false (is_space b) _ _ space ∙ cond-false (is_name_start b) _ _ (digit_no_start b h)
     ∙ cond-true (is_digit b) _ _ h
 
-false_behind : (a b : Bool) → b ≡ false → (a && b) ≡ false
-false_behind true b h = h
-false_behind false b h = refl
-
 -- a number goes no further: neither by a digit nor as one in another base
 pub record EndsNumber (rest : List ℕ) : Type 0 where
   pub digits : run is_digit rest ≡ 0
@@ -143,7 +139,7 @@ number_token limit n small (b ∷ bs) h rest ends place at =
     let (digit, others) = first_digit b bs h.whole in
     let more = run_whole is_digit bs rest others ends.digits in
     let plain : number_front b (bs ++ rest) ≡ Token kind.Integer (run is_digit (bs ++ rest) + 1) =
-    cond-false (b == 48 && is_hex_mark (bs ++ rest)) _ _ (false_behind (b == 48) (is_hex_mark (bs ++ rest)) (no_base bs rest others ends)) in
+    cond-false (b == 48 && is_hex_mark (bs ++ rest)) _ _ (and_right (b == 48) (is_hex_mark (bs ++ rest)) (no_base bs rest others ends)) in
     let one = one_token b bs rest place at (digit_front b (bs ++ rest) digit ∙ plain) (ap (λ n. n + 1) more)
     (λ t k e. (k, ap number_of e ∙ digits_number b bs h.whole ∙ h.value)) in
     record { passed = one.passed; end = one.end; behind = one.behind; same = one.same; says = (small, one.says) }

@@ -3,7 +3,7 @@ use Rattle.std.proofs.Common.{◌≡◌, ℕ, zero, suc, ◌+◌, ◌-◌, ◌*�
 use Rattle.std.specs.Option.{option_map}
 use Rattle.std.proofs.lemmas.List.{length-append}
 use Rattle.std.proofs.Math.Seq.{take-append_seam}
-use Rattle.std.proofs.lemmas.Bool.{cond-true, cond-false, eqb-true, and_parts}
+use Rattle.std.proofs.lemmas.Bool.{cond-true, cond-false, eqb-true, and_parts, not-true}
 use Rattle.mlir_lexer.specs.Classes.{is_hex_digit}
 use Rattle.mlir_lexer.specs.Strings.{is_escape_letter, reading_after, string_rest, string_length}
 use Rattle.mlir_lexer.specs.Contents.{hex_value, decode, unescape, content_of}
@@ -51,17 +51,13 @@ record IsHex (n : ℕ) : Type 0 where
   letter : is_escape_letter (hex_digit n) ≡ false
   value : hex_value (hex_digit n) ≡ n
 
-not_true : (b : Bool) → not b ≡ true → b ≡ false
-not_true true h = absurd cc
-not_true false h = refl
-
 is_hex : (n : ℕ) → n < 16 → IsHex n
 unfolding is_read_back all_below
 is_hex n small =
     let all : all_below 16 is_read_back ≡ true = refl in
     let (digit, more) = and_parts (is_hex_digit (hex_digit n)) _ (of_all 16 is_read_back all n small) in
     let (letter, value) = and_parts (not (is_escape_letter (hex_digit n))) _ more in
-    record { digit = digit; letter = not_true _ letter; value = eqb-true _ _ value }
+    record { digit = digit; letter = not-true _ letter; value = eqb-true _ _ value }
 
 -- ---- bytes of a string
 

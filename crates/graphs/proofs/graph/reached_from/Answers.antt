@@ -1,9 +1,9 @@
 use Rattle.std.proofs.Common.{◌<◌, ◌∷◌, length, arith, subst, inl, refl, []}
 use Rattle.wiring.proofs.Members.{In-append_right}
 use Rattle.graphs.specs.Graphs.{lists_of}
-use Rattle.graphs.proofs.Lists.{no_items}
 use Rattle.graphs.proofs.Marking.{IsSearching, searching_begins, searching_goes, search_ends, length-lists}
 use Rattle.graphs.proofs.graph.reached_from.Goals as goal
+use Rattle.std.proofs.lemmas.List.{nil_from_length}
 
 pub loop-node-init : goal.loop-node-init
 loop-node-init c =
@@ -31,4 +31,4 @@ pub returns : goal.returns
 returns c =
     search_ends (lists_of c.args.graph.now) c.args.starts.now c.loop-node.marks.items
     (subst (IsSearching (lists_of c.args.graph.now) c.args.starts.now c.loop-node.marks.items)
-    (no_items c.loop-node.waiting.items (omega (arith, c.in_default.ensures.cases, c.loop-node.waiting.ok.0))) c.loop-node.invariant)
+    (nil_from_length c.loop-node.waiting.items (omega (arith, c.in_default.ensures.cases, c.loop-node.waiting.ok.0))) c.loop-node.invariant)

@@ -6,16 +6,16 @@ use Rattle.port_checks.specs.Pairs.{AddsPairs}
 use Rattle.port_checks.specs.Numbers.{port_number, numbers_of}
 use Rattle.port_checks.specs.Joins.{pairs_in, made_from}
 use Rattle.port_checks.specs.Marked.{has_mark_at}
-use Rattle.graphs.proofs.Lists.{no_items}
 use Rattle.port_checks.proofs.Reaching.{marks_are, none_reset}
 use Rattle.port_checks.proofs.reset_ports.ResetPorts.of.Goals as goal
+use Rattle.std.proofs.lemmas.List.{nil_from_length}
 
 pub returns-then-is_empty : goal.returns-then-is_empty
 returns-then-is_empty c =
     let d = design_of c.args.design.now in
     let named = c.in_ok-named.named in
     let none : vec_len named ≡ 0 = eqb-true (vec_len named) 0 (sym c.is_empty.ensures ∙ c.if-is_empty.true) in
-    let empty : named.items ≡ [] = no_items named.items (omega (arith, none, named.ok.0)) in
+    let empty : named.items ≡ [] = nil_from_length named.items (omega (arith, none, named.ok.0)) in
     λ i j.
     ap₂ (λ starts marks. has_mark_at marks (port_number starts i j)) c.new.ensures.items c.new-then-is_empty.ensures.items
     ∙ none_reset d (sym empty ∙ c.in_ok-named.ensures) i j
