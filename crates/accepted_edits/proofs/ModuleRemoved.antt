@@ -1,16 +1,14 @@
 -- A module that nothing instances goes: a fit design stays fit, and no module gets heavier.
-use Rattle.std.proofs.Common.{◌≡◌, ◌≤◌, ℕ, zero, suc, List, [], ◌∷◌, length, remove, Option, Some, None, slice_get, refl, sym, ap, subst, ◌∙◌, arith}
+use Rattle.std.proofs.Common.{◌≡◌, ◌≤◌, ℕ, zero, suc, [], ◌∷◌, length, remove, Option, Some, None, slice_get, refl, sym, ap, subst, ◌∙◌, arith}
 use Rattle.std.specs.Prelude.{is_some}
 use Rattle.std.proofs.lemmas.Option.{slice_get_within}
 use Rattle.wiring.specs.Wiring.{In}
 use Rattle.wiring.proofs.Edits.{length-remove_suc}
 use Rattle.wiring.proofs.Members.{position_of_In}
-use Rattle.hw_model.specs.Types.{Name, HwType}
-use Rattle.hw_model.specs.Kinds.{Kind}
-use Rattle.hw_model.specs.Kinds.Kind.{instance}
-use Rattle.hw_model.specs.Design.{Op, Module, Design, find_module}
+use Rattle.hw_model.specs.Types.{Name}
+use Rattle.hw_model.specs.Design.{Module, Design, find_module}
 use Rattle.hw_model.specs.Hierarchy.{calls, IsWithout}
-use Rattle.hw_model.specs.Weight.{kind_weight, body_weight, weight_of, module_weight, weight}
+use Rattle.hw_model.specs.Weight.{weight_of, module_weight, weight}
 use Rattle.design_cycles.specs.Asked.{HasDistinctSymbols}
 use Rattle.design_cycles.proofs.Callees.{found_at}
 use Rattle.port_checks.proofs.Least.{found_module}
@@ -22,29 +20,14 @@ use Rattle.accepted_edits.specs.Keeps.{IsFit}
 use Rattle.accepted_edits.proofs.Accepted.{fit_kept}
 use Rattle.accepted_edits.proofs.Edited.{kept_self}
 use Rattle.hw_edits.proofs.ResetsKept.{find_symbol}
+use Rattle.hw_model.proofs.Weights.{weight_of_le}
 
 -- ---- weights of what is instanced
-
-module _ (f g : Name → ℕ) (below : (s : Name) → f s ≤ g s) where
-  kind_below : (kind : Kind) (ts : List HwType) (n : ℕ) → kind_weight f kind ts n ≤ kind_weight g kind ts n
-  kind_below (instance i) ts n = let inner : f i.symbol ≤ g i.symbol = below i.symbol in omega arith
-  kind_below kind ts n = omega arith
-
-  body_below : (os : List Op) → body_weight f os ≤ body_weight g os
-  body_below [] = omega arith
-  body_below (o ∷ os) =
-      let first : kind_weight f o.kind o.types (length o.operands) ≤ kind_weight g o.kind o.types (length o.operands) = kind_below o.kind o.types (length o.operands) in
-      let rest : body_weight f os ≤ body_weight g os = body_below os in
-      omega arith
-
-  module_below : (o : Option Module) → weight_of f o ≤ weight_of g o
-  module_below None = omega arith
-  module_below (Some m) = let body : body_weight f m.body ≤ body_weight g m.body = body_below m.body in omega arith
 
 -- a greater depth gives no less
 deeper : (d : Design) (n : ℕ) (s : Name) → module_weight n d s ≤ module_weight (suc n) d s
 deeper d zero s = omega arith
-deeper d (suc n) s = module_below (module_weight n d) (module_weight (suc n) d) (deeper d n) (find_module d s)
+deeper d (suc n) s = weight_of_le (module_weight n d) (module_weight (suc n) d) (deeper d n) (find_module d s)
 
 -- ---- the design without the module
 
@@ -97,7 +80,7 @@ module _ (d : Design) (k : ℕ) (m : Module) (fit : IsFit d) (at : slice_get d k
       go below None is = omega arith
       go below (Some y) is =
           subst (λ z. weight_of (module_weight n (remove d k)) (Some y) ≤ weight_of (module_weight n d) z) (sym (left_found s y is))
-          (module_below (module_weight n (remove d k)) (module_weight n d) below (Some y))
+          (weight_of_le (module_weight n (remove d k)) (module_weight n d) below (Some y))
 
   pub lighter_without_module : (s : Name) → weight (remove d k) s ≤ weight d s
   lighter_without_module s =

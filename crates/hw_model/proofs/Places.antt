@@ -24,15 +24,15 @@ use Rattle.hw_model.proofs.Finite.{settles_with_heights}
 
 -- ---- bodies
 
-body_placeless : (o : Option Module) → body_of (omap module_without_places o) ≡ map op_without_place (body_of o)
+pub body_placeless : (o : Option Module) → body_of (omap module_without_places o) ≡ map op_without_place (body_of o)
 body_placeless None = refl
 body_placeless (Some m) = refl
 
-ports_placeless : (o : Option Module) → ports_of (omap module_without_places o) ≡ ports_of o
+pub ports_placeless : (o : Option Module) → ports_of (omap module_without_places o) ≡ ports_of o
 ports_placeless None = refl
 ports_placeless (Some m) = refl
 
-find_placeless : (d : Design) (s : Name) → find_module (without_places d) s ≡ omap module_without_places (find_module d s)
+pub find_placeless : (d : Design) (s : Name) → find_module (without_places d) s ≡ omap module_without_places (find_module d s)
 find_placeless [] s = refl
 find_placeless (m ∷ d) s = go (same_name m.symbol s) (find_placeless d s)
   where
@@ -41,7 +41,7 @@ find_placeless (m ∷ d) s = go (same_name m.symbol s) (find_placeless d s)
     go true rest = refl
     go false rest = rest
 
-instances_placeless : (os : List Op) → instances (map op_without_place os) ≡ map op_without_place (instances os)
+pub instances_placeless : (os : List Op) → instances (map op_without_place os) ≡ map op_without_place (instances os)
 instances_placeless [] = refl
 instances_placeless (o ∷ os) = go (is_instance o) (instances_placeless os)
   where
@@ -50,7 +50,7 @@ instances_placeless (o ∷ os) = go (is_instance o) (instances_placeless os)
     go true rest = ap (λ xs. op_without_place o ∷ xs) rest
     go false rest = rest
 
-output_refs_placeless : (os : List Op) → output_refs (map op_without_place os) ≡ output_refs os
+pub output_refs_placeless : (os : List Op) → output_refs (map op_without_place os) ≡ output_refs os
 output_refs_placeless [] = refl
 output_refs_placeless (o ∷ os) = ap (λ rs. cond (is_output_op o) o.operands rs) (output_refs_placeless os)
 
@@ -92,7 +92,7 @@ machine_of size from out next rising = record {
 -- ---- designs
 
 module _ (d : Design) where
-  callee_placeless : (o : Op) → callee (without_places d) (op_without_place o) ≡ omap module_without_places (callee d o)
+  pub callee_placeless : (o : Op) → callee (without_places d) (op_without_place o) ≡ omap module_without_places (callee d o)
   callee_placeless o = go (instance_in o.kind)
     where
       go : (y : Option Instance) → bind y (λ (i : Instance). find_module (without_places d) i.symbol) ≡ omap module_without_places (bind y (λ (i : Instance). find_module d i.symbol))
@@ -208,7 +208,7 @@ module _ (d : Design) where
             offset_same
             (ap₂ (λ n y. copy_of (n ∷ p) y) count_same (given_placeless k o))
 
-    source_placeless : (a : Net) → source (without_places d) top a ≡ source d top a
+    pub source_placeless : (a : Net) → source (without_places d) top a ≡ source d top a
     source_placeless a = go a.path a.ref
       where
         go : (p : Path) (r : Ref) → source (without_places d) top (net p r) ≡ source d top (net p r)

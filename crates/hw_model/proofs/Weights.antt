@@ -18,7 +18,7 @@ module _ (f g : Name → ℕ) (below : (s : Name) → f s ≤ g s) where
       let rest : body_weight f os ≤ body_weight g os = body_weight_le os in
       omega arith
 
-  weight_of_le : (o : Option Module) → weight_of f o ≤ weight_of g o
+  pub weight_of_le : (o : Option Module) → weight_of f o ≤ weight_of g o
   weight_of_le None = omega arith
   weight_of_le (Some m) = let body : body_weight f m.body ≤ body_weight g m.body = body_weight_le m.body in omega arith
 

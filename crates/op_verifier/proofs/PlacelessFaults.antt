@@ -18,8 +18,9 @@ use Rattle.op_verifier.specs.OpChecks.{has_again, has_undefined, settled_by, set
 use Rattle.op_verifier.specs.ResetChecks.{is_input_port, is_constant_op, is_constant_ref, has_other_reset, has_other_join, reset_cause}
 use Rattle.op_verifier.specs.Headers.{has_twice, has_output, ports_cause, header_cause}
 use Rattle.op_verifier.specs.Faults.{header_refusal, op_refusal, is_empty, body_fault, module_fault, faults_from, first_fault}
-use Rattle.port_checks.proofs.Placeless.{find_placeless, callee_placeless, instance_placeless, reset_placeless}
+use Rattle.port_checks.proofs.Placeless.{instance_placeless, reset_placeless}
 use Rattle.op_verifier.proofs.ResetJoins.{joins_same}
+use Rattle.hw_model.proofs.Places.{find_placeless, callee_placeless}
 
 -- ---- what stands in a body
 

@@ -1,31 +1,16 @@
 -- The places of modules and operations in the source decide nothing of instances and reset ports.
-use Rattle.std.proofs.Common.{◌≡◌, ℕ, zero, suc, ◌+◌, Bool, true, false, cond, not, ◌&&◌, ◌||◌, List, [], ◌∷◌, length, map, slice_get, Option, Some, None, is_some, refl, sym, ap, ap₂, ◌∙◌}
+use Rattle.std.proofs.Common.{◌≡◌, ℕ, zero, suc, ◌+◌, Bool, not, ◌&&◌, ◌||◌, List, [], ◌∷◌, length, map, slice_get, Option, Some, None, is_some, refl, sym, ap, ap₂, ◌∙◌}
 use Rattle.std.specs.List.{list_any}
 use mathlib.Core.Path.{fun_ext}
-use Rattle.wiring.specs.Options.{bind, omap}
-use Rattle.hw_model.specs.Types.{Name, HwType}
+use Rattle.wiring.specs.Options.{omap}
+use Rattle.hw_model.specs.Types.{HwType}
 use Rattle.hw_model.specs.Kinds.{Instance}
-use Rattle.hw_model.specs.Design.{Op, Module, Design, op_without_place, module_without_places, without_places, same_name, find_module, instance_in, callee, IsSameDesign}
+use Rattle.hw_model.specs.Design.{Op, Module, Design, op_without_place, module_without_places, without_places, find_module, instance_in, callee, IsSameDesign}
 use Rattle.port_checks.specs.InstanceChecks.{call_cause, instance_cause}
 use Rattle.port_checks.specs.ResetPorts.{is_bit_input, names_port, joins_marked, makes_reset, is_reset_within, port_count, is_reset_port}
+use Rattle.hw_model.proofs.Places.{find_placeless, callee_placeless}
 
 -- ---- modules that are named
-
-pub find_placeless : (d : Design) (s : Name) → find_module (without_places d) s ≡ omap module_without_places (find_module d s)
-find_placeless [] s = refl
-find_placeless (m ∷ d) s = go (same_name m.symbol s) (find_placeless d s)
-  where
-    go : (b : Bool) → find_module (without_places d) s ≡ omap module_without_places (find_module d s)
-        → cond b (Some (module_without_places m)) (find_module (without_places d) s) ≡ omap module_without_places (cond b (Some m) (find_module d s))
-    go true rest = refl
-    go false rest = rest
-
-pub callee_placeless : (d : Design) (o : Op) → callee (without_places d) (op_without_place o) ≡ omap module_without_places (callee d o)
-callee_placeless d o = go (instance_in o.kind)
-  where
-    go : (y : Option Instance) → bind y (λ (i : Instance). find_module (without_places d) i.symbol) ≡ omap module_without_places (bind y (λ (i : Instance). find_module d i.symbol))
-    go None = refl
-    go (Some i) = find_placeless d i.symbol
 
 pub instance_placeless : (d : Design) (ts : List HwType) (x : Option Instance) → instance_cause (without_places d) ts x ≡ instance_cause d ts x
 instance_placeless d ts None = refl
