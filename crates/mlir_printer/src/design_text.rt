@@ -1,10 +1,12 @@
 //! The text of a design.
 ghost use Rattle.std.specs.Prelude.{◌≡◌, ◌++◌, map, OnOk, IfOk};
 ghost use Rattle.ir_store.specs.Designs.{design_of, numbered_module};
+ghost use Rattle.mlir_reader.specs.Spelling.{SpellsPlacelessly};
 ghost use Rattle.op_verifier.specs.Answered.{modules_verified};
 ghost use Rattle.mlir_printer.specs.Modules.{modules_bytes};
 ghost use Rattle.mlir_printer.specs.Texts.{ir_text, modules_shown};
 
+use crate::laws::{what_is_canonical_is_printable, what_is_printable_is_spelled};
 use crate::modules::push_with_names;
 use crate::value_names::ValueNames;
 use io_edge::byte_text::Text;
@@ -25,19 +27,25 @@ pub fn design_text(alloc: Global, design: &Design) -> Result<Text, AllocError>
     Ok(out)
 }
 
-/// The text of a verified design. The error comes only when out of memory.
+/// The text of a verified design, which spells that design. The error comes only when out of memory.
 pub fn print_design(alloc: Global, verified: &Verified) -> Result<Text, AllocError>
-    ensures { IfOk result (λ text. text ≡ ir_text (map numbered_module (modules_verified verified.now))) }
+    ensures laid_out { IfOk result (λ text. text ≡ ir_text (map numbered_module (modules_verified verified.now))) }
+    ensures spelled { IfOk result (λ text. SpellsPlacelessly text (map numbered_module (modules_verified verified.now))) }
 {
+    what_is_canonical_is_printable();
+    what_is_printable_is_spelled();
     design_text(alloc, verified.design())
 }
 
-/// The text of a verified design, which gives back the memory of each body as soon as the body is printed. The error comes
-/// only when out of memory.
+/// The text of a verified design, which spells that design. It gives back the memory of each body as soon as the body is printed.
+/// The error comes only when out of memory.
 #[tactic(auto, using(std::proofs::Common::append_assoc), unfolding(crate::specs::Texts::ir_text, crate::specs::Modules::file_bytes))]
 pub fn print_and_drop(alloc: Global, verified: Verified) -> Result<Text, AllocError>
-    ensures { IfOk result (λ text. text ≡ ir_text (map numbered_module (modules_verified verified))) }
+    ensures laid_out { IfOk result (λ text. text ≡ ir_text (map numbered_module (modules_verified verified))) }
+    ensures spelled { IfOk result (λ text. SpellsPlacelessly text (map numbered_module (modules_verified verified))) }
 {
+    what_is_canonical_is_printable();
+    what_is_printable_is_spelled();
     let mut out = Text::new(alloc);
     out.push_bytes(b"module {\n")?;
     push_and_drop(alloc, &mut out, verified.into_design())?;

@@ -1,17 +1,18 @@
 //! The laws of printing, each a clause of a function that does nothing.
 
-ghost use Rattle.std.specs.Prelude.{◌≡◌, ℕ, ◌≤◌, List, length, None, Ok};
+ghost use Rattle.std.specs.Prelude.{◌≡◌, ◌≤◌, List, length, Ok};
 ghost use Rattle.hw_model.specs.Design.{Design, IsSameDesign};
 ghost use Rattle.mlir_reader.specs.Reading.{text_limit, read};
 ghost use Rattle.mlir_reader.specs.Spelling.{Spells, SpellsPlacelessly};
-ghost use Rattle.op_verifier.specs.Faults.{first_fault};
+ghost use Rattle.op_verifier.specs.Verdict.{IsAccepted};
 ghost use Rattle.mlir_printer.specs.Modules.{ModuleText, file_bytes};
-ghost use Rattle.canonical_form.specs.Bytes.{Each, AreBytes};
+ghost use Rattle.canonical_form.specs.Bytes.{Each};
+ghost use Rattle.canonical_form.specs.Canonical.{IsCanonical};
 ghost use Rattle.mlir_printer.specs.SpellableModules.{IsSpellable, AreSpelled};
 ghost use Rattle.mlir_printer.specs.Texts.{ir_text};
 ghost use Rattle.mlir_printer.specs.Printable.{Printable};
 
-use mlir_reader::laws::{what_is_read_is_spelled, what_is_spelled_is_read};
+use mlir_reader::laws::what_is_spelled_is_read;
 
 /// Does nothing. Its clause says that the bytes of modules that can be spelled are tokens which the grammar reads as just these modules.
 pub fn what_is_spellable_is_spelled()
@@ -23,12 +24,10 @@ pub fn what_is_printable_is_spelled()
     ensures { (d : Design) → Printable d → SpellsPlacelessly (ir_text d) d }
 {}
 
-/// Does nothing. Its clause says that a design that is read of bytes and not refused can be printed.
-pub fn what_is_accepted_is_printable()
-    ensures { (source : List ℕ) (d : Design) → AreBytes source → read source ≡ Ok d → first_fault d ≡ None → Printable d }
-{
-    what_is_read_is_spelled();
-}
+/// Does nothing. Its clause says that a design in canonical form of which nothing is refused can be printed.
+pub fn what_is_canonical_is_printable()
+    ensures { (d : Design) → IsAccepted d → IsCanonical d → Printable d }
+{}
 
 /// Does nothing. Its clause says that the text of a design that can be printed, however long it is, spells a design that is the same but for
 /// places, and that it is read as that one, where it is not too long.

@@ -2,6 +2,7 @@
 ghost use Rattle.std.proofs.Props.{props};
 ghost use Rattle.ir_store.specs.Designs.{design_of};
 ghost use Rattle.canonical_form.specs.Canonical.{IsCanonical};
+ghost use Rattle.canonical_form.proofs.OneProof.{canonical_prop};
 ghost use Rattle.op_verifier.specs.Verdict.{IsAccepted};
 
 use ir_store::design::Design;
@@ -11,7 +12,7 @@ use ir_store::design::Design;
 pub struct Verified {
     pub(crate) design: Design,
     ghost accepted: { IsAccepted (design_of design) } by { Prim.hlevel props },
-    ghost canonical: { ∥ IsCanonical (design_of design) ∥₁ },
+    ghost canonical: { IsCanonical (design_of design) } by { canonical_prop (design_of design) },
 }
 
 impl Verified {

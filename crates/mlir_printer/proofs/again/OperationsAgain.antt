@@ -147,7 +147,7 @@ module _ (ports : List Port) (body : List Op) (o : Op) (p : IsPrintableOp ports 
       ap (λ k. result_types k o.types (length (map said_operand (map means o.operands)))) (kind_again o.kind o.types p.kept)
       ∙ ap (λ n. result_types o.kind o.types n) (length-map (map means o.operands) said_operand ∙ length-map o.operands means)
 
-  few_names : name_count (parts_in o) ≤ length o.results
+  pub few_names : name_count (parts_in o) ≤ length o.results
   few_names = go (is_pack o.kind (length o.results)) refl
     where
       go : (b : Bool) → is_pack o.kind (length o.results) ≡ b → name_count (parts_in o) ≤ length o.results

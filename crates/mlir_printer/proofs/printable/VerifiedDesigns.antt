@@ -1,7 +1,6 @@
--- A design that is read and not refused can be printed and read again.
-use Rattle.std.proofs.Common.{◌≡◌, ℕ, zero, suc, ◌<◌, Bool, true, false, cond, ◌&&◌, List, [], ◌∷◌, map, length, refl, ap, ◌∙◌, sym, arith}
-use Rattle.std.specs.Prelude.{not, nat_lt, Option, Some, None, is_some, slice_get, ⊤, Ok, Err}
-use Rattle.std.proofs.lemmas.Bool.{ltb-false}
+-- A design in canonical form of which nothing is refused can be printed, and its text spells it.
+use Rattle.std.proofs.Common.{◌≡◌, ℕ, zero, suc, ◌+◌, ◌*◌, ◌^◌, ◌<◌, ◌≤◌, Bool, true, false, cond, ◌&&◌, List, [], ◌∷◌, ◌++◌, map, length, refl, ap, ◌∙◌, sym, subst, arith, length-append}
+use Rattle.std.specs.Prelude.{not, Option, Some, None, is_some, slice_get, ⊤}
 use Rattle.wiring.specs.Options.{bind, omap}
 use Rattle.hw_model.specs.Types.{HwType}
 use Rattle.hw_model.specs.Kinds.{Kind}
@@ -11,27 +10,22 @@ use Rattle.hw_model.specs.Sound.{type_in, input_type}
 use Rattle.hw_model.specs.Design.{Ref, Port, OpResult, Op, Module, Design, is_output_op, result_type}
 use Rattle.hw_model.specs.Design.Ref.{port, result, undefined}
 use Rattle.ir_store.specs.ResultTypes.{result_types}
-use Rattle.diag.specs.Place.{start_place}
-use Rattle.diag.specs.declared.refusal.OpName.TheVariants as op
-use Rattle.diag.specs.declared.cause.Cause.TheVariants.{TooLong}
-use Rattle.mlir_syntax.specs.Stream.{stream_of, refusal}
-use Rattle.mlir_operations.specs.ModuleText.{file_text}
-use Rattle.mlir_reader.specs.Reading.{text_limit, design_read, read}
 use Rattle.mlir_syntax.specs.Numerals.{count_limit}
-use Rattle.mlir_reader.specs.Resolving.{marked_results}
-use Rattle.canonical_form.specs.ResultTypes.{type_or_none}
-use Rattle.mlir_reader.specs.Spelling.{Spells}
+use Rattle.canonical_form.specs.Bytes.{Each}
+use Rattle.canonical_form.specs.ResultTypes.{type_or_none, HaveTypes}
+use Rattle.canonical_form.specs.Canonical.{IsCanonicalOp, IsCanonicalPort, IsCanonicalModule, IsCanonical}
 use Rattle.op_checks.specs.CountChecks.{operands_written, operand_count}
 use Rattle.op_verifier.specs.OpChecks.{has_again, has_undefined, op_cause}
 use Rattle.op_verifier.specs.Headers.{has_port, has_output, header_cause}
 use Rattle.op_verifier.specs.Faults.{op_refusal, header_refusal, is_empty, body_fault, module_fault, faults_from, first_fault}
+use Rattle.op_verifier.specs.Verdict.{IsAccepted}
+use Rattle.op_verifier.proofs.AcceptedDesigns.{no_fault}
 use Rattle.op_verifier.proofs.NoCauseAlone.{no_cause_alone, result_number}
 use Rattle.op_verifier.proofs.Unrefused.{or_none, map_none, no_op_cause, no_header_cause}
-use Rattle.canonical_form.specs.Bytes.{Each, AreBytes}
+use Rattle.mlir_printer.specs.Naming.{name_hints, port_name_hints, body_name_hints}
+use Rattle.mlir_printer.specs.Texts.{parts_in}
 use Rattle.mlir_printer.specs.Printable.{IsDefined, settled_result, IsPrintableOp, IsPrintablePort, EndsWithOutput, IsPrintableModule, Printable}
-use Rattle.mlir_printer.proofs.again.OperationsAgain.{types_counted}
-use Rattle.mlir_printer.proofs.printable.ReadOperations.{IsReadOp}
-use Rattle.mlir_printer.proofs.printable.ReadModules.{IsReadPort, IsReadModule, spelled_is_read}
+use Rattle.mlir_printer.proofs.again.OperationsAgain.{types_counted, few_names}
 
 -- ---- the counts of an operation that is not refused
 
@@ -43,18 +37,20 @@ counts_written _ ts n h = h
 
 -- ---- results
 
-unmarked : (ts : List (Option HwType)) (bs : List Bool) → length (marked_results ts bs) ≡ length ts → has_again (marked_results ts bs) ≡ false
-    → marked_results ts bs ≡ map settled_result ts
-unmarked [] [] e h = refl
-unmarked [] (b ∷ bs) e h = absurd (omega (arith, e))
-unmarked (t ∷ ts) [] e h = ap (λ l. settled_result t ∷ l) (unmarked ts [] (omega (arith, e)) h)
-unmarked (t ∷ ts) (b ∷ bs) e h = go b h (unmarked ts bs (omega (arith, e)))
+-- results of the types that are settled, as many, of which none was defined earlier
+settled : (rs : List OpResult) (ts : List (Option HwType)) → HaveTypes rs ts → length rs ≡ length ts → has_again rs ≡ false → rs ≡ map settled_result ts
+settled [] [] h e g = refl
+settled (r ∷ rs) [] h e g = absurd (omega (arith, e))
+settled [] (t ∷ ts) h e g = absurd h
+settled (r ∷ rs) (t ∷ ts) h e g = go r.again refl g (settled rs ts h.1 (omega (arith, e)))
   where
-    go : (c : Bool) → cond c true (has_again (marked_results ts bs)) ≡ false
-        → (has_again (marked_results ts bs) ≡ false → marked_results ts bs ≡ map settled_result ts)
-        → record { type = type_or_none t; again = c } ∷ marked_results ts bs ≡ settled_result t ∷ map settled_result ts
-    go true g r = cc
-    go false g r = ap (λ l. settled_result t ∷ l) (r g)
+    go : (b : Bool) → r.again ≡ b → cond b true (has_again rs) ≡ false → (has_again rs ≡ false → rs ≡ map settled_result ts)
+        → r ∷ rs ≡ settled_result t ∷ map settled_result ts
+    go true f k rest = cc
+    go false f k rest =
+        let one : r ≡ settled_result t =
+        ap (λ x. record { type = x; again = r.again }) h.0 ∙ ap (λ x. record { type = type_or_none t; again = x }) f in
+        ap (λ x. x ∷ rs) one ∙ ap (λ l. settled_result t ∷ l) (rest k)
 
 -- ---- operands
 
@@ -63,7 +59,7 @@ slice_within f [] k h = cc
 slice_within f (x ∷ xs) zero h = omega arith
 slice_within f (x ∷ xs) (suc k) h = let e = slice_within f xs k h in omega (arith, e)
 
-defined_of : (ports : List Port) (os : List Op) (r : Ref) → is_some (type_in ports os r) ≡ true → IsDefined ports os r
+pub defined_of : (ports : List Port) (os : List Op) (r : Ref) → is_some (type_in ports os r) ≡ true → IsDefined ports os r
 defined_of ports os (port j) h = go (slice_get ports j) refl h
   where
     input : (b : Bool) (t : HwType) → is_some (cond b None (Some t)) ≡ true → b ≡ false
@@ -81,7 +77,7 @@ defined_of ports os (result j k) h = go (slice_get os j) refl h
     go (Some o) e g = (o, e, slice_within (λ (r : OpResult). r.type) o.results k g)
 defined_of ports os undefined h = cc
 
-all_defined : (ports : List Port) (os : List Op) (rs : List Ref) → has_undefined ports os rs ≡ false → Each (IsDefined ports os) rs
+pub all_defined : (ports : List Port) (os : List Op) (rs : List Ref) → has_undefined ports os rs ≡ false → Each (IsDefined ports os) rs
 all_defined ports os [] h = tt
 all_defined ports os (r ∷ rs) h = go (is_some (type_in ports os r)) refl h (all_defined ports os rs)
   where
@@ -92,32 +88,31 @@ all_defined ports os (r ∷ rs) h = go (is_some (type_in ports os r)) refl h (al
 
 -- ---- operations
 
-op_printable : (d : Design) (ports : List Port) (whole : List Op) (last : Bool) (o : Op) → op_cause d ports whole last o ≡ None → IsReadOp o
-    → o.named < count_limit
+op_printable : (d : Design) (ports : List Port) (whole : List Op) (last : Bool) (o : Op) → op_cause d ports whole last o ≡ None → IsCanonicalOp o
     → IsPrintableOp ports whole o
-op_printable d ports whole last o h read named =
+op_printable d ports whole last o h form =
     let none = no_op_cause d ports whole last o h in
     let right = no_cause_alone ports whole o none.alone in
     let count = result_number ports whole o right in
     let written = counts_written o.kind o.types (length o.operands) right.operands in
     let ts = result_types o.kind o.types (length o.operands) in
-    let size : length (marked_results ts read.again) ≡ length ts = sym (ap length read.results) ∙ count ∙ sym
-    (types_counted o.kind o.types (length o.operands)) in
+    let size : length o.results ≡ length ts = count ∙ sym (types_counted o.kind o.types (length o.operands)) in
     let some : o.named ≡ length o.results = right.names ∙ sym count in
+    let named = form.named in
     record {
       defined = all_defined ports whole o.operands none.defined;
       operands = written;
       types = right.types;
-      readable = read.readable;
-      results = read.results ∙ unmarked ts read.again size (sym (ap has_again read.results) ∙ none.again);
+      readable = form.readable;
+      results = settled o.results ts form.types size none.again;
       named = some;
       few = λ p. omega (arith, some, named);
-      kept = read.kept;
-      written = read.written;
-      nameless = read.nameless;
-      name = read.name;
-      dictionary = read.dictionary;
-      bin = read.bin;
+      kept = form.kept;
+      written = form.written;
+      nameless = form.nameless;
+      name = form.name;
+      dictionary = form.dictionary;
+      bin = form.bin;
     }
 
 -- an output is the last
@@ -125,15 +120,30 @@ abbrev OutputsLast : List Op → Type 0
 OutputsLast [] = ⊤
 OutputsLast (o ∷ os) = ((is_output_op o && not (is_empty os)) ≡ false) × OutputsLast os
 
-body_printable : (d : Design) (ports : List Port) (whole os : List Op) → body_fault d ports whole os ≡ None → Each IsReadOp os
-    → Each (λ (o : Op). o.named < count_limit) os
-    → Each (IsPrintableOp ports whole) os × OutputsLast os
-body_printable d ports whole [] h read named = (tt, tt)
-body_printable d ports whole (o ∷ os) h read named =
+-- a body that can be printed, where outputs are the last and not too many names are taken
+record IsPrintableBody (ports : List Port) (whole os : List Op) : Type 0 where
+  each : Each (IsPrintableOp ports whole) os
+  last : OutputsLast os
+  few : length (body_name_hints (map parts_in os)) ≤ length os * (2 ^ 32)
+
+body_printable : (d : Design) (ports : List Port) (whole os : List Op) → body_fault d ports whole os ≡ None → Each IsCanonicalOp os
+    → IsPrintableBody ports whole os
+body_printable d ports whole [] h form = record { each = tt; last = tt; few = omega arith }
+body_printable d ports whole (o ∷ os) h form =
     let a = or_none _ _ h in
     let none = map_none (op_refusal o) (op_cause d ports whole (is_empty os) o) a.0 in
-    let rest = body_printable d ports whole os a.1 read.1 named.1 in
-    ((op_printable d ports whole (is_empty os) o none read.0 named.0, rest.0), ((no_op_cause d ports whole (is_empty os) o none).ends, rest.1))
+    let rest = body_printable d ports whole os a.1 form.1 in
+    let printable = op_printable d ports whole (is_empty os) o none form.0 in
+    let names = few_names ports whole o printable in
+    let results = printable.named in
+    let named = form.0.named in
+    let more = rest.few in
+    let both = length-append (name_hints (parts_in o)) (body_name_hints (map parts_in os)) in
+    record {
+      each = (printable, rest.each);
+      last = ((no_op_cause d ports whole (is_empty os) o none).ends, rest.last);
+      few = omega (arith, names, results, named, more, both);
+    }
 
 ends_so : (os : List Op) → has_output os ≡ true → OutputsLast os → EndsWithOutput os
 ends_so [] h l = cc
@@ -152,7 +162,7 @@ ends_so (o ∷ p ∷ os) h l = go (is_output_op o) refl h l.0 (λ e. ends_so (p 
 
 -- ---- modules
 
-none_again : (ps : List Port) → has_port (λ (q : Port). q.again) ps ≡ false → Each IsReadPort ps → Each IsPrintablePort ps
+none_again : (ps : List Port) → has_port (λ (q : Port). q.again) ps ≡ false → Each IsCanonicalPort ps → Each IsPrintablePort ps
 none_again [] h read = tt
 none_again (p ∷ ps) h read = go p.again refl h (λ e. none_again ps e read.1)
   where
@@ -161,42 +171,39 @@ none_again (p ∷ ps) h read = go p.again refl h (λ e. none_again ps e read.1)
     go true e g r = cc
     go false e g r = (record { first = e; name = read.0.name; type = read.0.type }, r g)
 
-module_printable : (d : Design) (n : ℕ) (m : Module) → module_fault d n m ≡ None → IsReadModule m → IsPrintableModule m
-module_printable d n m h read =
+port_names : (ps : List Port) → length (port_name_hints ps) ≤ length ps
+port_names [] = omega arith
+port_names (p ∷ ps) = go p.is_output (port_names ps)
+  where
+    go : (b : Bool) → length (port_name_hints ps) ≤ length ps → length (cond b [] (Some p.name ∷ []) ++ port_name_hints ps) ≤ suc (length ps)
+    go true r = omega (arith, r)
+    go false r = omega (arith, r)
+
+module_printable : (d : Design) (n : ℕ) (m : Module) → module_fault d n m ≡ None → IsCanonicalModule m → IsPrintableModule m
+module_printable d n m h form =
     let a = or_none _ _ h in
     let header = no_header_cause d n m (map_none (header_refusal m) (header_cause d n m) a.0) in
-    let body = body_printable d m.ports m.body m.body a.1 read.operations read.named in
+    let body = body_printable d m.ports m.body m.body a.1 form.operations in
+    let from_ports = port_names m.ports in
+    let from_body = body.few in
+    let ports = form.few_ports in
+    let operations = form.few_operations in
+    let both = length-append (port_name_hints m.ports) (body_name_hints (map parts_in m.body)) in
     record {
-      symbol = read.symbol;
-      ports = none_again m.ports header.again read.ports;
-      dictionary = read.dictionary;
-      operations = body.0;
-      ends = ends_so m.body header.ends body.1;
-      few = read.few;
+      symbol = form.symbol;
+      ports = none_again m.ports header.again form.ports;
+      dictionary = form.dictionary;
+      operations = body.each;
+      ends = ends_so m.body header.ends body.last;
+      few = omega (arith, from_ports, from_body, ports, operations, both);
     }
 
-modules_printable : (d : Design) (n : ℕ) (ms : List Module) → faults_from d n ms ≡ None → Each IsReadModule ms → Each IsPrintableModule ms
-modules_printable d n [] h read = tt
-modules_printable d n (m ∷ ms) h read =
+modules_printable : (d : Design) (n : ℕ) (ms : List Module) → faults_from d n ms ≡ None → Each IsCanonicalModule ms → Each IsPrintableModule ms
+modules_printable d n [] h form = tt
+modules_printable d n (m ∷ ms) h form =
     let a = or_none (module_fault d n m) (faults_from d (suc n) ms) h in
-    (module_printable d n m a.0 read.0, modules_printable d (suc n) ms a.1 read.1)
+    (module_printable d n m a.0 form.0, modules_printable d (suc n) ms a.1 form.1)
 
--- a design that bytes spell and that is not refused can be printed
-pub spelled_designs_are_printable : (source : List ℕ) (d : Design) → AreBytes source → length source < count_limit → Spells source d
-    → first_fault d ≡ None → Printable d
-spelled_designs_are_printable source d bytes small h none = modules_printable d 0 d none (spelled_is_read source d bytes small h)
-
--- what is read is short
-read_small : (source : List ℕ) (d : Design) → read source ≡ Ok d → length source < count_limit
-read_small source d h = go (nat_lt text_limit (length source)) refl h
-  where
-    go : (b : Bool) → nat_lt text_limit (length source) ≡ b
-        → cond b (Err (refusal start_place op.File TooLong)) (design_read (file_text (stream_of source))) ≡ Ok d
-        → length source < count_limit
-    go true e g = cc
-    go false e g = let le = ltb-false text_limit (length source) e in omega (arith, le)
-
--- a design that is read and not refused can be printed, since what is read is spelled
-pub read_designs_are_printable : ((source : List ℕ) (d : Design) → read source ≡ Ok d → Spells source d)
-    → (source : List ℕ) (d : Design) → AreBytes source → read source ≡ Ok d → first_fault d ≡ None → Printable d
-read_designs_are_printable spelled source d bytes h none = spelled_designs_are_printable source d bytes (read_small source d h) (spelled source d h) none
+-- a design in canonical form of which nothing is refused can be printed
+pub canonical_designs_are_printable : (d : Design) → IsAccepted d → IsCanonical d → Printable d
+canonical_designs_are_printable d accepted form = modules_printable d 0 d (no_fault d accepted) form
