@@ -1,5 +1,5 @@
 -- That a design is in canonical form has one proof at most.
-use Rattle.std.proofs.Common.{◌≡◌, ℕ, zero, suc, Bool, true, List, [], ◌∷◌, ap, sym, ◌∙◌, refl, length}
+use Rattle.std.proofs.Common.{◌≡◌, ℕ, zero, suc, Bool, true, List, [], ◌∷◌, ap, sym, ◌∙◌, length}
 use Rattle.std.specs.Prelude.{ℤ, pos, negsuc, ◌<◌, false, Option, Some, None}
 use Rattle.std.proofs.Props.{props}
 use mathlib.Core.HLevel.{collapsible→set}

@@ -24,10 +24,9 @@ use Rattle.mlir_syntax.specs.declared.fail.ReadFail.TheVariants as reading
 use Rattle.op_verifier.specs.declared.verify_fail.VerifyFail.{VerifyFail}
 use Rattle.op_verifier.specs.declared.verify_fail.VerifyFail.TheVariants as verifying
 use Rattle.op_verifier.specs.Answered.{Explains}
-use Rattle.op_verifier.specs.Faults.{first_fault}
 use Rattle.op_verifier.specs.Verdict.{IsAccepted}
 use Rattle.mlir_printer.specs.Printable.{Printable}
-use Rattle.canonical_form.specs.Bytes.{AreBytes}
+use Rattle.canonical_form.specs.Canonical.{IsCanonical}
 use Rattle.mlir_printer.specs.Texts.{ir_text}
 use Rattle.circt_top.specs.Accepting.{Accepted, IsRefused, IsRefusedIn, in_file, first_input, unaccepted}
 use Rattle.circt_top.specs.Accepting.{unread as unread_text}
@@ -41,7 +40,7 @@ use Rattle.circt_top.specs.declared.outcome.OutcomeFail.TheVariants.{Refused, No
 
 -- what the laws of the crates below say
 pub record PrintingLaws : Type 0 where
-  pub printable : (source : List ℕ) (d : Design) → AreBytes source → read source ≡ Ok d → first_fault d ≡ None → Printable d
+  pub printable : (d : Design) → IsAccepted d → IsCanonical d → Printable d
   pub again : (d : Design) → Printable d → (e : Design) × Spells (ir_text d) e × IsSameDesign d e × (length (ir_text d) ≤ text_limit → read (ir_text d) ≡ Ok e)
 
 pub record DesignLaws : Type 0 where
@@ -50,10 +49,6 @@ pub record DesignLaws : Type 0 where
   pub heights : (d : Design) (top : Name) → HasNoRecursion d → HasNoCycle d top → HasHeights d top
   pub placeless : (d e : Design) → IsSameDesign d e → IsAccepted d → IsAccepted e
   pub same : (d e : Design) → IsSameDesign d e → (top : Name) → HasHeights d top → Same (machine d top) (machine e top)
-
-no_fault : (x : Option Refusal) → is_some x ≡ false → x ≡ None
-no_fault None h = refl
-no_fault (Some r) h = cc
 
 -- each module of an accepted design is its own partner
 own_partners : DesignLaws → (d : Design) → IsAccepted d → HasPartners d d
@@ -69,9 +64,9 @@ own_partners designs d accepted = λ m here exposed. record {
 partners : DesignLaws → (passes : List Pass) (d : Design) → IsAccepted d → HasPartners d (result passes d)
 partners designs passes d accepted = subst (HasPartners d) (sym (result_is passes d)) (own_partners designs d accepted)
 
-module _ (printing : PrintingLaws) (designs : DesignLaws) (source : List ℕ) (d : Design) (bytes : AreBytes source) (accepted : Accepted source d) where
+module _ (printing : PrintingLaws) (designs : DesignLaws) (source : List ℕ) (d : Design) (form : IsCanonical d) (accepted : Accepted source d) where
   printable : Printable d
-  printable = printing.printable source d bytes accepted.says (no_fault (first_fault d) accepted.accepted.unrefused)
+  printable = printing.printable d accepted.accepted form
 
   said_again : IsSaidAgain d (ir_text d)
   said_again =

@@ -21,7 +21,8 @@ use export_verilog::{
 use hw_model::{heights_are_acyclic, places_decide_nothing};
 use io_edge::byte_text::Text;
 use mlir_printer::design_text::print_and_drop;
-use mlir_printer::laws::{what_is_accepted_is_printable, what_is_printed_is_read_again};
+use mlir_printer::laws::{what_is_canonical_is_printable, what_is_printed_is_read_again};
+use mlir_reader::laws::what_is_read_is_canonical;
 use mlir_reader::read::read_design;
 use mlir_syntax::fail::ReadFail;
 use op_verifier::{
@@ -102,6 +103,8 @@ impl OutcomeFail {
 fn accept(alloc: Global, source: &[u8]) -> Result<Verified, OutcomeFail>
     ensures { IsTaken source.now result }
 {
+    what_is_read_is_canonical();
+    are_bytes(source);
     let design = match read_design(alloc, source) {
         Ok(design) => design,
         Err(fail) => return Err(read_failure(fail)),
@@ -137,13 +140,12 @@ fn reprint(alloc: Global, source: &[u8], verified: Verified) -> Result<Text, All
     requires { Accepted source.now (design_of verified.design) }
     ensures { (passes : List Pass) → IfOk result (IsReprint passes source.now) }
 {
-    what_is_accepted_is_printable();
+    what_is_canonical_is_printable();
     what_is_printed_is_read_again();
     accepted_designs_are_sound();
     places_decide_no_verdict();
     heights_are_acyclic();
     places_decide_nothing();
-    are_bytes(source);
     print_and_drop(alloc, verified)
 }
 

@@ -5,7 +5,6 @@ use Rattle.wiring.specs.Options.{bind}
 use Rattle.diag.specs.declared.refusal.OpName.{OpName}
 use Rattle.hw_model.specs.Types.{Name, HwType}
 use Rattle.hw_model.specs.TypeViews.{NamedType}
-use Rattle.mlir_lexer.specs.Tokens.{Lexeme}
 use Rattle.mlir_lexer.specs.declared.token.TokenKind.TheVariants as kind
 use Rattle.mlir_syntax.specs.Stream.{Symbol, token, first, is_first, is_next, is_word, after}
 use Rattle.mlir_syntax.specs.Reads.{Read, on}

@@ -5,7 +5,6 @@ use Rattle.hw_model.specs.Types.{Name, HwType}
 use Rattle.hw_model.specs.Types.HwType.{int}
 use Rattle.hw_model.specs.Kinds.{Predicate, Literals, Instance}
 use Rattle.hw_model.specs.TypeViews.{NamedType}
-use Rattle.mlir_lexer.specs.Tokens.{Lexeme}
 use Rattle.mlir_lexer.specs.declared.token.TokenKind.TheVariants as kind
 use Rattle.mlir_syntax.specs.Stream.{is_first, is_word, after}
 use Rattle.mlir_syntax.specs.Reads.{Reads, on, want, want_word, some_items, items_until}

@@ -39,16 +39,23 @@ pub fn print_design(alloc: Global, verified: &Verified) -> Result<Text, AllocErr
 
 /// The text of a verified design, which spells that design. It gives back the memory of each body as soon as the body is printed.
 /// The error comes only when out of memory.
-#[tactic(auto, using(std::proofs::Common::append_assoc), unfolding(crate::specs::Texts::ir_text, crate::specs::Modules::file_bytes))]
 pub fn print_and_drop(alloc: Global, verified: Verified) -> Result<Text, AllocError>
     ensures laid_out { IfOk result (λ text. text ≡ ir_text (map numbered_module (modules_verified verified))) }
     ensures spelled { IfOk result (λ text. SpellsPlacelessly text (map numbered_module (modules_verified verified))) }
 {
     what_is_canonical_is_printable();
     what_is_printable_is_spelled();
+    text_and_drop(alloc, verified.into_design())
+}
+
+// The text of a design, whose bodies are dropped one by one.
+#[tactic(auto, using(std::proofs::Common::append_assoc), unfolding(crate::specs::Texts::ir_text, crate::specs::Modules::file_bytes))]
+fn text_and_drop(alloc: Global, design: Design) -> Result<Text, AllocError>
+    ensures { IfOk result (λ text. text ≡ ir_text (design_of design)) }
+{
     let mut out = Text::new(alloc);
     out.push_bytes(b"module {\n")?;
-    push_and_drop(alloc, &mut out, verified.into_design())?;
+    push_and_drop(alloc, &mut out, design)?;
     out.push_bytes(b"}\n")?;
     Ok(out)
 }

@@ -11,7 +11,7 @@ returns c = λ passes.
     IfOk-weaker c.print_and_drop.result (λ text. text ≡ ir_text (design_of c.args.verified.design)) (IsReprint passes c.args.source.now)
     (reprinted
     (record {
-      printable = c.what_is_accepted_is_printable.ensures;
+      printable = c.what_is_canonical_is_printable.ensures;
       again = c.what_is_printed_is_read_again.ensures;
     })
     (record {
@@ -21,5 +21,5 @@ returns c = λ passes.
       placeless = c.places_decide_no_verdict.ensures;
       same = c.places_decide_nothing.ensures;
     })
-    c.args.source.now (design_of c.args.verified.design) c.are_bytes.ensures c.requires passes)
-    c.print_and_drop.ensures
+    c.args.source.now (design_of c.args.verified.design) c.args.verified.canonical c.requires passes)
+    c.print_and_drop.ensures.laid_out
