@@ -23,7 +23,7 @@ use Rattle.mlir_operations.specs.OperationText.{NameClass, operation, module_nam
 use Rattle.mlir_operations.specs.ModuleText.{header, PortText, port_name, port_type, input_port, output_port, port_text, older_input, older_outputs, older_ports, ports_text, ModuleText, attributes_text, private_text, BodyText, body_text, module_behind, classed_module, module_text, modules_text, file_symbol, want_end, wrapped_text, is_file_name, file_text}
 use Rattle.canonical_form.specs.Dictionaries.{module_keys}
 use Rattle.mlir_reader.specs.Reading.{text_limit, design_read, read}
-use Rattle.mlir_syntax.specs.Spelling.{Phrase, One, Mark, Holding, Then, Either, Where, Nothing, Commas, Between, NamePhrase, SymbolPhrase, TypePhrase}
+use Rattle.mlir_syntax.specs.Spelling.{Phrase, One, Mark, Holding, Then, Either, Where, Nothing, Commas, SymbolPhrase, TypePhrase}
 use Rattle.mlir_operations.specs.Spelling.{ValueName, PortPhrase, OlderInputPhrase, OlderOutputPhrase, OlderOutputsPhrase, PortsPhrase, AttributesPhrase, PrivatePhrase, OperationsPhrase, ModulePhrase, ModulesPhrase, FileWord, FilePhrase, token_of, IsPlaceOf}
 use Rattle.mlir_reader.specs.Spelling.{Spells}
 use Rattle.mlir_syntax.proofs.Sound.{Said, Sound, Past, ok_of, same_ok, one_more, sound_on, sound_last, sound_as, sound_give, sound_refused, sound_if, sound_past}

@@ -12,7 +12,7 @@ use Rattle.hw_model.specs.Kinds.{Literal, Literals}
 use Rattle.hw_model.specs.Kinds.Literal.{leaf, parts}
 use Rattle.hw_model.specs.Kinds.Literals.{no_literals, literal}
 use Rattle.hw_model.specs.Opcodes.{opcode_of}
-use Rattle.hw_model.specs.Design.{Attribute, Entry, Op, same_name}
+use Rattle.hw_model.specs.Design.{Attribute, Entry, same_name}
 use Rattle.hw_model.specs.Design.Attribute.{text_value}
 use Rattle.ir_store.specs.ResultTypes.{result_types}
 use Rattle.mlir_lexer.specs.Classes.{is_digit}
@@ -38,7 +38,7 @@ use Rattle.mlir_syntax.specs.Spelling.{AreOnce, DictionaryPhrase, EntryPhrase, M
 use Rattle.canonical_form.specs.Canonical.{IsCanonicalOp}
 use Rattle.canonical_form.specs.ResultTypes.{HaveTypes}
 use Rattle.canonical_form.specs.Bytes.{Each, AreBytes}
-use Rattle.canonical_form.specs.Limits.{IsInteger, IsAnyType, IsLiteral, AreLiterals, IsValue, IsEntry}
+use Rattle.canonical_form.specs.Limits.{IsInteger, IsLiteral, AreLiterals, IsValue, IsEntry}
 use Rattle.canonical_form.specs.Dictionaries.{AreInOrder, IsKeptDictionary}
 use Rattle.canonical_form.specs.Kinds.{KeepsConstants, IsWritten, IsWrittenInstance}
 use Rattle.mlir_reader.proofs.canonical.EntryOrder.{put_in_order, each_put}

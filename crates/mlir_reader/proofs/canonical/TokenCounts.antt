@@ -1,5 +1,5 @@
 -- What a text says is no more than its tokens: ports, operations, names of results.
-use Rattle.std.proofs.Common.{◌≡◌, ℕ, suc, ◌+◌, ◌<◌, ◌≤◌, List, [], ◌∷◌, ◌++◌, length, ap, ◌∙◌, inl, inr, arith, length-append}
+use Rattle.std.proofs.Common.{◌≡◌, ◌+◌, ◌<◌, ◌≤◌, List, [], ◌∷◌, ◌++◌, length, ap, ◌∙◌, inl, inr, arith, length-append}
 use Rattle.hw_model.specs.Types.{Name}
 use Rattle.mlir_lexer.specs.Tokens.{Lexeme}
 use Rattle.mlir_syntax.specs.Numerals.{count_limit}

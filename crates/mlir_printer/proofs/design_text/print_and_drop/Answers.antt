@@ -13,5 +13,5 @@ returns-clause-spelled c =
     let same : modules_of c.into_design.result ≡ modules_of verified.design = c.into_design.ensures in
     IfOk-weaker c.text_and_drop.result (λ text. text ≡ ir_text (design_of c.into_design.result)) (λ text. SpellsPlacelessly text d)
     (λ text e.
-      subst (λ t. SpellsPlacelessly t d) (sym (e ∙ ap (λ ms. ir_text (map numbered_module ms)) same)) (c.what_is_printable_is_spelled.ensures d printable))
+    subst (λ t. SpellsPlacelessly t d) (sym (e ∙ ap (λ ms. ir_text (map numbered_module ms)) same)) (c.what_is_printable_is_spelled.ensures d printable))
     c.text_and_drop.ensures

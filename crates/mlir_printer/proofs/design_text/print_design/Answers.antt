@@ -13,5 +13,5 @@ returns-clause-spelled c =
     let same : modules_of c.design.result.now ≡ modules_of verified.design = c.design.ensures in
     IfOk-weaker c.design_text.result (λ text. text ≡ ir_text (design_of c.design.result.now)) (λ text. SpellsPlacelessly text d)
     (λ text e.
-      subst (λ t. SpellsPlacelessly t d) (sym (e ∙ ap (λ ms. ir_text (map numbered_module ms)) same)) (c.what_is_printable_is_spelled.ensures d printable))
+    subst (λ t. SpellsPlacelessly t d) (sym (e ∙ ap (λ ms. ir_text (map numbered_module ms)) same)) (c.what_is_printable_is_spelled.ensures d printable))
     c.design_text.ensures
