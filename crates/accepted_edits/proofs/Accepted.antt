@@ -10,12 +10,12 @@ use Rattle.wiring.proofs.Members.{In-slice_get, position_of_In, In-append_left, 
 use Rattle.diag.specs.declared.cause.Cause.TheVariants as cause
 use Rattle.hw_model.specs.Types.{Name, HwType}
 use Rattle.hw_model.specs.Kinds.{Instance}
-use Rattle.hw_model.specs.Design.{Ref, Port, OpResult, Op, Module, Design, same_name, find_module, instance_in, is_output_op, result_type, callee}
-use Rattle.hw_model.specs.Design.Ref.{port, result, undefined}
+use Rattle.hw_model.specs.Design.{Ref, Port, OpResult, Op, Module, Design, same_name, find_module, instance_in, is_output_op, callee}
+use Rattle.hw_model.specs.Design.Ref.{result}
 use Rattle.hw_model.specs.Flat.{net, async_reset_in}
 use Rattle.hw_model.specs.Hierarchy.{called_by, callee_symbols, calls}
 use Rattle.hw_model.specs.Resets.{ResetsFromPorts}
-use Rattle.hw_model.specs.Sound.{body_of, input_type, type_in}
+use Rattle.hw_model.specs.Sound.{body_of}
 use Rattle.hw_model.specs.SameType.{same_type}
 use Rattle.hw_model.specs.Weight.{weight_of, module_weight, weight}
 use Rattle.hw_model.proofs.Finite.{heights_from_no_cycle, no_cycle_from_heights}
@@ -27,7 +27,7 @@ use Rattle.port_checks.specs.InstanceChecks.{port_types, instance_cause}
 use Rattle.port_checks.specs.ResetPorts.{is_reset_port}
 use Rattle.port_checks.proofs.Least.{found_module, is_sound}
 use Rattle.op_verifier.specs.Answers.{when}
-use Rattle.op_verifier.specs.OpChecks.{has_undefined, has_other_outputs, value_cause, alone_cause, outer_cause, op_cause}
+use Rattle.op_verifier.specs.OpChecks.{has_other_outputs, value_cause, alone_cause, outer_cause, op_cause}
 use Rattle.op_verifier.specs.ResetChecks.{has_other_reset, has_other_join}
 use Rattle.op_verifier.specs.Headers.{has_twice, has_output, ports_cause, names_cause, header_cause}
 use Rattle.op_verifier.specs.Faults.{op_refusal, header_refusal, body_fault, module_fault, faults_from, first_fault}
@@ -51,6 +51,7 @@ use Rattle.accepted_edits.proofs.ResetsKept.{resets_kept}
 use Rattle.accepted_edits.proofs.Resets.{reset_marked, no_other_reset}
 use Rattle.hw_edits.proofs.ResetsKept.{find_symbol}
 use Rattle.std.proofs.lemmas.Bool.{or_from}
+use Rattle.mlir_printer.proofs.printable.VerifiedDesigns.{all_defined}
 
 -- ---- lists
 
@@ -99,29 +100,6 @@ within_results : (rs : List OpResult) (k : ℕ) → is_some (omap (λ (r : OpRes
 within_results [] k h = cc
 within_results (r ∷ rs) zero h = omega arith
 within_results (r ∷ rs) (suc k) h = let less : k < length rs = within_results rs k h in omega arith
-
-pub value_defined : (ports : List Port) (os : List Op) (r : Ref) → is_some (type_in ports os r) ≡ true → IsDefined ports os r
-value_defined ports os (port j) h = go (slice_get ports j) refl h
-  where
-    go : (q : Option Port) → slice_get ports j ≡ q → is_some (input_type q) ≡ true → (p : Port) × (slice_get ports j ≡ Some p) × (p.is_output ≡ false)
-    go None is g = cc
-    go (Some q) is g = (q, is, input_inward q.is_output q.type g)
-value_defined ports os (result j k) h = go (slice_get os j) refl h
-  where
-    go : (q : Option Op) → slice_get os j ≡ q → is_some (bind q (λ (o : Op). result_type o k)) ≡ true
-        → (o : Op) × (slice_get os j ≡ Some o) × (k < length o.results)
-    go None is g = cc
-    go (Some o) is g = (o, is, within_results o.results k g)
-value_defined ports os undefined h = cc
-
-pub values_defined : (ports : List Port) (os : List Op) (rs : List Ref) → has_undefined ports os rs ≡ false → Each (IsDefined ports os) rs
-values_defined ports os [] h = tt
-values_defined ports os (r ∷ rs) h = go (is_some (type_in ports os r)) refl h (values_defined ports os rs)
-  where
-    go : (b : Bool) → is_some (type_in ports os r) ≡ b → cond b (has_undefined ports os rs) true ≡ false
-        → (has_undefined ports os rs ≡ false → Each (IsDefined ports os) rs) → IsDefined ports os r × Each (IsDefined ports os) rs
-    go true is g rest = (value_defined ports os r is, rest g)
-    go false is g rest = cc
 
 -- an operation that can be printed can be printed with other operands, as many, that are values of the body
 pub printable_with : (ports : List Port) (os os' : List Op) (o : Op) (rs : List Ref) → length rs ≡ length o.operands → Each (IsDefined ports os') rs
@@ -308,7 +286,7 @@ module _ (d e : Design) (fit : IsFit d) (keeps : KeepsDesign d e) (valid : Valid
             (sym (length-map o.operands (operand_in before.was.ports n.body))
             ∙ length_more (operands_in before.was.ports before.was.body x.was.operands) (operands_in before.was.ports n.body o.operands) x.operands
             ∙ length-map x.was.operands (operand_in before.was.ports before.was.body))
-            (values_defined before.was.ports n.body o.operands (no_op_cause e before.was.ports n.body true o (op_kept true o here (λ out. refl))).defined)
+            (all_defined before.was.ports n.body o.operands (no_op_cause e before.was.ports n.body true o (op_kept true o here (λ out. refl))).defined)
             (each_at (IsPrintableOp before.was.ports before.was.body) before.was.body place.0 x.was printed_before.operations place.1)
 
         go : IsMoved before.was.ports before.was.body n.body o ⊎ IsPlainFitting before.was.ports before.was.body n.body o → IsPrintableOp before.was.ports n.body o

@@ -20,8 +20,9 @@ use Rattle.op_verifier.proofs.Unrefused.{or_none, when_none, NoOpCause, no_op_ca
 use Rattle.accepted_edits.specs.Asked.{Operand, operand_in, operands_in, second_known, AllowMore}
 use Rattle.accepted_edits.specs.Keeps.{IsFitting, IsFit}
 use Rattle.accepted_edits.proofs.Causes.{undefined_told, types_told, known_told, undefined_more, types_more, known_more, length_more, own_more, none_or, when_false}
-use Rattle.accepted_edits.proofs.Accepted.{values_defined, printable_with, fit_found}
+use Rattle.accepted_edits.proofs.Accepted.{printable_with, fit_found}
 use Rattle.op_verifier.proofs.SoundDesigns.{known_at}
+use Rattle.mlir_printer.proofs.printable.VerifiedDesigns.{all_defined}
 
 -- ---- types that are settled
 
@@ -55,7 +56,7 @@ fitting_moved ports os os' o rs fits more =
           (sym (ap₂ (own_of o) (types_told ports os o.operands) (known_told ports os o.operands)) ∙ fits.alone);
       printable = printable_with ports os os' o rs
           (sym (length-map rs (operand_in ports os')) ∙ length_more (operands_in ports os o.operands) (operands_in ports os' rs) more ∙ length-map o.operands (operand_in ports os))
-          (values_defined ports os' rs defined) fits.printable;
+          (all_defined ports os' rs defined) fits.printable;
     }
 
 -- ---- a body of a fit design

@@ -7,11 +7,11 @@ use Rattle.std.proofs.lemmas.List.{length-append}
 use Rattle.hw_model.specs.Types.{Name, HwType, leaves, leaves_of_fields, list_copies}
 use Rattle.hw_model.specs.Types.HwType.{int, clock, array, struct}
 use Rattle.hw_model.specs.Types.FieldTypes.{no_fields, field}
-use Rattle.hw_model.specs.Kinds.{Kind, RegisterOp, Literal, Literals}
+use Rattle.hw_model.specs.Kinds.{Kind, Literal, Literals}
 use Rattle.hw_model.specs.Kinds.Literal.{leaf, parts}
 use Rattle.hw_model.specs.Kinds.Literals.{no_literals, literal}
 use Rattle.hw_model.specs.Kinds.Reset.{sync_reset}
-use Rattle.hw_model.specs.Kinds.RegisterOp.{compreg, compreg_ce, firreg}
+use Rattle.hw_model.specs.Kinds.RegisterOp.{firreg}
 use Rattle.hw_model.specs.Kinds.ArrayOp.{array_create, array_concat, array_get, array_slice, array_inject}
 use Rattle.hw_model.specs.Kinds.StructOp.{struct_create, struct_extract, struct_inject, struct_explode}
 use Rattle.hw_model.specs.Kinds.Kind.{variadic, sub, division, shift, icmp, parity, extract, concat, replicate, mux, constant, aggregate_constant, on_array, on_struct, bitcast, wire, instance, output, register, async_firreg}
@@ -39,6 +39,7 @@ use Rattle.mlir_printer.specs.Printable.{IsPrintableModule, Printable}
 use Rattle.accepted_edits.specs.Keeps.{IsPrintableBody, IsFit}
 use Rattle.accepted_edits.proofs.Accepted.{each_at, each_from, light_is_accepted}
 use Rattle.mlir_printer.proofs.steps.Listing.{instance_length}
+use Rattle.hw_model.proofs.Weights.{register_weighs}
 
 -- ---- types have leaves
 
@@ -126,11 +127,6 @@ some_times : (c k : ℕ) → 1 ≤ c → 1 ≤ k → 1 ≤ c * k
 some_times (suc c) (suc k) a b = omega arith
 some_times zero k a b = absurd (omega arith)
 some_times (suc c) zero a b = absurd (omega arith)
-
-register_weighs : (f : RegisterOp) → 1 ≤ register_weight f
-register_weighs compreg = omega arith
-register_weighs compreg_ce = omega arith
-register_weighs firreg = omega arith
 
 pack_names : (n : ℕ) → length (pack_name_hints n) ≤ 1
 pack_names zero = omega arith

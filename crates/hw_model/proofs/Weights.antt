@@ -1,10 +1,17 @@
 -- Weights: they do not rise where no module's own does.
 use Rattle.std.proofs.Common.{◌≡◌, ℕ, zero, suc, ◌≤◌, List, [], ◌∷◌, length, Option, Some, None, sym, subst, arith}
 use Rattle.hw_model.specs.Types.{Name, HwType}
-use Rattle.hw_model.specs.Kinds.{Kind}
+use Rattle.hw_model.specs.Kinds.{Kind, RegisterOp}
+use Rattle.hw_model.specs.Kinds.RegisterOp.{compreg, compreg_ce, firreg}
 use Rattle.hw_model.specs.Kinds.Kind.{instance}
 use Rattle.hw_model.specs.Design.{Op, Module, Design, find_module}
-use Rattle.hw_model.specs.Weight.{kind_weight, body_weight, weight_of, module_weight, weight}
+use Rattle.hw_model.specs.Weight.{register_weight, kind_weight, body_weight, weight_of, module_weight, weight}
+
+-- a register weighs something
+pub register_weighs : (f : RegisterOp) → 1 ≤ register_weight f
+register_weighs compreg = omega arith
+register_weighs compreg_ce = omega arith
+register_weighs firreg = omega arith
 
 module _ (f g : Name → ℕ) (below : (s : Name) → f s ≤ g s) where
   kind_weight_le : (kind : Kind) (ts : List HwType) (n : ℕ) → kind_weight f kind ts n ≤ kind_weight g kind ts n

@@ -6,8 +6,8 @@ use Rattle.std.proofs.lemmas.Bool.{ltb-true, ltb-false}
 use Rattle.std.proofs.lemmas.List.{length-append}
 use Rattle.hw_model.specs.Types.{Name, HwType, leaves}
 use Rattle.hw_model.specs.Types.HwType.{int, clock, array, struct}
-use Rattle.hw_model.specs.Kinds.{Kind, RegisterOp}
-use Rattle.hw_model.specs.Kinds.RegisterOp.{compreg, firreg}
+use Rattle.hw_model.specs.Kinds.{Kind}
+use Rattle.hw_model.specs.Kinds.RegisterOp.{firreg}
 use Rattle.hw_model.specs.Kinds.Reset.{sync_reset}
 use Rattle.hw_model.specs.Kinds.Kind.{variadic, sub, division, shift, icmp, parity, extract, concat, replicate, mux, constant, aggregate_constant, on_array, on_struct, bitcast, wire, instance, output, register, async_firreg}
 use Rattle.hw_model.specs.Design.{Port, Op, Module, Design, instance_in, is_instance, is_register, is_output_op}
@@ -26,6 +26,7 @@ use Rattle.export_verilog.specs.Aggregates.{is_aggregate, HasNoAggregates}
 use Rattle.export_verilog.proofs.accepted.AcceptedOps.{found, op_tested}
 use Rattle.export_verilog.proofs.accepted.NoAggregates.{IsPlain, ports_plain, op_plain}
 use Rattle.export_verilog.proofs.names.GivenNames.{result_count}
+use Rattle.hw_model.proofs.Weights.{register_weighs}
 
 -- ---- leaves
 
@@ -57,10 +58,6 @@ port_leaves i (p ∷ ps) h =
 -- the weight of some leaves, so many times each
 some_times : (c k : ℕ) → 1 ≤ c → k ≡ 1 → 1 ≤ c * k
 some_times c k some is = rw is (omega (arith, some))
-
-register_weighs : (f : RegisterOp) → 1 ≤ register_weight f
-register_weighs compreg = omega arith
-register_weighs _ = omega arith
 
 module _ (inner : Name → ℕ) where
   weighs : (kind : Kind) (ts : List HwType) (n : ℕ) → is_aggregate_kind kind ≡ false → list_any is_aggregate ts ≡ false → length ts ≡ type_count kind n
