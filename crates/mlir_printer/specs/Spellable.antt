@@ -3,8 +3,7 @@ use Rattle.std.specs.Prelude.{◌≡◌, ℕ, ◌+◌, ◌<◌, ◌≤◌, true,
 use Rattle.diag.specs.Place.{start_place}
 use Rattle.hw_model.specs.Types.{Name, HwType}
 use Rattle.hw_model.specs.Types.HwType.{int}
-use Rattle.hw_model.specs.Types.FieldTypes.{field}
-use Rattle.hw_model.specs.Kinds.{Instance, Literals}
+use Rattle.hw_model.specs.Kinds.{Instance}
 use Rattle.hw_model.specs.Design.{Entry}
 use Rattle.mlir_lexer.specs.Fronts.{suffix_length}
 use Rattle.mlir_lexer.specs.declared.token.TokenKind.{TokenKind}

@@ -2,7 +2,6 @@
 use Rattle.std.specs.Prelude.{◌≡◌, ℕ, ◌<◌, true, List, [], ◌∷◌, map, Option, Some, None, ⊤}
 use Rattle.hw_model.specs.Types.{Name}
 use Rattle.mlir_lexer.specs.Tokens.{Lexeme, tokens}
-use Rattle.mlir_lexer.specs.declared.token.TokenKind.TheVariants as kind
 use Rattle.mlir_syntax.specs.Numerals.{count_limit}
 use Rattle.mlir_operations.specs.OperandText.{ResultNames}
 use Rattle.mlir_operations.specs.OperandText.ResultNames.{no_names, names, pack}
@@ -12,7 +11,6 @@ use Rattle.mlir_operations.specs.OperationText.{is_last}
 use Rattle.canonical_form.specs.Dictionaries.{takes_bin, string_keys}
 use Rattle.canonical_form.specs.Dictionaries.{module_keys}
 use Rattle.mlir_operations.specs.Spelling.{StandsInBody, FilePhrase, token_of}
-use Rattle.assembly_format.specs.declared.elements.FormatElement.TheVariants as element
 use Rattle.assembly_format.specs.declared.elements.Format.{Format}
 use Rattle.mlir_printer.specs.Elements.{Pending}
 use Rattle.mlir_printer.specs.Operations.{OperationText, format_shown, left_behind_all}

@@ -1,10 +1,7 @@
 -- A printed dictionary can be read: its keys stand once, and its values where they may.
 use Rattle.std.proofs.Common.{◌≡◌, Bool, true, false, cond, List, [], ◌∷◌, ◌++◌, refl, ap, ◌∙◌, sym, arith}
-use Rattle.std.proofs.Common.{Ordering, Less, Equal, Greater}
-use Rattle.std.proofs.lemmas.Slice.Eq.{bytes_eq-Decides}
-use Rattle.std.proofs.lemmas.Map.Text.{is_eq-slice_cmp}
 use Rattle.std.specs.Prelude.{⊤}
-use Rattle.std.specs.Ordering.{nat_cmp, is_lt, is_eq, ordering_reverse}
+use Rattle.std.specs.Ordering.{nat_cmp, is_lt}
 use Rattle.std.specs.Cmp.{IsStrictWeakOrder}
 use Rattle.std.specs.Cmp.Lexicographic.{slice_cmp}
 use Rattle.std.proofs.lemmas.Bool.{cond-false, false≢true}
@@ -13,10 +10,9 @@ use Rattle.std.proofs.lemmas.List.Sorted.{ranks_by}
 use Rattle.opcode.specs.declared.listed.Listed.{Listed}
 use Rattle.hw_model.specs.Types.{Name}
 use Rattle.hw_model.specs.Design.{Entry, same_name}
-use Rattle.hw_model.specs.Equality.{name_from, name_self}
+use Rattle.hw_model.specs.Equality.{name_from}
 use Rattle.mlir_syntax.specs.AttributeText.{is_among}
 use Rattle.mlir_syntax.specs.Spelling.{AreOnce}
-use Rattle.mlir_reader.specs.Resolving.{put_entry}
 use Rattle.canonical_form.specs.Dictionaries.{has_name}
 use Rattle.mlir_printer.specs.Texts.{name_entry, named_entries, entries_shown}
 use Rattle.mlir_printer.specs.Spellable.{IsDictionary}

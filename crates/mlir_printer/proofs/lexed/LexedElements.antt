@@ -7,7 +7,7 @@ use Rattle.hw_model.specs.Types.HwType.{int}
 use Rattle.mlir_syntax.specs.TypeText.{most_open}
 use Rattle.mlir_operations.specs.ElementText.{InherentAttributes, Gathered, with_operands, with_types, with_inherent}
 use Rattle.mlir_operations.specs.ElementText.InherentAttributes.{with_reset, with_async_reset, predicate, position, number, literals, field_name, child}
-use Rattle.mlir_syntax.specs.Spelling.{Phrase, Word, Then, Either, Where, Nothing, TypePhrase}
+use Rattle.mlir_syntax.specs.Spelling.{Phrase, Word, Then, TypePhrase}
 use Rattle.mlir_operations.specs.Spelling.{ResetSync, ResetAsync, ResetPhrase, FormatElementPhrase, ElementsPhrase}
 use Rattle.assembly_format.specs.declared.elements.FormatElement.{FormatElement}
 use Rattle.assembly_format.specs.declared.elements.FormatElement.TheVariants as element

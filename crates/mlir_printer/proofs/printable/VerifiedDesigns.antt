@@ -1,23 +1,22 @@
 -- A design in canonical form of which nothing is refused can be printed, and its text spells it.
-use Rattle.std.proofs.Common.{◌≡◌, ℕ, zero, suc, ◌+◌, ◌*◌, ◌^◌, ◌<◌, ◌≤◌, Bool, true, false, cond, ◌&&◌, List, [], ◌∷◌, ◌++◌, map, length, refl, ap, ◌∙◌, sym, subst, arith, length-append}
+use Rattle.std.proofs.Common.{◌≡◌, ℕ, zero, suc, ◌*◌, ◌^◌, ◌<◌, ◌≤◌, Bool, true, false, cond, ◌&&◌, List, [], ◌∷◌, ◌++◌, map, length, refl, ap, ◌∙◌, sym, arith, length-append}
 use Rattle.std.specs.Prelude.{not, Option, Some, None, is_some, slice_get, ⊤}
 use Rattle.wiring.specs.Options.{bind, omap}
 use Rattle.hw_model.specs.Types.{HwType}
 use Rattle.hw_model.specs.Kinds.{Kind}
 use Rattle.hw_model.specs.Kinds.StructOp.{struct_create}
-use Rattle.hw_model.specs.Kinds.Kind.{on_struct, output}
+use Rattle.hw_model.specs.Kinds.Kind.{on_struct}
 use Rattle.hw_model.specs.Sound.{type_in, input_type}
 use Rattle.hw_model.specs.Design.{Ref, Port, OpResult, Op, Module, Design, is_output_op, result_type}
 use Rattle.hw_model.specs.Design.Ref.{port, result, undefined}
 use Rattle.ir_store.specs.ResultTypes.{result_types}
-use Rattle.mlir_syntax.specs.Numerals.{count_limit}
 use Rattle.canonical_form.specs.Bytes.{Each}
 use Rattle.canonical_form.specs.ResultTypes.{type_or_none, HaveTypes}
 use Rattle.canonical_form.specs.Canonical.{IsCanonicalOp, IsCanonicalPort, IsCanonicalModule, IsCanonical}
 use Rattle.op_checks.specs.CountChecks.{operands_written, operand_count}
 use Rattle.op_verifier.specs.OpChecks.{has_again, has_undefined, op_cause}
 use Rattle.op_verifier.specs.Headers.{has_port, has_output, header_cause}
-use Rattle.op_verifier.specs.Faults.{op_refusal, header_refusal, is_empty, body_fault, module_fault, faults_from, first_fault}
+use Rattle.op_verifier.specs.Faults.{op_refusal, header_refusal, is_empty, body_fault, module_fault, faults_from}
 use Rattle.op_verifier.specs.Verdict.{IsAccepted}
 use Rattle.op_verifier.proofs.AcceptedDesigns.{no_fault}
 use Rattle.op_verifier.proofs.NoCauseAlone.{no_cause_alone, result_number}
