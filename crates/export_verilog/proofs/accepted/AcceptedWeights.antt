@@ -25,7 +25,7 @@ use Rattle.export_verilog.specs.Identifiers.Emission.{inline, as_wire, as_reg, a
 use Rattle.export_verilog.specs.Aggregates.{is_aggregate, HasNoAggregates}
 use Rattle.export_verilog.proofs.accepted.AcceptedOps.{found, op_tested}
 use Rattle.export_verilog.proofs.accepted.NoAggregates.{IsPlain, ports_plain, op_plain}
-use Rattle.export_verilog.proofs.names.GivenNames.{result_count}
+use Rattle.export_verilog.proofs.names.GivenNames.{identifier_count}
 use Rattle.hw_model.proofs.Weights.{register_weighs}
 
 -- ---- leaves
@@ -105,7 +105,7 @@ one_identifier false false false false false i o h = omega arith
 -- nothing has more than one beside its results
 some_identifiers : (a c e f : Bool) (i : ℕ) (o : Op) → length (identifiers_of (cond a as_reg (cond true as_instance (cond c inline (cond e as_wire (cond f as_wire inline))))) i o) ≤ 1 + length o.results
 some_identifiers true c e f i o = omega arith
-some_identifiers false c e f i o = let p = result_count i 0 o.results in omega (arith, p)
+some_identifiers false c e f i o = let p = identifier_count i 0 o.results in omega (arith, p)
 
 identifiers_weigh : (inner : Name → ℕ) (ports : List Port) (os : List Op) (i : ℕ) (o : Op) → NoCauseAlone ports os o → IsPlain o
     → length (op_identifiers ports os i o) ≤ kind_weight inner o.kind o.types (length o.operands)

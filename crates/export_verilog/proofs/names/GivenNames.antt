@@ -72,9 +72,9 @@ module _ (ports : List Port) (os : List Op) where
 
 -- ---- the names of an operation's things
 
-pub result_count : (i k : ℕ) (rs : List OpResult) → length (result_identifiers i k rs) ≡ length rs
-result_count i k [] = refl
-result_count i k (r ∷ rs) = ap suc (result_count i (suc k) rs)
+pub identifier_count : (i k : ℕ) (rs : List OpResult) → length (result_identifiers i k rs) ≡ length rs
+identifier_count i k [] = refl
+identifier_count i k (r ∷ rs) = ap suc (identifier_count i (suc k) rs)
 
 -- the number of a result
 abbrev result_number : Identifier → ℕ
@@ -114,7 +114,7 @@ module _ (ports : List Port) (os : List Op) (i : ℕ) (x : Op) where
   emission_count as_reg emission = refl
   emission_count as_instance emission =
       let is = instance_of_emission ports os i x emission in
-      ap (λ y. length (name_hints_of as_instance y x)) is.2 ∙ ap suc (name_hint_count is.0 0 (length x.results) ∙ sym (result_count i 0 x.results))
+      ap (λ y. length (name_hints_of as_instance y x)) is.2 ∙ ap suc (name_hint_count is.0 0 (length x.results) ∙ sym (identifier_count i 0 x.results))
 
   own_count : (ts : List Name) → length (legal_after ts (op_name_hints (emission_of ports os i x) x)) ≡ length (op_identifiers ports os i x)
   own_count ts = legal_count ts (op_name_hints (emission_of ports os i x) x) ∙ emission_count (emission_of ports os i x) refl
