@@ -79,6 +79,12 @@ module _ {A : Type 0} where
   pub put_at_set : (i : ℕ) (x : A) (xs : List A) → i < length xs → put_at i x xs ≡ set xs i x
   put_at_set i x xs h = sym (set_split xs i x h)
 
+-- what is written twice is what was written last
+pub set-put_at : {A : Type 0} (i : ℕ) (x y : A) (xs : List A) → i ≤ length xs → set (put_at i x xs) i y ≡ put_at i y xs
+set-put_at zero x y xs h = refl
+set-put_at (suc i) x y [] h = absurd (omega (arith, h))
+set-put_at (suc i) x y (z ∷ zs) h = ap (λ ws. z ∷ ws) (set-put_at i x y zs (omega (arith, h)))
+
 pub map-put_at : {A B : Type 0} (f : A → B) (i : ℕ) (x : A) (xs : List A) → map f (put_at i x xs) ≡ put_at i (f x) (map f xs)
 map-put_at f zero x [] = refl
 map-put_at f zero x (y ∷ ys) = refl

@@ -1,14 +1,13 @@
 -- Lemmas.
+pub mod BlockLists
 pub mod BodyLemmas
 pub mod ChainCalls
 pub mod ChainLists
 pub mod Chaining
-pub mod Cutting
 pub mod DesignLemmas
 mod FieldTypes
 pub mod IdLemmas
 pub mod Indexing
-pub mod Joining
 pub mod Linking
 pub mod Living
 pub mod OrderCalls
@@ -16,6 +15,7 @@ pub mod Ordering
 pub mod Numbering
 pub mod PositionTables
 pub mod ReadOps
+pub mod Refilling
 pub mod Replacing
 pub mod Samples
 pub mod StoredModules

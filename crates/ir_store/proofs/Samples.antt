@@ -1,9 +1,9 @@
 -- Worked examples of the definitions, by hand.
 use Rattle.std.proofs.Common.{◌≡◌, ℕ, ◌+◌, true, false, [], ◌∷◌, refl}
 use Rattle.hw_model.specs.Design.Ref.{port, result, undefined}
-use Rattle.ir_store.specs.declared.operation.Value.TheVariants.{Port, Result}
+use Rattle.ir_store.specs.declared.operation.Value.TheVariants.{Port, Result, Undefined}
 use Rattle.ir_store.specs.Ids.{times, put_at}
-use Rattle.ir_store.specs.OperandLists.{split_at_ends, changed_from, put_in, cut_out}
+use Rattle.ir_store.specs.Blocks.{lists_in}
 use Rattle.ir_store.specs.BodyOps.{BodyOp, no_parts, taken_out, is_named, operand_count}
 use Rattle.ir_store.specs.Numbered.{position_of, ref_by}
 use Rattle.ir_store.specs.Positions.{pushed_ref, pulled_ref, same_ref, replaced_ref}
@@ -20,17 +20,8 @@ put_at_inside = refl
 put_at_behind : put_at {A = ℕ} 2 7 (4 ∷ 5 ∷ []) ≡ 4 ∷ 5 ∷ 7 ∷ []
 put_at_behind = refl
 
-three_lists : split_at_ends {A = ℕ} 0 (2 ∷ 2 ∷ 3 ∷ []) (7 ∷ 8 ∷ 9 ∷ []) ≡ (7 ∷ 8 ∷ []) ∷ [] ∷ (9 ∷ []) ∷ []
-three_lists = refl
-
-later_ends : changed_from 1 (λ e. e + 2) (2 ∷ 2 ∷ 3 ∷ []) ≡ 2 ∷ 4 ∷ 5 ∷ []
-later_ends = refl
-
-two_put_in : put_in {A = ℕ} 1 (5 ∷ 6 ∷ []) (7 ∷ 8 ∷ []) ≡ 7 ∷ 5 ∷ 6 ∷ 8 ∷ []
-two_put_in = refl
-
-two_cut_out : cut_out {A = ℕ} 1 2 (7 ∷ 5 ∷ 6 ∷ 8 ∷ []) ≡ 7 ∷ 8 ∷ []
-two_cut_out = refl
+two_blocks : lists_in (Port 7 ∷ Port 8 ∷ Undefined ∷ Port 9 ∷ []) (record { start = 3; len = 1 } ∷ record { start = 0; len = 2 } ∷ []) ≡ (Port 9 ∷ []) ∷ (Port 7 ∷ Port 8 ∷ []) ∷ []
+two_blocks = refl
 
 -- a body: an operation of the two ports, under the id 4, and one of its result and a port, under the id 0
 

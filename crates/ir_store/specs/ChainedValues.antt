@@ -6,10 +6,10 @@ use Rattle.ir_store.specs.Ids.{times}
 use Rattle.ir_store.specs.BodyOps.{same_value}
 use Rattle.ir_store.specs.Chains.{ChainTable, has_head, once_if}
 
--- the number from which a value's head follows; the factors are the primes of xxHash for 32 bits
+-- the number from which a value's head follows, one for all results of an operation; the factors are primes of xxHash for 32 bits
 abbrev pub value_number : Value → ℕ
 value_number (Port n) = n * 2246822519 + 374761393
-value_number (Result i k) = i.index + k * 2654435761
+value_number (Result i k) = i.index
 value_number Undefined = 668265263
 
 -- the head of a value among so many

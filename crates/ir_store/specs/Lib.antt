@@ -1,3 +1,4 @@
+pub mod Blocks
 pub mod Bodies
 pub mod BodyOps
 pub mod ChainedValues
@@ -8,7 +9,6 @@ pub mod Ids
 pub mod Links
 pub mod Live
 pub mod Numbered
-pub mod OperandLists
 pub mod OperationViews
 pub mod Orders
 pub mod PositionTables

@@ -255,8 +255,8 @@ impl Body {
         ensures spare { (spare_ops self.new ≡ spare_ops self.old) × (spare_uses self.old ≤ spare_uses self.new + 1) }
     {
         let index = self.index_of(op);
-        self.operands.reserve_operands(1)?;
-        self.operands.insert(index, at as usize, &[value]);
+        self.operands.reserve_insert(index)?;
+        self.operands.insert(index, at as usize, value);
         Ok(())
     }
 
@@ -279,7 +279,7 @@ impl Body {
         ensures spare { (spare_ops self.new ≡ spare_ops self.old) × (spare_uses self.new ≡ spare_uses self.old + 1) }
     {
         let index = self.index_of(op);
-        self.operands.remove(index, at as usize, 1);
+        self.operands.remove(index, at as usize);
     }
 
     /// Puts `to` in the place of each operand that is `from`.

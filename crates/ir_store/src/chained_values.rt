@@ -37,7 +37,7 @@ fn number_of(value: Value) -> usize
 {
     match value {
         Value::Port(n) => n as usize * 2_246_822_519 + 374_761_393,
-        Value::Result(id, k) => id.index as usize + k as usize * 2_654_435_761,
+        Value::Result(id, _) => id.index as usize,
         Value::Undefined => 668_265_263,
     }
 }
@@ -59,6 +59,16 @@ impl ChainedValues {
     ghost use Rattle.ir_store.specs.Chains.{cell_or_none, once_if};
     ghost use Rattle.ir_store.specs.ChainedValues.{has_value, cells_with, cells_of, rest_at};
 
+    /// No values. It takes no memory.
+    pub fn new(alloc: Global) -> ChainedValues
+        ensures items { result.items ≡ [] }
+    {
+        ChainedValues {
+            values: Vec::new(alloc),
+            chains: Chains::new(alloc),
+        }
+    }
+
     /// No values, with room for so many.
     pub fn with_room(alloc: Global, room: usize) -> Result<ChainedValues, AllocError>
         ensures items { IfOk result (λ t. t.items ≡ []) }
@@ -71,7 +81,8 @@ impl ChainedValues {
 
     /// The values.
     pub fn as_slice(&self) -> &[Value]
-        ensures { result.now ≡ self.now.items }
+        ensures items { result.now ≡ self.now.items }
+        ensures few { length result.now < 2 ^ 32 }
     {
         self.values.as_slice()
     }
@@ -136,7 +147,8 @@ impl ChainedValues {
     /// The cell after this one that has the same value, where there is one. Linear in the cells between them in the chain.
     pub fn next(&self, value: Value, cell: u32) -> Option<u32>
         requires { Contains (cells_of value self.now) cell }
-        ensures { (xs ys : List ℕ) → cells_of value self.now ≡ xs ++ cell ∷ ys → result ≡ cell_or_none ys }
+        ensures next { (xs ys : List ℕ) → cells_of value self.now ≡ xs ++ cell ∷ ys → result ≡ cell_or_none ys }
+        ensures each { (other : ℕ) → times other (cells_of value self.now) ≡ once_if (has_value value self.now.items other) }
     {
         let head = head_of(value, self.chains.head_count());
         self.seek(value, head, self.chains.next(cell))
@@ -190,6 +202,16 @@ impl ChainedValues {
             .take_out(head_of(self.values[cell], heads), cell as u32);
         self.chains.put_first(head_of(value, heads), cell as u32);
         self.values[cell] = value;
+    }
+
+    /// Takes all values out. Linear in their number.
+    pub fn clear(&mut self)
+        ensures items { self.new.items ≡ [] }
+        ensures room { self.new.room ≡ self.old.room + length self.old.items }
+    {
+        for _ in 0..self.values.len() {
+            self.pop();
+        }
     }
 
     /// Takes the last value out, in constant time.

@@ -36,6 +36,17 @@ impl Chains {
     ghost use Rattle.ir_store.specs.Links.{none, last_of};
     ghost use Rattle.ir_store.specs.Chains.{IsAlone, cut, cell_or_none};
 
+    /// No heads and no cells. It takes no memory.
+    pub fn new(alloc: Global) -> Chains
+        ensures chains { result.chains ≡ [] }
+        ensures cells { result.cells ≡ 0 }
+    {
+        Chains {
+            links: Vec::new(alloc),
+            heads: Vec::new(alloc),
+        }
+    }
+
     /// The chains of so many heads, all empty, with room for so many cells.
     pub fn with_room(alloc: Global, heads: usize, cells: usize) -> Result<Chains, AllocError>
         ensures chains { IfOk result (λ c. c.chains ≡ replicate heads []) }

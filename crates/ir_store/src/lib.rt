@@ -6,6 +6,7 @@
 #![tactic(auto)]
 
 pub mod body;
+mod cells;
 mod chained_values;
 mod chains;
 pub mod design;

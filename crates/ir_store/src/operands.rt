@@ -1,56 +1,45 @@
-//! The operands of all operations of a body, in one list.
-ghost use Rattle.std.specs.Prelude.{◌≡◌, ℕ, ◌+◌, ◌-◌, ◌<◌, ◌≤◌, ◌^◌, [], ◌∷◌, ◌++◌, List, length, All, IfOk, IsOk, OnOk, OnErr, slice_index, map, drop, slice_index_or, slice_set};
+//! The operands of all operations of a body, each operation's in a block of cells.
+ghost use Rattle.std.specs.Prelude.{◌≡◌, ℕ, ◌+◌, ◌≤◌, ◌<◌, ◌^◌, [], ◌∷◌, ◌++◌, length, take, drop};
 ghost use Rattle.std.specs.Vec.{vec_len, vec_capacity};
-ghost use Rattle.ir_store.specs.Ids.{put_at};
-ghost use Rattle.ir_store.specs.BodyOps.{same_value, replace_value};
-ghost use Rattle.ir_store.specs.OperandLists.{start_of, split_at_ends, AreEnds, changed_from, put_in, cut_out};
+ghost use Rattle.ir_store.specs.Blocks.{AreBlocks, place_within, place_in, block_list, block_at, lists_in, total, cell_room};
+ghost use Rattle.ir_store.specs.Chains.{cell_or_none};
+ghost use Rattle.ir_store.specs.ChainedValues.{cells_of};
+ghost use Rattle.ir_store.specs.BodyOps.{same_value};
 
-use crate::operation::Value;
+use crate::cells::Cells;
+use crate::links::NONE;
+use crate::operation::{OpId, UsePlace, Value};
 use std::alloc::{AllocError, Global};
 use std::marker::Model;
 
-/// The most operands that there can be.
-const MOST: usize = u32::MAX as usize;
+/// Where the operands of an operation stand: so many cells from one on.
+#[derive(Clone, Copy, Debug)]
+pub struct Block {
+    start: u32,
+    len: u32,
+}
 
-/// Lists of operands, fewer than 2^32 in all, one after another in one list. Contracts see the
-/// lists, and for how many more lists and operands there is room.
+/// Lists of operands, fewer than 2^32 in all. Each list has a block of cells, and a cell tells which list it was put in
+/// for; what lies between blocks is free, and is used again once all blocks are moved together. Contracts see the lists,
+/// for how many more lists and operands there is room, and how the lists lie in the cells.
 #[derive(Drop)]
 pub struct OperandTable {
-    ends: Vec<usize>,
-    values: Vec<Value>,
+    cells: Cells,
+    blocks: Vec<Block>,
+    live: usize,
+    spare: Vec<Value>,
 }
 
 impl Model for OperandTable {
-    ghost use Rattle.std.specs.Prelude.{◌-◌, ◌<◌, ◌^◌, length, min};
+    ghost use Rattle.std.specs.Prelude.{◌+◌, ◌-◌, ◌≤◌, ◌^◌, length, min};
     ghost use Rattle.std.specs.Vec.{vec_len, vec_capacity};
-    ghost use Rattle.ir_store.specs.OperandLists.{OperandLists, split_at_ends, AreEnds};
+    ghost use Rattle.ir_store.specs.Blocks.{OperandLists, AreBlocks, lists_in, cell_room};
 
     ghost Value = { OperandLists };
 
-    ghost view = { λ t. record { lists = split_at_ends 0 t.ends.items t.values.items; list_room = vec_capacity t.ends - vec_len t.ends; room = min (vec_capacity t.values) (2 ^ 32 - 1) - vec_len t.values } };
+    ghost view = { λ t. record { lists = lists_in t.cells.values.items t.blocks.items; list_room = vec_capacity t.blocks - vec_len t.blocks; room = min (cell_room t.cells + length t.cells.values.items) (vec_capacity t.spare) - t.live; tail = min (cell_room t.cells) (vec_capacity t.spare - length t.cells.values.items); cells = t.cells.values; owners = t.cells.owners.items; blocks = t.blocks.items; spare = t.spare.items } };
 
-    ghost invariant = { λ t. AreEnds 0 t.ends.items (length t.values.items) × (length t.values.items < 2 ^ 32) };
-}
-
-/// Where list `i` begins.
-#[tactic(auto, using(crate::proofs::Cutting::start_before))]
-fn start(ends: &[usize], i: usize) -> usize
-    requires { i ≤ length ends.now }
-    ensures { result ≡ start_of 0 ends.now i }
-{
-    if i == 0 { 0 } else { ends[i - 1] }
-}
-
-/// List `i`.
-#[tactic(auto, using(crate::proofs::Cutting::start_le_end, crate::proofs::Cutting::end_le))]
-fn list_in<'v>(ends: &[usize], values: &'v [Value], i: usize) -> &'v [Value]
-    requires ends { AreEnds 0 ends.now (length values.now) }
-    requires list { i < length ends.now }
-    ensures { result.now ≡ slice_index_or (split_at_ends 0 ends.now values.now) i [] }
-{
-    let begin = start(ends, i);
-    let end = ends[i];
-    &values[begin..end]
+    ghost invariant = { λ t. AreBlocks t.cells.values.items t.cells.owners.items t.blocks.items t.live × ((length t.cells.values.items ≤ vec_capacity t.spare) × (length t.blocks.items ≤ 2 ^ 32)) };
 }
 
 /// Whether two operands are the same.
@@ -73,89 +62,63 @@ pub(crate) fn is_same(a: Value, b: Value) -> bool
     }
 }
 
-/// The value, or `to` where it is `from`.
-fn replacement(value: Value, from: Value, to: Value) -> Value
-    ensures { result ≡ replace_value from to value }
+/// The place of a cell in a block, where it is one of the block's cells.
+fn place_within(owner: u32, block: Block, cell: u32) -> Option<UsePlace>
+    ensures { result ≡ place_within owner block cell }
 {
-    if is_same(from, value) { to } else { value }
-}
-
-/// Puts `to` in the place of each `from`.
-fn replace(values: &mut [Value], from: Value, to: Value)
-    ensures { values.new ≡ map (replace_value from to) values.old }
-{
-    for value in values.iter_mut() {
-        *value = replacement(*value, from, to);
+    if block.start <= cell && cell - block.start < block.len {
+        let op = OpId { index: owner };
+        return Some(UsePlace {
+            op,
+            at: cell - block.start,
+        });
     }
+    None
 }
 
-/// Adds `by` to each number from the place `first` on.
-fn raise(ends: &mut [usize], first: usize, by: usize)
-    requires { All (λ e. e + by < 2 ^ 64) ends.old }
-    ensures { ends.new ≡ changed_from first (λ e. e + by) ends.old }
+/// The values of a block.
+fn block_values(values: &[Value], block: Block) -> &[Value]
+    requires { block.start + block.len ≤ length values.now }
+    ensures { result.now ≡ block_list values.now block }
 {
-    for k in first..ends.len() {
-        ends[k] += by;
-    }
+    let start = block.start as usize;
+    &values[start..start + block.len as usize]
 }
 
-/// Takes `by` from each number from the place `first` on.
-fn lower(ends: &mut [usize], first: usize, by: usize)
-    requires { All (λ e. by ≤ e) (drop first ends.old) }
-    ensures { ends.new ≡ changed_from first (λ e. e - by) ends.old }
+/// Puts each block that `from` has into the cells, where there are none, one after another.
+fn refill_blocks(cells: &mut Cells, blocks: &mut [Block], from: &[Value])
+    requires empty { cells.old.values.items ≡ [] }
+    requires within { (i : ℕ) → (block_at blocks.old i).start + (block_at blocks.old i).len ≤ length from.now }
+    requires room { total blocks.old ≤ cell_room cells.old }
+    requires few { length blocks.old ≤ 2 ^ 32 }
+    ensures count { length blocks.new ≡ length blocks.old }
+    ensures lists { lists_in cells.new.values.items blocks.new ≡ lists_in from.now blocks.old }
+    ensures blocks { AreBlocks cells.new.values.items cells.new.owners.items blocks.new (total blocks.old) }
+    ensures cells { length cells.new.values.items ≡ total blocks.old }
+    ensures room { cell_room cells.new + total blocks.old ≡ cell_room cells.old }
 {
-    for k in first..ends.len() {
-        ends[k] -= by;
-    }
-}
-
-/// Puts `list` in at the place `spot`, where there is room for it.
-fn insert_all(values: &mut Vec<Value>, spot: usize, list: &[Value])
-    requires place { spot ≤ length values.old.items }
-    requires room { length values.old.items + length list.now ≤ vec_capacity values.old }
-    ensures items { values.new.items ≡ put_in spot list.now values.old.items }
-    ensures len { vec_len values.new ≡ vec_len values.old + length list.now }
-    ensures capacity { vec_capacity values.old ≤ vec_capacity values.new }
-{
-    for (k, value) in list.iter().enumerate() {
-        insert_one(values, spot + k, *value);
-    }
-}
-
-/// Puts `value` in at the place `spot`, where there is room for it.
-fn insert_one(values: &mut Vec<Value>, spot: usize, value: Value)
-    requires place { spot ≤ length values.old.items }
-    requires room { vec_len values.old < vec_capacity values.old }
-    ensures items { values.new.items ≡ put_in spot (value ∷ []) values.old.items }
-    ensures len { vec_len values.new ≡ vec_len values.old + 1 }
-    ensures capacity { vec_capacity values.old ≤ vec_capacity values.new }
-{
-    match values.insert(spot, value) {
-        Ok(()) => {}
-        Err(_) => unreachable!(),
-    }
-}
-
-/// Takes `count` values at the place `spot` out.
-fn remove_all(values: &mut Vec<Value>, spot: usize, count: usize)
-    requires { spot + count ≤ length values.old.items }
-    ensures items { values.new.items ≡ cut_out spot count values.old.items }
-    ensures len { vec_len values.new + count ≡ vec_len values.old }
-    ensures capacity { vec_capacity values.new ≡ vec_capacity values.old }
-{
-    for _ in 0..count {
-        let _ = values.remove(spot);
+    for i in 0..blocks.len() {
+        let block = blocks[i];
+        let start = cells.end();
+        cells.push_all(block_values(from, block), i as u32);
+        blocks[i].start = start;
     }
 }
 
 impl OperandTable {
+    ghost use Rattle.std.specs.Prelude.{insert, remove, slice_index_or, slice_set, map, IfOk, IsOk, OnOk, Option};
+    ghost use Rattle.ir_store.specs.Ids.{put_at, times};
+    ghost use Rattle.ir_store.specs.BodyOps.{replace_value};
+
     /// No lists. It takes no memory.
     pub fn new(alloc: Global) -> OperandTable
         ensures { result.lists ≡ [] }
     {
         OperandTable {
-            ends: Vec::new(alloc),
-            values: Vec::new(alloc),
+            cells: Cells::new(alloc),
+            blocks: Vec::new(alloc),
+            live: 0,
+            spare: Vec::new(alloc),
         }
     }
 
@@ -163,23 +126,39 @@ impl OperandTable {
     pub fn try_clone(&self, alloc: Global) -> Result<OperandTable, AllocError>
         ensures { IfOk result (λ copy. copy.lists ≡ self.now.lists) }
     {
-        let ends = Vec::from_slice(alloc, self.ends.as_slice())?;
-        let values = Vec::from_slice(alloc, self.values.as_slice())?;
-        Ok(OperandTable { ends, values })
+        let cells = self.cells.try_clone(alloc)?;
+        let blocks = Vec::from_slice(alloc, self.blocks.as_slice())?;
+        let spare = Vec::with_capacity(alloc, cells.end() as usize)?;
+        Ok(OperandTable {
+            cells,
+            blocks,
+            live: self.live,
+            spare,
+        })
     }
 
     /// For how many lists there is room, those that are there among them.
     pub fn list_capacity(&self) -> usize
         ensures { result ≡ length self.now.lists + self.now.list_room }
     {
-        self.ends.capacity()
+        self.blocks.capacity()
     }
 
-    /// For how many more operands there is room.
+    /// For how many more operands there is room, what lies free between lists among it.
     pub fn room(&self) -> usize
         ensures { result ≡ self.now.room }
     {
-        self.values.capacity().min(MOST) - self.values.len()
+        let cells = self.cells.end() as usize + self.cells.room();
+        cells.min(self.spare.capacity()) - self.live
+    }
+
+    /// For how many more operands there is room after the last cell.
+    fn tail(&self) -> usize
+        ensures tail { result ≡ self.now.tail }
+        ensures room { result ≤ self.now.room }
+    {
+        let spare = self.spare.capacity() - self.cells.end() as usize;
+        self.cells.room().min(spare)
     }
 
     /// Makes room for so many more lists and operands.
@@ -190,11 +169,23 @@ impl OperandTable {
         ensures room { self.old.room ≤ self.new.room }
         ensures succeeds { lists ≤ self.old.list_room → operands ≤ self.old.room → IsOk result }
     {
-        self.ends.reserve(lists)?;
+        self.reserve_lists(lists)?;
         self.reserve_operands(operands)
     }
 
-    /// Makes room for so many more operands.
+    /// Makes room for so many more lists.
+    fn reserve_lists(&mut self, lists: usize) -> Result<(), AllocError>
+        ensures lists { self.new.lists ≡ self.old.lists }
+        ensures ok { OnOk result (lists ≤ self.new.list_room) }
+        ensures list_room { self.old.list_room ≤ self.new.list_room }
+        ensures room { self.old.room ≡ self.new.room }
+        ensures succeeds { lists ≤ self.old.list_room → IsOk result }
+    {
+        self.blocks.reserve(lists)
+    }
+
+    /// Makes room for so many more operands. Where as many cells are free as are not, they are used, so that no memory
+    /// is taken; so each call is constant on average in the number of operands.
     pub fn reserve_operands(&mut self, operands: usize) -> Result<(), AllocError>
         ensures lists { self.new.lists ≡ self.old.lists }
         ensures ok { OnOk result (operands ≤ self.new.room) }
@@ -202,78 +193,274 @@ impl OperandTable {
         ensures room { self.old.room ≤ self.new.room }
         ensures succeeds { operands ≤ self.old.room → IsOk result }
     {
-        if MOST - self.values.len() < operands {
-            return Err(AllocError);
+        let fits = operands <= self.room();
+        if operands <= self.tail() || (fits && self.is_half_free()) {
+            return Ok(());
         }
-        self.values.reserve(operands)
+        let grown = self.grow(operands);
+        if fits { Ok(()) } else { grown }
     }
 
-    /// Puts a list after the others, where there is room for it.
-    pub fn push(&mut self, list: &[Value])
-        requires list_room { 1 ≤ self.old.list_room }
-        requires room { length list.now ≤ self.old.room }
-        ensures lists { self.new.lists ≡ self.old.lists ++ list.now ∷ [] }
-        ensures list_room { self.old.list_room ≤ self.new.list_room + 1 }
-        ensures room { self.old.room ≤ self.new.room + length list.now }
+    /// Makes room for one more operand in list `i`, and where memory is there for it, so that the list may be moved.
+    pub fn reserve_insert(&mut self, i: usize) -> Result<(), AllocError>
+        ensures lists { self.new.lists ≡ self.old.lists }
+        ensures ok { OnOk result (1 ≤ self.new.room) }
+        ensures list_room { self.new.list_room ≡ self.old.list_room }
+        ensures room { self.old.room ≤ self.new.room }
+        ensures succeeds { 1 ≤ self.old.room → IsOk result }
     {
-        let spot = self.values.len();
-        insert_all(&mut self.values, spot, list);
-        self.ends.push_reserved(spot + list.len());
+        let count = self.get(i).len();
+        let grown = self.reserve_operands(count + 1);
+        if self.room() >= 1 { Ok(()) } else { grown }
     }
 
-    /// Puts `list` in the place of list `i`, where there is room for it, or after the others.
+    /// Whether no more cells are used than are free between lists.
+    fn is_half_free(&self) -> bool {
+        let cells = self.cells.end() as usize;
+        self.live <= cells - self.live
+    }
+
+    /// Takes memory for so many more operands. Linear in the number of cells.
+    fn grow(&mut self, operands: usize) -> Result<(), AllocError>
+        ensures lists { self.new.lists ≡ self.old.lists }
+        ensures ok { OnOk result (operands ≤ self.new.room) }
+        ensures list_room { self.new.list_room ≡ self.old.list_room }
+        ensures room { self.old.room ≤ self.new.room }
+    {
+        let alloc = *self.blocks.allocator();
+        self.compact();
+        self.take_memory(alloc, operands)
+    }
+
+    /// Takes memory for so many more cells.
+    fn take_memory(&mut self, alloc: Global, operands: usize) -> Result<(), AllocError>
+        ensures lists { self.new.lists ≡ self.old.lists }
+        ensures ok { OnOk result (operands ≤ self.new.room) }
+        ensures list_room { self.new.list_room ≡ self.old.list_room }
+        ensures room { self.old.room ≤ self.new.room }
+    {
+        self.cells.reserve(alloc, operands)?;
+        let cells = self.cells.end() as usize + operands;
+        self.spare.truncate(0);
+        self.spare.reserve(cells)
+    }
+
+    /// Puts `list` in the place of list `i`, where there is room for it, or after the others. Linear in both lists, and
+    /// constant on average in the number of operands.
     pub fn put(&mut self, i: usize, list: &[Value])
         requires place { i ≤ length self.old.lists }
+        requires few { i < 2 ^ 32 }
         requires list_room { length self.old.lists ≤ i → 1 ≤ self.old.list_room }
         requires room { length list.now ≤ self.old.room }
         ensures lists { self.new.lists ≡ put_at i list.now self.old.lists }
         ensures list_room { self.old.list_room + length self.old.lists ≤ self.new.list_room + length self.new.lists }
         ensures room { self.old.room ≤ self.new.room + length list.now }
     {
-        if i == self.ends.len() {
-            self.push(list);
+        self.open(i);
+        self.make_tail(list.len());
+        self.place(i, list);
+    }
+
+    /// Puts an empty list in the place of list `i`, or after the others.
+    fn open(&mut self, i: usize)
+        requires place { i ≤ length self.old.lists }
+        requires few { i < 2 ^ 32 }
+        requires list_room { length self.old.lists ≤ i → 1 ≤ self.old.list_room }
+        ensures lists { self.new.lists ≡ put_at i [] self.old.lists }
+        ensures list_room { self.old.list_room + length self.old.lists ≤ self.new.list_room + length self.new.lists }
+        ensures room { self.old.room ≤ self.new.room }
+    {
+        if i == self.blocks.len() {
+            self.add_empty();
         } else {
             self.clear(i);
-            self.insert(i, 0, list);
         }
     }
 
-    /// Puts `list` in at the place `at` of list `i`, where there is room for it.
-    pub fn insert(&mut self, i: usize, at: usize, list: &[Value])
+    /// Puts an empty list after the others.
+    fn add_empty(&mut self)
+        requires few { length self.old.lists < 2 ^ 32 }
+        requires list_room { 1 ≤ self.old.list_room }
+        ensures lists { self.new.lists ≡ self.old.lists ++ [] ∷ [] }
+        ensures list_room { self.old.list_room ≡ self.new.list_room + 1 }
+        ensures room { self.old.room ≡ self.new.room }
+    {
+        self.blocks.push_reserved(Block { start: 0, len: 0 });
+    }
+
+    /// Puts `list` in the place of list `i`, which is empty, where there is room for it after the last cell.
+    fn place(&mut self, i: usize, list: &[Value])
+        requires list { i < length self.old.lists }
+        requires empty { slice_index_or self.old.lists i [] ≡ [] }
+        requires tail { length list.now ≤ self.old.tail }
+        ensures lists { self.new.lists ≡ slice_set self.old.lists i list.now }
+        ensures list_room { self.old.list_room ≡ self.new.list_room }
+        ensures room { self.old.room ≡ self.new.room + length list.now }
+    {
+        let start = self.cells.end();
+        self.cells.push_all(list, i as u32);
+        let len = self.cells.end() - start;
+        self.blocks[i] = Block { start, len };
+        self.live += list.len();
+    }
+
+    /// Puts `value` in at the place `at` of list `i`, where there is room for it. Linear in the list, and constant on
+    /// average in the number of operands.
+    pub fn insert(&mut self, i: usize, at: usize, value: Value)
         requires list { i < length self.old.lists }
         requires place { at ≤ length (slice_index_or self.old.lists i []) }
-        requires room { length list.now ≤ self.old.room }
-        ensures lists { self.new.lists ≡ slice_set self.old.lists i (put_in at list.now (slice_index_or self.old.lists i [])) }
+        requires room { 1 ≤ self.old.room }
+        ensures lists { self.new.lists ≡ slice_set self.old.lists i (insert (slice_index_or self.old.lists i []) at value) }
         ensures list_room { self.new.list_room ≡ self.old.list_room }
-        ensures room { self.old.room ≤ self.new.room + length list.now }
+        ensures room { self.old.room ≤ self.new.room + 1 }
     {
-        let begin = start(self.ends.as_slice(), i);
-        insert_all(&mut self.values, begin + at, list);
-        raise(&mut self.ends, i, list.len());
+        let count = self.get(i).len();
+        let start = self.lift(i);
+        self.place_with(i, start, count, at, value);
     }
 
-    /// Takes `count` operands at the place `at` of list `i` out.
-    pub fn remove(&mut self, i: usize, at: usize, count: usize)
+    /// Takes the operands of list `i` out and makes room for them and one more after the last cell. They are among those
+    /// that are kept, from the place on that it gives.
+    fn lift(&mut self, i: usize) -> usize
         requires list { i < length self.old.lists }
-        requires place { at + count ≤ length (slice_index_or self.old.lists i []) }
-        ensures lists { self.new.lists ≡ slice_set self.old.lists i (cut_out at count (slice_index_or self.old.lists i [])) }
+        requires room { 1 ≤ self.old.room }
+        ensures lists { self.new.lists ≡ slice_set self.old.lists i [] }
         ensures list_room { self.new.list_room ≡ self.old.list_room }
-        ensures room { self.new.room ≡ self.old.room + count }
+        ensures room { self.old.room + length (slice_index_or self.old.lists i []) ≤ self.new.room }
+        ensures tail { length (slice_index_or self.old.lists i []) + 1 ≤ self.new.tail }
+        ensures kept { take (length (slice_index_or self.old.lists i [])) (drop result self.new.spare) ≡ slice_index_or self.old.lists i [] }
+        ensures within { result + length (slice_index_or self.old.lists i []) ≤ length self.new.spare }
     {
-        let begin = start(self.ends.as_slice(), i);
-        remove_all(&mut self.values, begin + at, count);
-        lower(&mut self.ends, i, count);
+        let block = self.blocks[i];
+        if (block.len as usize) < self.tail() {
+            self.keep(i);
+            self.clear(i);
+            0
+        } else {
+            self.keep_all();
+            self.clear(i);
+            self.refill();
+            block.start as usize
+        }
     }
 
-    /// Takes all operands of list `i` out.
+    /// Puts list `i`, which is empty, after the last cell: those that are kept from a place on, and `value` among them.
+    fn place_with(&mut self, i: usize, start: usize, count: usize, at: usize, value: Value)
+        requires list { i < length self.old.lists }
+        requires empty { slice_index_or self.old.lists i [] ≡ [] }
+        requires within { start + count ≤ length self.old.spare }
+        requires place { at ≤ count }
+        requires tail { count + 1 ≤ self.old.tail }
+        ensures lists { self.new.lists ≡ slice_set self.old.lists i (insert (take count (drop start self.old.spare)) at value) }
+        ensures list_room { self.old.list_room ≡ self.new.list_room }
+        ensures room { self.old.room ≡ self.new.room + (count + 1) }
+    {
+        let first = self.cells.end();
+        let kept = &self.spare[start..start + count];
+        self.cells.push_with(kept, at, value, i as u32);
+        let len = self.cells.end() - first;
+        self.blocks[i] = Block { start: first, len };
+        self.live += count + 1;
+    }
+
+    /// Takes operand `at` of list `i` out. Linear in the list.
+    pub fn remove(&mut self, i: usize, at: usize)
+        requires list { i < length self.old.lists }
+        requires place { at < length (slice_index_or self.old.lists i []) }
+        ensures lists { self.new.lists ≡ slice_set self.old.lists i (remove (slice_index_or self.old.lists i []) at) }
+        ensures list_room { self.new.list_room ≡ self.old.list_room }
+        ensures room { self.new.room ≡ self.old.room + 1 }
+    {
+        let block = self.blocks[i];
+        let start = block.start as usize;
+        self.cells
+            .close_gap(start + at, start + (block.len as usize - 1));
+        self.blocks[i].len = block.len - 1;
+        self.live -= 1;
+    }
+
+    /// Takes all operands of list `i` out. Linear in the list.
     pub fn clear(&mut self, i: usize)
         requires { i < length self.old.lists }
         ensures lists { self.new.lists ≡ slice_set self.old.lists i [] }
         ensures list_room { self.new.list_room ≡ self.old.list_room }
-        ensures room { self.old.room + length (slice_index_or self.old.lists i []) ≤ self.new.room }
+        ensures room { self.old.room + length (slice_index_or self.old.lists i []) ≡ self.new.room }
+        ensures tail { self.new.tail ≡ self.old.tail }
+        ensures blocks { self.new.blocks ≡ slice_set self.old.blocks i (record { start = (block_at self.old.blocks i).start; len = 0 }) }
+        ensures spare { self.new.spare ≡ self.old.spare }
     {
-        let count = self.get(i).len();
-        self.remove(i, 0, count);
+        let block = self.blocks[i];
+        self.cells.wipe(block.start as usize, block.len as usize);
+        self.blocks[i].len = 0;
+        self.live -= block.len as usize;
+    }
+
+    /// Makes room for so many operands after the last cell, where there is room for them.
+    fn make_tail(&mut self, count: usize)
+        requires { count ≤ self.old.room }
+        ensures lists { self.new.lists ≡ self.old.lists }
+        ensures list_room { self.new.list_room ≡ self.old.list_room }
+        ensures room { self.new.room ≡ self.old.room }
+        ensures tail { count ≤ self.new.tail }
+    {
+        if self.tail() < count {
+            self.compact();
+        }
+    }
+
+    /// Moves all lists together. Linear in the number of cells.
+    fn compact(&mut self)
+        ensures lists { self.new.lists ≡ self.old.lists }
+        ensures list_room { self.new.list_room ≡ self.old.list_room }
+        ensures room { self.new.room ≡ self.old.room }
+        ensures tail { self.new.tail ≡ self.new.room }
+    {
+        self.keep_all();
+        self.refill();
+    }
+
+    /// Keeps the values of all cells.
+    fn keep_all(&mut self)
+        ensures lists { self.new.lists ≡ self.old.lists }
+        ensures list_room { self.new.list_room ≡ self.old.list_room }
+        ensures room { self.new.room ≡ self.old.room }
+        ensures tail { self.new.tail ≡ self.old.tail }
+        ensures blocks { self.new.blocks ≡ self.old.blocks }
+        ensures spare { self.new.spare ≡ self.old.cells.items }
+        ensures kept { lists_in self.new.spare self.new.blocks ≡ self.old.lists }
+        ensures within { (j : ℕ) → (block_at self.new.blocks j).start + (block_at self.new.blocks j).len ≤ length self.new.spare }
+    {
+        keep(&mut self.spare, self.cells.values.as_slice());
+    }
+
+    /// Keeps the values of list `i`.
+    fn keep(&mut self, i: usize)
+        requires { i < length self.old.lists }
+        ensures lists { self.new.lists ≡ self.old.lists }
+        ensures list_room { self.new.list_room ≡ self.old.list_room }
+        ensures room { self.new.room ≡ self.old.room }
+        ensures tail { self.new.tail ≡ self.old.tail }
+        ensures spare { self.new.spare ≡ slice_index_or self.old.lists i [] }
+    {
+        let block = self.blocks[i];
+        keep(
+            &mut self.spare,
+            block_values(self.cells.values.as_slice(), block),
+        );
+    }
+
+    /// Puts all lists into the cells again, one after another, each from what is kept of it.
+    fn refill(&mut self)
+        requires kept { lists_in self.old.spare self.old.blocks ≡ self.old.lists }
+        requires within { (j : ℕ) → (block_at self.old.blocks j).start + (block_at self.old.blocks j).len ≤ length self.old.spare }
+        ensures lists { self.new.lists ≡ self.old.lists }
+        ensures list_room { self.new.list_room ≡ self.old.list_room }
+        ensures room { self.new.room ≡ self.old.room }
+        ensures tail { self.new.tail ≡ self.new.room }
+        ensures spare { self.new.spare ≡ self.old.spare }
+    {
+        self.cells.clear();
+        refill_blocks(&mut self.cells, &mut self.blocks, self.spare.as_slice());
     }
 
     /// List `i`, or none where there is no such list.
@@ -281,28 +468,65 @@ impl OperandTable {
         ensures list { result.now ≡ slice_index_or self.now.lists i [] }
         ensures small { length result.now < 2 ^ 32 }
     {
-        if self.ends.len() <= i {
-            return &[];
-        }
-        list_in(self.ends.as_slice(), self.values.as_slice(), i)
+        block_values(self.cells.values.as_slice(), self.block(i))
     }
 
-    /// Puts `to` in the place of each `from`.
+    /// The block of list `i`.
+    fn block(&self, i: usize) -> Block
+        ensures { result ≡ block_at self.now.blocks i }
+    {
+        match self.blocks.get(i) {
+            Some(block) => *block,
+            None => Block { start: 0, len: 0 },
+        }
+    }
+
+    /// Puts `to` in the place of each `from`. Linear in the chain of the head of `from`.
     pub fn replace(&mut self, from: Value, to: Value)
         ensures lists { self.new.lists ≡ map (map (replace_value from to)) self.old.lists }
         ensures room { (self.new.list_room ≡ self.old.list_room) × (self.new.room ≡ self.old.room) }
     {
-        replace(&mut self.values, from, to);
+        self.cells.values.replace(from, to);
     }
 
-    /// Puts `value` in the place `at` of list `i`.
+    /// Puts `value` in the place `at` of list `i`, in constant time.
     pub fn set(&mut self, i: usize, at: usize, value: Value)
         requires list { i < length self.old.lists }
         requires place { at < length (slice_index_or self.old.lists i []) }
         ensures lists { self.new.lists ≡ slice_set self.old.lists i (slice_set (slice_index_or self.old.lists i []) at value) }
         ensures room { (self.new.list_room ≡ self.old.list_room) × (self.new.room ≡ self.old.room) }
     {
-        let begin = start(self.ends.as_slice(), i);
-        self.values[begin + at] = value;
+        let start = self.blocks[i].start as usize;
+        self.cells.set(start + at, value);
+    }
+
+    /// The first cell of the chain of a value's head that has the value.
+    pub fn first(&self, value: Value) -> Option<u32>
+        ensures { result ≡ cell_or_none (cells_of value self.now.cells) }
+    {
+        self.cells.values.first(value)
+    }
+
+    /// The place of a cell in the list that has it, where one has it, in constant time.
+    pub fn place_of(&self, cell: u32) -> Option<UsePlace>
+        ensures { result ≡ place_in self.now.owners self.now.blocks cell }
+    {
+        let owner = match self.cells.owners.get(cell as usize) {
+            Some(owner) => *owner,
+            None => NONE,
+        };
+        place_within(owner, self.block(owner as usize), cell)
+    }
+}
+
+/// Keeps the values of a list in place of what was kept, where there is room for them.
+fn keep(spare: &mut Vec<Value>, list: &[Value])
+    requires { length list.now ≤ vec_capacity spare.old }
+    ensures items { spare.new.items ≡ list.now }
+    ensures capacity { vec_capacity spare.new ≡ vec_capacity spare.old }
+{
+    spare.truncate(0);
+    for value in list {
+        spare.push_reserved(*value);
     }
 }

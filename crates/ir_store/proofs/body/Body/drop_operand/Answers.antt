@@ -1,9 +1,8 @@
-use Rattle.std.proofs.Common.{◌<◌, [], map, length, get_or, arith, rules}
+use Rattle.std.proofs.Common.{◌<◌, map, length, arith, rules}
 use Rattle.std.specs.Prelude.{remove}
 use Rattle.ir_store.specs.OperationViews.{parts_of}
 use Rattle.ir_store.specs.Orders.{live_ids}
 use Rattle.ir_store.proofs.BodyLemmas.{op_found, operands_set, ids_seen}
-use Rattle.ir_store.proofs.Joining.{cut_out_one}
 use Rattle.ir_store.proofs.body.Body.drop_operand.Goals as goal
 
 pub index_of-index-requires : goal.index_of-index-requires
@@ -18,5 +17,5 @@ remove-requires-clause-place c =
 pub returns-clause-ops : goal.returns-clause-ops
 returns-clause-ops c =
     let i_in : c.index_of-index.result < length c.args.self.now.operands.lists = search rules in
-    rw (c.remove.ensures.lists, cut_out_one c.args.at (get_or c.args.self.now.operands.lists c.index_of-index.result []), ← c.index_of-index.ensures.value)
+    rw (c.remove.ensures.lists, ← c.index_of-index.ensures.value)
     (operands_set (map parts_of c.args.self.now.parts.items) c.args.self.now.operands.lists (λ os. remove os c.args.at) c.index_of-index.result i_in (live_ids c.args.self.now.order))

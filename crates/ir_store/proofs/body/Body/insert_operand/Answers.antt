@@ -10,12 +10,12 @@ index_of-index-requires c = rw (ids_seen (map parts_of c.args.self.now.parts.ite
 
 pub insert-requires-clause-place : goal.insert-requires-clause-place
 insert-requires-clause-place c =
-    rw (c.reserve_operands.ensures.lists, c.index_of-index.ensures.value)
+    rw (c.reserve_insert.ensures.lists, c.index_of-index.ensures.value)
     (rw (op_found (map parts_of c.args.self.now.parts.items) c.args.self.now.operands.lists (live_ids c.args.self.now.order) c.args.op.index
     (rw (ids_seen (map parts_of c.args.self.now.parts.items) c.args.self.now.operands.lists (live_ids c.args.self.now.order)) at c.requires.live)) at c.requires.place)
 
 pub returns-clause-ok : goal.returns-clause-ok
 returns-clause-ok c =
     let i_in : c.index_of-index.result < length c.args.self.now.operands.lists = search rules in
-    rw (c.insert.ensures.lists, c.reserve_operands.ensures.lists, ← c.index_of-index.ensures.value)
+    rw (c.insert.ensures.lists, c.reserve_insert.ensures.lists, ← c.index_of-index.ensures.value)
     (operands_set (map parts_of c.args.self.now.parts.items) c.args.self.now.operands.lists (λ os. insert os c.args.at c.args.value) c.index_of-index.result i_in (live_ids c.args.self.now.order))
