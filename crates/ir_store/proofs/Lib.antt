@@ -20,5 +20,8 @@ pub mod Replacing
 pub mod Samples
 pub mod StoredModules
 pub mod Seeking
+pub mod UseCells
+pub mod UseCounts
 pub mod UseLemmas
+pub mod UseNames
 pub mod Walks

@@ -7,7 +7,7 @@ use Rattle.ir_store.specs.Blocks.{lists_in}
 use Rattle.ir_store.specs.BodyOps.{BodyOp, no_parts, taken_out, is_named, operand_count}
 use Rattle.ir_store.specs.Numbered.{position_of, ref_by}
 use Rattle.ir_store.specs.Positions.{pushed_ref, pulled_ref, same_ref, replaced_ref}
-use Rattle.ir_store.specs.Uses.{use_at, uses_in, uses_from}
+use Rattle.ir_store.specs.Uses.{use_at, uses_in, use_times}
 
 -- ids and lists
 
@@ -43,9 +43,8 @@ other_result_unused : uses_in (Result (record { index = 4 }) 1) (sum ∷ out ∷
 unfolding sum out
 other_result_unused = refl
 
-used_behind : uses_from (Port 1) 2 (sum ∷ out ∷ []) ≡ use_at 0 1 ∷ []
-unfolding sum out
-used_behind = refl
+counted_once : use_times (use_at 0 1) (use_at 4 1 ∷ use_at 0 1 ∷ []) ≡ 1
+counted_once = refl
 
 sum_gone : taken_out 4 (sum ∷ out ∷ []) ≡ out ∷ []
 unfolding sum out

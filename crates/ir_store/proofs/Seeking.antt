@@ -64,6 +64,7 @@ pub record Step (c : ℕ) (next : Option ℕ) (cells : List ℕ) : Type 0 where
   pub shorter : length (rest_at next cells) < length (rest_at (Some c) cells)
   pub skips : (v : Value) (values : List Value) → has_value v values c ≡ false → cells_with v values (rest_at (Some c) cells) ≡ cells_with v values (rest_at next cells)
   pub there : (d : ℕ) → next ≡ Some d → Contains cells d
+  pub whole : rest_at (Some c) cells ≡ c ∷ rest_at next cells
 
 contains_part : (xs ys : List ℕ) (d : ℕ) → Contains ys d → Contains (xs ++ ys) d
 contains_part [] ys d h = h
@@ -87,6 +88,7 @@ step c next cells h once after =
     record {
       shorter = omega (arith, ap length rest, ap length f.rest);
       skips = λ v values e. rw (f.rest, rest, e) refl;
+      whole = f.rest ∙ ap (λ ys. c ∷ ys) (sym rest);
       there = λ d e. subst (λ zs. Contains zs d) (sym f.whole) (contains_part f.front (c ∷ f.back) d (later d f.back (sym n ∙ e)));
     }
   where

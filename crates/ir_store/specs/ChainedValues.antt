@@ -47,9 +47,13 @@ abbrev pub cells_with : Value → List Value → List ℕ → List ℕ
 cells_with v values [] = []
 cells_with v values (c ∷ cells) = cond (has_value v values c) (c ∷ cells_with v values cells) (cells_with v values cells)
 
+-- the cells of the chain of a value's head
+abbrev pub chain_near : Value → ValueChains → List ℕ
+chain_near v t = slice_index_or t.chains (head_of (length t.chains) v) []
+
 -- the cells that have a value, in the order of their chain
 abbrev pub cells_of : Value → ValueChains → List ℕ
-cells_of v t = cells_with v t.items (slice_index_or t.chains (head_of (length t.chains) v) [])
+cells_of v t = cells_with v t.items (chain_near v t)
 
 -- the cells from one on
 abbrev pub from_cell : ℕ → List ℕ → List ℕ

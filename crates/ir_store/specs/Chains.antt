@@ -79,3 +79,8 @@ cell_or_none (x ∷ xs) = Some x
 -- the cell of a number, unless that stands for no cell
 abbrev pub cell_unless_none : ℕ → Option ℕ
 cell_unless_none c = cond (nat_eq c none) None (Some c)
+
+-- how often a cell, where there is one, stands among cells; once where there is none
+abbrev pub times_at : Option ℕ → List ℕ → ℕ
+times_at None cells = 1
+times_at (Some c) cells = times c cells

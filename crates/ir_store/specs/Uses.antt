@@ -1,8 +1,13 @@
 -- The places where a value is used.
-use Rattle.std.specs.Prelude.{ℕ, suc, ◌+◌, ◌<◌, cond, ◌≡◌, List, [], ◌∷◌, ◌++◌, length, drop, Option, Some, None}
+use Rattle.std.specs.Prelude.{◌≡◌, ℕ, suc, Bool, true, false, cond, ◌&&◌, nat_eq, List, [], ◌∷◌, ◌++◌, Option, Some, None, is_some, slice_get, slice_index_or}
+use Rattle.ir_store.specs.declared.links.Link.{Link}
+use Rattle.ir_store.specs.declared.operands.Block.{Block}
 use Rattle.ir_store.specs.declared.operation.UsePlace.{UsePlace}
 use Rattle.ir_store.specs.declared.operation.Value.{Value}
-use Rattle.ir_store.specs.BodyOps.{BodyOp, same_value}
+use Rattle.ir_store.specs.Ids.{times}
+use Rattle.ir_store.specs.Links.{is_live_at}
+use Rattle.ir_store.specs.Blocks.{place_in}
+use Rattle.ir_store.specs.BodyOps.{BodyOp, same_value, is_of, names_in}
 
 -- an operand of an operation, by its id
 abbrev pub use_at : ℕ → ℕ → UsePlace
@@ -18,12 +23,50 @@ abbrev pub uses_in : Value → List BodyOp → List UsePlace
 uses_in v [] = []
 uses_in v (o ∷ ops) = places_in v o.id 0 o.operands ++ uses_in v ops
 
--- those in the first operation from an operand on, and in the others
-abbrev pub uses_from : Value → ℕ → List BodyOp → List UsePlace
-uses_from v at [] = []
-uses_from v at (o ∷ ops) = places_in v o.id at (drop at o.operands) ++ uses_in v ops
+-- whether two places are the same
+abbrev pub same_place : UsePlace → UsePlace → Bool
+same_place p q = nat_eq p.op.index q.op.index && nat_eq p.at q.at
 
--- the first place from `at` on where an operand is the value, told by what is left from there
-abbrev pub NextPlace : Value → List Value → ℕ → Option ℕ → Type 0
-NextPlace v xs at None = (id : ℕ) → places_in v id at (drop at xs) ≡ []
-NextPlace v xs at (Some k) = (k < length xs) × ((id : ℕ) → places_in v id at (drop at xs) ≡ use_at id k ∷ places_in v id (k + 1) (drop (k + 1) xs))
+-- how many times a place stands among places
+abbrev pub use_times : UsePlace → List UsePlace → ℕ
+use_times p [] = 0
+use_times p (q ∷ places) = cond (same_place q p) (suc (use_times p places)) (use_times p places)
+
+-- a place, where its operation is live
+abbrev pub live_use : List Link → Option UsePlace → Option UsePlace
+live_use links None = None
+live_use links (Some p) = cond (is_live_at links p.op.index) (Some p) None
+
+-- the place of a cell among the operands of a live operation, if it is one of them
+abbrev pub use_of : List Link → List ℕ → List Block → ℕ → Option UsePlace
+use_of links owners blocks cell = live_use links (place_in owners blocks cell)
+
+-- a place, where there is one, before others
+abbrev pub with_use : Option UsePlace → List UsePlace → List UsePlace
+with_use None places = places
+with_use (Some p) places = p ∷ places
+
+-- the places of cells
+abbrev pub places_of : List Link → List ℕ → List Block → List ℕ → List UsePlace
+places_of links owners blocks [] = []
+places_of links owners blocks (c ∷ cells) = with_use (use_of links owners blocks c) (places_of links owners blocks cells)
+
+-- whether a value, where there is one, is a result of the operation of an id
+abbrev pub is_some_of : ℕ → Option Value → Bool
+is_some_of id None = false
+is_some_of id (Some v) = is_of id v
+
+-- whether a cell is an operand of a live operation that is a result of the operation of an id
+abbrev pub names_at : List Link → List ℕ → List Block → List Value → ℕ → ℕ → Bool
+names_at links owners blocks values id cell = cond (is_some_of id (slice_get values cell)) (is_some (use_of links owners blocks cell)) false
+
+-- whether one of some cells is
+abbrev pub any_names : List Link → List ℕ → List Block → List Value → ℕ → List ℕ → Bool
+any_names links owners blocks values id [] = false
+any_names links owners blocks values id (c ∷ cells) = cond (names_at links owners blocks values id c) true (any_names links owners blocks values id cells)
+
+-- a live operation has a result of the operation of an id among its operands
+pub record IsNamedLive (links : List Link) (lists : List (List Value)) (id : ℕ) : Type 0 where
+  pub op : ℕ
+  pub live : is_live_at links op ≡ true
+  pub named : names_in id (slice_index_or lists op []) ≡ true

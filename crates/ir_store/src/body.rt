@@ -2,7 +2,7 @@
 ghost use Rattle.std.specs.Prelude.{◌≡◌, ℕ, ◌<◌, ◌≤◌, length, min, Some};
 ghost use Rattle.std.specs.Vec.{vec_len, vec_capacity};
 ghost use Rattle.ir_store.specs.Ids.{put_at};
-ghost use Rattle.ir_store.specs.BodyOps.{place_before, is_of, names_in};
+ghost use Rattle.ir_store.specs.BodyOps.{place_before};
 
 use crate::dictionary::Dictionary;
 use crate::links::{Link, next_of};
@@ -114,11 +114,12 @@ impl<'b> Ops<'b> {
 
 impl Body {
     ghost use Rattle.std.specs.Prelude.{◌≡◌, ℕ, ◌+◌, ◌<◌, ◌≤◌, ◌^◌, [], ◌∷◌, Some, None, map, min, length, Contains, IfOk, IfSome, IsOk, IsTrue, ◌↔◌, OnOk, OnErr, slice_set, insert, remove};
-    ghost use Rattle.ir_store.specs.BodyOps.{op_at, put_before, place_before, as_new, operands_at, operand_count, HasOperand, HasPlace, IsUnused, is_named, all_replaced, taken_out};
+    ghost use Rattle.ir_store.specs.BodyOps.{op_at, put_before, place_before, as_new, operands_at, operand_count, HasOperand, HasPlace, IsUnused, all_replaced, taken_out};
     ghost use Rattle.ir_store.specs.Bodies.{ids_of, ops_of, gaps, spare_ops, spare_uses, read_op, read_parts, op_id, ids_left};
     ghost use Rattle.ir_store.specs.OperationViews.{parts_of};
     ghost use Rattle.ir_store.specs.Orders.{live_ids};
-    ghost use Rattle.ir_store.specs.Uses.{uses_in};
+    ghost use Rattle.ir_store.specs.declared.operation.UsePlace.{UsePlace};
+    ghost use Rattle.ir_store.specs.Uses.{uses_in, use_times};
     ghost use Rattle.ir_store.specs.UsesLeft.{uses_left};
 
     /// The body without operations. It takes no memory.
@@ -181,11 +182,12 @@ impl Body {
         self.order.contains(id.index)
     }
 
-    /// Whether no operand is a result of the operation `op`.
+    /// Whether no operand is a result of the operation `op`. Linear in the chain of the head that its results have: those
+    /// of their uses that stand before the first, and of other values with the same head.
     pub fn is_unused(&self, op: OpId) -> bool
         ensures { IsTrue result ↔ IsUnused op.index (ops_of self.now) }
     {
-        !self.is_named(op)
+        !self.operands.is_named(op, self.order.links())
     }
 
     /// The operation `id`.
@@ -199,11 +201,11 @@ impl Body {
         Body::read(parts, operands)
     }
 
-    /// The places that name `value`, in text order.
+    /// The places that name `value`, each once, in no promised order. Linear in the chain of the value's head.
     pub fn uses(&self, value: Value) -> Uses<'_>
-        ensures { uses_left result ≡ uses_in value (ops_of self.now) }
+        ensures { (p : UsePlace) → use_times p (uses_left result) ≡ use_times p (uses_in value (ops_of self.now)) }
     {
-        Uses::among(value, &self.operands, Ops::along(&self.order))
+        Uses::among(value, &self.operands, self.order.links())
     }
 
     /// Puts `op` before the operation `before`, or at the end, and gives its id. On an error the
@@ -322,18 +324,6 @@ impl Body {
         }
     }
 
-    /// Whether some operand is a result of the operation `op`.
-    fn is_named(&self, op: OpId) -> bool
-        ensures { result ≡ is_named op.index (ops_of self.now) }
-    {
-        for id in self.ops() {
-            if names(self.operands.get(id.index as usize), op) {
-                return true;
-            }
-        }
-        false
-    }
-
     /// Where the parts and the operands of a live operation stand.
     fn index_of(&self, id: OpId) -> usize
         requires { Contains (live_ids self.now.order) id.index }
@@ -355,28 +345,6 @@ fn put_parts(parts: &mut Vec<Parts>, i: usize, one: Parts)
         parts.push_reserved(one);
     } else {
         parts[i] = one;
-    }
-}
-
-/// Whether some operand is a result of the operation `op`.
-fn names(operands: &[Value], op: OpId) -> bool
-    ensures { result ≡ names_in op.index operands.now }
-{
-    for value in operands {
-        if is_result_of(*value, op) {
-            return true;
-        }
-    }
-    false
-}
-
-/// Whether the value is a result of the operation `op`.
-fn is_result_of(value: Value, op: OpId) -> bool
-    ensures { result ≡ is_of op.index value }
-{
-    match value {
-        Value::Result(id, _) => id.index == op.index,
-        Value::Port(_) | Value::Undefined => false,
     }
 }
 

@@ -56,8 +56,8 @@ impl ChainedValues {
     ghost use Rattle.std.specs.Prelude.{◌≡◌, ℕ, ◌<◌, ◌≤◌, ◌+◌, ◌-◌, ◌^◌, map, List, [], ◌∷◌, ◌++◌, length, min, take, slice_set, slice_index_or, Contains, IfOk, IfSome, IsOk, OnOk};
     ghost use Rattle.ir_store.specs.Ids.{times};
     ghost use Rattle.ir_store.specs.BodyOps.{replace_value};
-    ghost use Rattle.ir_store.specs.Chains.{cell_or_none, once_if};
-    ghost use Rattle.ir_store.specs.ChainedValues.{has_value, cells_with, cells_of, rest_at};
+    ghost use Rattle.ir_store.specs.Chains.{cell_or_none, once_if, has_head};
+    ghost use Rattle.ir_store.specs.ChainedValues.{has_value, cells_with, cells_of, rest_at, chain_near, head_at, head_of};
 
     /// No values. It takes no memory.
     pub fn new(alloc: Global) -> ChainedValues
@@ -152,6 +152,25 @@ impl ChainedValues {
     {
         let head = head_of(value, self.chains.head_count());
         self.seek(value, head, self.chains.next(cell))
+    }
+
+    /// The first cell of the chain of a value's head, where it has one, in constant time.
+    pub fn first_near(&self, value: Value) -> Option<u32>
+        ensures first { result ≡ cell_or_none (chain_near value self.now) }
+        ensures members { (cell : ℕ) → times cell (chain_near value self.now) ≡ once_if (has_head (head_at (length self.now.chains) self.now.items cell) (head_of (length self.now.chains) value)) }
+    {
+        let heads = self.chains.head_count();
+        if heads == 0 {
+            return None;
+        }
+        self.chains.first(head_of(value, heads))
+    }
+
+    /// The cell after this one in its chain, where there is one, in constant time.
+    pub fn next_near(&self, cell: u32) -> Option<u32>
+        ensures { (s : ℕ) (xs ys : List ℕ) → slice_index_or self.now.chains s [] ≡ xs ++ cell ∷ ys → result ≡ cell_or_none ys }
+    {
+        self.chains.next(cell)
     }
 
     /// The first cell that has a value, from a cell of a head's chain on.

@@ -4,10 +4,10 @@ ghost use Rattle.std.specs.Vec.{vec_len, vec_capacity};
 ghost use Rattle.ir_store.specs.Blocks.{AreBlocks, place_within, place_in, block_list, block_at, lists_in, total, cell_room};
 ghost use Rattle.ir_store.specs.Chains.{cell_or_none};
 ghost use Rattle.ir_store.specs.ChainedValues.{cells_of};
-ghost use Rattle.ir_store.specs.BodyOps.{same_value};
+ghost use Rattle.ir_store.specs.BodyOps.{same_value, is_of};
 
 use crate::cells::Cells;
-use crate::links::NONE;
+use crate::links::{Link, NONE, is_live};
 use crate::operation::{OpId, UsePlace, Value};
 use std::alloc::{AllocError, Global};
 use std::marker::Model;
@@ -62,6 +62,16 @@ pub(crate) fn is_same(a: Value, b: Value) -> bool
     }
 }
 
+/// Whether the value is a result of the operation `op`.
+fn is_result_of(value: Value, op: OpId) -> bool
+    ensures { result ≡ is_of op.index value }
+{
+    match value {
+        Value::Result(id, _) => id.index == op.index,
+        Value::Port(_) | Value::Undefined => false,
+    }
+}
+
 /// The place of a cell in a block, where it is one of the block's cells.
 fn place_within(owner: u32, block: Block, cell: u32) -> Option<UsePlace>
     ensures { result ≡ place_within owner block cell }
@@ -106,9 +116,15 @@ fn refill_blocks(cells: &mut Cells, blocks: &mut [Block], from: &[Value])
 }
 
 impl OperandTable {
-    ghost use Rattle.std.specs.Prelude.{insert, remove, slice_index_or, slice_set, map, IfOk, IsOk, OnOk, Option};
+    ghost use Rattle.std.specs.Prelude.{insert, remove, slice_index_or, slice_set, map, true, false, ◌&&◌, List, Contains, IfOk, IsOk, OnOk, Option};
+    ghost use Rattle.ir_store.specs.declared.links.Link.{Link};
+    ghost use Rattle.ir_store.specs.declared.operation.UsePlace.{UsePlace};
+    ghost use Rattle.ir_store.specs.Chains.{once_if};
+    ghost use Rattle.ir_store.specs.Links.{is_live_at};
+    ghost use Rattle.ir_store.specs.ChainedValues.{has_value};
+    ghost use Rattle.ir_store.specs.Uses.{IsNamedLive, use_times, use_of, places_of, names_at};
     ghost use Rattle.ir_store.specs.Ids.{put_at, times};
-    ghost use Rattle.ir_store.specs.BodyOps.{replace_value};
+    ghost use Rattle.ir_store.specs.BodyOps.{replace_value, names_in};
 
     /// No lists. It takes no memory.
     pub fn new(alloc: Global) -> OperandTable
@@ -500,15 +516,62 @@ impl OperandTable {
         self.cells.set(start + at, value);
     }
 
-    /// The first cell of the chain of a value's head that has the value.
+    /// The first cell that has a value, in a list or not. Linear in the cells before it in the chain of the value's head.
     pub fn first(&self, value: Value) -> Option<u32>
-        ensures { result ≡ cell_or_none (cells_of value self.now.cells) }
+        ensures first { result ≡ cell_or_none (cells_of value self.now.cells) }
+        ensures each { (cell : ℕ) → times cell (cells_of value self.now.cells) ≡ once_if (has_value value self.now.cells.items cell) }
+        ensures uses { (links : List Link) (p : UsePlace) → use_times p (places_of links self.now.owners self.now.blocks (cells_of value self.now.cells)) ≡ once_if (is_live_at links p.op.index && has_value value (slice_index_or self.now.lists p.op.index []) p.at) }
     {
         self.cells.values.first(value)
     }
 
+    /// The cell after this one that has the same value, where there is one.
+    pub fn next(&self, value: Value, cell: u32) -> Option<u32>
+        requires { Contains (cells_of value self.now.cells) cell }
+        ensures next { (xs ys : List ℕ) → cells_of value self.now.cells ≡ xs ++ cell ∷ ys → result ≡ cell_or_none ys }
+        ensures each { (other : ℕ) → times other (cells_of value self.now.cells) ≡ once_if (has_value value self.now.cells.items other) }
+    {
+        self.cells.values.next(value, cell)
+    }
+
+    /// Whether an operand of a live operation is a result of the operation `op`. Linear in the chain of the head that its
+    /// results have.
+    pub fn is_named(&self, op: OpId, links: &[Link]) -> bool
+        ensures some { result ≡ true → IsNamedLive links.now self.now.lists op.index }
+        ensures none { result ≡ false → (i : ℕ) → is_live_at links.now i ≡ true → names_in op.index (slice_index_or self.now.lists i []) ≡ false }
+    {
+        let mut at = self.cells.values.first_near(Value::Result(op, 0));
+        while let Some(cell) = at {
+            if self.names(cell, op, links) {
+                return true;
+            }
+            at = self.cells.values.next_near(cell);
+        }
+        false
+    }
+
+    /// Whether a cell is an operand of a live operation that is a result of the operation `op`.
+    fn names(&self, cell: u32, op: OpId, links: &[Link]) -> bool
+        ensures { result ≡ names_at links.now self.now.owners self.now.blocks self.now.cells.items op.index cell }
+    {
+        match self.cells.values.as_slice().get(cell as usize) {
+            Some(value) => is_result_of(*value, op) && self.use_of(cell, links).is_some(),
+            None => false,
+        }
+    }
+
+    /// The place of a cell among the operands of a live operation, where it is one of them, in constant time.
+    pub fn use_of(&self, cell: u32, links: &[Link]) -> Option<UsePlace>
+        ensures { result ≡ use_of links.now self.now.owners self.now.blocks cell }
+    {
+        match self.place_of(cell) {
+            Some(place) => if is_live(links, place.op.index) { Some(place) } else { None },
+            None => None,
+        }
+    }
+
     /// The place of a cell in the list that has it, where one has it, in constant time.
-    pub fn place_of(&self, cell: u32) -> Option<UsePlace>
+    fn place_of(&self, cell: u32) -> Option<UsePlace>
         ensures { result ≡ place_in self.now.owners self.now.blocks cell }
     {
         let owner = match self.cells.owners.get(cell as usize) {

@@ -1,38 +1,53 @@
 //! The places where a value of a body is used.
-ghost use Rattle.std.specs.Prelude.{◌≡◌};
-ghost use Rattle.ir_store.specs.Uses.{NextPlace};
+ghost use Rattle.std.specs.Prelude.{◌≡◌, [], slice_index_or};
+ghost use Rattle.ir_store.specs.ChainedValues.{cells_of};
+ghost use Rattle.ir_store.specs.Chains.{times_at};
 
-use crate::body::Ops;
-use crate::operands::{OperandTable, is_same};
+use crate::links::Link;
+use crate::operands::OperandTable;
 use crate::operation::{UsePlace, Value};
 
-/// The places that name a value, in text order.
+/// The places that name a value: a walk along the chain of its cells.
 #[derive(Drop)]
 pub struct Uses<'b> {
     value: Value,
     operands: &'b OperandTable,
-    rest: Ops<'b>,
-    at: usize,
+    links: &'b [Link],
+    at: Option<u32>,
+    ghost here: { times_at at (cells_of value operands.now.cells) ≡ 1 },
 }
 
 impl<'b> Uses<'b> {
-    ghost use Rattle.std.specs.Prelude.{map, []};
-    ghost use Rattle.ir_store.specs.BodyOps.{stored_op};
-    ghost use Rattle.ir_store.specs.declared.operation.OpId.{OpId};
-    ghost use Rattle.ir_store.specs.Bodies.{ids_left};
-    ghost use Rattle.ir_store.specs.Uses.{uses_in};
-    ghost use Rattle.ir_store.specs.UsesLeft.{uses_left};
+    ghost use Rattle.std.specs.Prelude.{◌&&◌, ◌<◌, length, Some};
+    ghost use Rattle.ir_store.specs.declared.operation.UsePlace.{UsePlace};
+    ghost use Rattle.ir_store.specs.Chains.{once_if};
+    ghost use Rattle.ir_store.specs.Links.{is_live_at};
+    ghost use Rattle.ir_store.specs.ChainedValues.{has_value};
+    ghost use Rattle.ir_store.specs.Uses.{use_times, with_use};
+    ghost use Rattle.ir_store.specs.UsesLeft.{uses_left, cells_left};
 
-    /// The places that name `value` among the operands of the operations of `ids`.
-    pub(crate) fn among(value: Value, operands: &'b OperandTable, ids: Ops<'b>) -> Uses<'b>
-        ensures { uses_left result ≡ uses_in value (map (stored_op [] operands.now.lists) (map (λ (i : OpId). i.index) (ids_left ids.entry))) }
+    /// The places that name `value` among the operands of the operations that are live by `links`.
+    pub(crate) fn among(value: Value, operands: &'b OperandTable, links: &'b [Link]) -> Uses<'b>
+        ensures { (p : UsePlace) → use_times p (uses_left result) ≡ once_if (is_live_at links.now p.op.index && has_value value (slice_index_or operands.now.lists p.op.index []) p.at) }
     {
+        let at = operands.first(value);
         Uses {
             value,
             operands,
-            rest: ids,
-            at: 0,
+            links,
+            at,
         }
+    }
+
+    /// Passes the cell that comes next, and gives its place, where it is an operand of a live operation.
+    fn pass(&mut self, cell: u32) -> Option<UsePlace>
+        requires { self.old.at ≡ Some cell }
+        ensures left { uses_left self.old ≡ with_use result (uses_left self.new) }
+        ensures fewer { length (cells_left self.new) < length (cells_left self.old) }
+    {
+        let place = self.operands.use_of(cell, self.links);
+        self.at = self.operands.next(self.value, cell);
+        place
     }
 }
 
@@ -47,27 +62,11 @@ impl<'b> Iterator for Uses<'b> {
     ghost remaining = { item_count uses_left };
 
     fn next(&mut self) -> Option<UsePlace> {
-        while let Some(op) = self.rest.first() {
-            let operands = self.operands.get(op.index as usize);
-            if let Some(at) = next_place(operands, self.value, self.at) {
-                self.at = at + 1;
-                return Some(UsePlace { op, at: at as u32 });
+        while let Some(cell) = self.at {
+            if let Some(place) = self.pass(cell) {
+                return Some(place);
             }
-            self.rest.advance();
-            self.at = 0;
         }
         None
     }
-}
-
-/// The first place from `at` on where an operand is `value`.
-fn next_place(operands: &[Value], value: Value, at: usize) -> Option<usize>
-    ensures { NextPlace value operands.now at result }
-{
-    for k in at..operands.len() {
-        if is_same(value, operands[k]) {
-            return Some(k);
-        }
-    }
-    None
 }

@@ -1,11 +1,30 @@
-use Rattle.std.proofs.Common.{[], map, ◌∙◌}
+use Rattle.std.proofs.Common.{◌≡◌, ◌≤◌, ◌<◌, ℕ, zero, suc, Bool, true, false, map, length, ◌-◌, refl, sym, ◌∙◌, arith}
+use Rattle.std.specs.Prelude.{Contains}
+use Rattle.ir_store.specs.Ids.{times}
+use Rattle.ir_store.specs.Links.{none, walk, is_live_at}
+use Rattle.ir_store.specs.Chains.{once_if}
 use Rattle.ir_store.specs.OperationViews.{parts_of}
 use Rattle.ir_store.specs.Orders.{live_ids}
-use Rattle.ir_store.proofs.BodyLemmas.{index_ids}
-use Rattle.ir_store.proofs.UseLemmas.{uses_in-parts}
+use Rattle.ir_store.proofs.IdLemmas.{times-append, times_contained, contained_times}
+use Rattle.ir_store.proofs.Ordering.{marked_live, live_marked}
+use Rattle.ir_store.proofs.UseCounts.{uses_count}
 use Rattle.ir_store.proofs.body.Body.uses.Goals as goal
+
+-- an id is marked as live where it stands among the live ones, once
+marked_once : (n : ℕ) (b : Bool) → n ≤ 1 → (b ≡ true → 0 < n) → (0 < n → b ≡ true) → n ≡ once_if b
+marked_once zero true most to from = absurd (omega (arith, to refl))
+marked_once zero false most to from = refl
+marked_once (suc n) true most to from = omega (arith, most)
+marked_once (suc n) false most to from = absurd (cc (from (omega arith)))
 
 pub returns : goal.returns
 returns c =
-    (rw (c.along.ensures.ids, index_ids (live_ids c.args.self.now.order)) at c.among.ensures)
-    ∙ uses_in-parts c.args.value [] (map parts_of c.args.self.now.parts.items) c.args.self.now.operands.lists (live_ids c.args.self.now.order)
+    λ p.
+    let order = c.args.self.now.order in
+    let most : times p.op.index (live_ids order) ≤ 1 =
+    omega (arith, times-append p.op.index (live_ids order) (walk order.links.items (length order.links.items - order.live) order.free), order.once p.op.index) in
+    let marked = marked_once (times p.op.index (live_ids order)) (is_live_at order.links.items p.op.index) most
+    (λ t. contained_times (live_ids order) p.op.index (live_marked order.links.items (live_ids order) p.op.index order.marks t))
+    (λ h. marked_live order.links.items none (live_ids order) none p.op.index order.linked (times_contained (live_ids order) p.op.index h)) in
+    rw c.links.ensures at (c.among.ensures p)
+    ∙ sym (uses_count c.args.value p (map parts_of c.args.self.now.parts.items) c.args.self.now.operands.lists (live_ids order) most (is_live_at order.links.items p.op.index) marked)

@@ -1,10 +1,9 @@
 use Rattle.std.proofs.Common.{◌≡◌, length}
-use Rattle.ir_store.specs.Bodies.{ids_left}
-use Rattle.ir_store.specs.UsesLeft.{uses_left}
+use Rattle.ir_store.specs.UsesLeft.{uses_left, cells_left}
 use Rattle.ir_store.proofs.uses.UsesIterator.next.Given as goal
 
-abbrev pub invariant-loop-op : goal.invariant-loop-op
-invariant-loop-op l = uses_left l.fn.self ≡ uses_left l.self
+abbrev pub invariant-loop-self : goal.invariant-loop-self
+invariant-loop-self l = uses_left l.fn.self ≡ uses_left l.self
 
-abbrev pub decreases-loop-op : goal.decreases-loop-op
-decreases-loop-op l = length (ids_left l.self.rest)
+abbrev pub decreases-loop-self : goal.decreases-loop-self
+decreases-loop-self l = length (cells_left l.self)
