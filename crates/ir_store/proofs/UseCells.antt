@@ -1,19 +1,21 @@
 -- The places of cells among the operands of live operations.
-use Rattle.std.proofs.Common.{◌≡◌, ℕ, zero, suc, ◌+◌, ◌-◌, ◌<◌, ◌≤◌, Bool, true, false, cond, nat_eq, List, [], ◌∷◌, length, take, drop, get_or, refl, ap, sym, ◌∙◌, arith}
-use Rattle.std.specs.Prelude.{Option, Some, None, ◌&&◌, nat_le, nat_lt, slice_get}
+use Rattle.std.proofs.Common.{◌≡◌, ℕ, zero, suc, ◌+◌, ◌-◌, ◌<◌, ◌≤◌, Bool, true, false, cond, nat_eq, List, [], ◌∷◌, map, length, take, drop, get_or, refl, ap, sym, ◌∙◌, arith}
+use Rattle.std.specs.Prelude.{Option, Some, None, ◌&&◌, nat_le, nat_lt, is_some, slice_get}
 use Rattle.std.proofs.lemmas.Bool.{eqb-true, eqb-false, le-leb, leb-true, lt-ltb, ltb-true}
 use Rattle.ir_store.specs.declared.links.Link.{Link}
 use Rattle.ir_store.specs.declared.operands.Block.{Block}
 use Rattle.ir_store.specs.declared.operation.UsePlace.{UsePlace}
 use Rattle.ir_store.specs.declared.operation.Value.{Value}
+use Rattle.ir_store.specs.declared.operation.Value.TheVariants.{Undefined}
 use Rattle.ir_store.specs.Ids.{times}
 use Rattle.ir_store.specs.Links.{none, is_live_at}
 use Rattle.ir_store.specs.Chains.{once_if}
 use Rattle.ir_store.specs.Blocks.{AreBlocks, block_at, block_list, lists_in, place_within}
 use Rattle.ir_store.specs.ChainedValues.{is_value, has_value}
-use Rattle.ir_store.specs.Uses.{same_place, use_times, live_use, use_of, with_use, places_of}
+use Rattle.ir_store.specs.Uses.{same_place, use_times, use_some, live_use, use_of, live_cells, with_use, places_of}
 use Rattle.ir_store.proofs.BlockLists.{split, list_at}
 use Rattle.ir_store.proofs.Chaining.{eq_self}
+use Rattle.ir_store.proofs.Seeking.{same_is}
 
 -- ---- what a block has at a place
 
@@ -123,3 +125,23 @@ module _ (links : List Link) (xs : List Value) (os : List ℕ) (bs : List Block)
       tested : (t : Bool) → nat_le b.start c && nat_lt (c - b.start) b.len ≡ t → P
       tested true e = alive e (is_live_at links owner) refl
       tested false e = f (rw e refl)
+
+-- a cell that has a value
+pub value_is : (v : Value) (zs : List Value) (c : ℕ) → has_value v zs c ≡ true → get_or zs c Undefined ≡ v
+value_is v [] c e = absurd (cc e)
+value_is v (z ∷ zs) zero e = sym (same_is v z e)
+value_is v (z ∷ zs) (suc c) e = value_is v zs c e
+
+-- the first of some cells that are uses
+pub live_head : (links : List Link) (os : List ℕ) (bs : List Block) (c : ℕ) (cells : List ℕ) → is_some (use_of links os bs c) ≡ true → live_cells links os bs (c ∷ cells) ≡ c ∷ live_cells links os bs cells
+live_head links os bs c cells e = ap (λ b. cond b (c ∷ live_cells links os bs cells) (live_cells links os bs cells)) e
+
+-- the places of cells are those of the cells that have one
+pub places_are : (links : List Link) (os : List ℕ) (bs : List Block) (cells : List ℕ) → map use_some (places_of links os bs cells) ≡ map (use_of links os bs) (live_cells links os bs cells)
+places_are links os bs [] = refl
+places_are links os bs (c ∷ cells) = go (use_of links os bs c) refl (places_are links os bs cells)
+  where
+    go : (o : Option UsePlace) → use_of links os bs c ≡ o → map use_some (places_of links os bs cells) ≡ map (use_of links os bs) (live_cells links os bs cells) →
+        map use_some (with_use o (places_of links os bs cells)) ≡ map (use_of links os bs) (cond (is_some o) (c ∷ live_cells links os bs cells) (live_cells links os bs cells))
+    go None e r = r
+    go (Some p) e r = ap (λ q. q ∷ map use_some (places_of links os bs cells)) (sym e) ∙ ap (λ qs. use_of links os bs c ∷ qs) r

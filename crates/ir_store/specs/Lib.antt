@@ -15,6 +15,7 @@ pub mod PositionTables
 pub mod Positions
 pub mod ShortLists
 pub mod Symbols
+pub mod UseChains
 pub mod Uses
 pub mod UsesLeft
 pub mod ResultTypes

@@ -1,12 +1,13 @@
 -- The places where a value is used.
-use Rattle.std.specs.Prelude.{◌≡◌, ℕ, suc, Bool, true, false, cond, ◌&&◌, nat_eq, List, [], ◌∷◌, ◌++◌, Option, Some, None, is_some, slice_get, slice_index_or}
+use Rattle.std.specs.Prelude.{◌≡◌, ℕ, suc, Bool, true, false, cond, ◌&&◌, nat_eq, List, [], ◌∷◌, ◌++◌, Option, Some, None, is_some, slice_get, slice_index_or, Contains}
 use Rattle.ir_store.specs.declared.links.Link.{Link}
 use Rattle.ir_store.specs.declared.operands.Block.{Block}
 use Rattle.ir_store.specs.declared.operation.UsePlace.{UsePlace}
 use Rattle.ir_store.specs.declared.operation.Value.{Value}
-use Rattle.ir_store.specs.Ids.{times}
+use Rattle.ir_store.specs.declared.operation.Value.TheVariants.{Undefined}
+use Rattle.ir_store.specs.ChainedValues.{cells_of}
 use Rattle.ir_store.specs.Links.{is_live_at}
-use Rattle.ir_store.specs.Blocks.{place_in}
+use Rattle.ir_store.specs.Blocks.{OperandLists, place_in}
 use Rattle.ir_store.specs.BodyOps.{BodyOp, same_value, is_of, names_in}
 
 -- an operand of an operation, by its id
@@ -46,10 +47,19 @@ abbrev pub with_use : Option UsePlace → List UsePlace → List UsePlace
 with_use None places = places
 with_use (Some p) places = p ∷ places
 
+-- a place that is there
+abbrev pub use_some : UsePlace → Option UsePlace
+use_some p = Some p
+
 -- the places of cells
 abbrev pub places_of : List Link → List ℕ → List Block → List ℕ → List UsePlace
 places_of links owners blocks [] = []
 places_of links owners blocks (c ∷ cells) = with_use (use_of links owners blocks c) (places_of links owners blocks cells)
+
+-- those of some cells that are operands of live operations
+abbrev pub live_cells : List Link → List ℕ → List Block → List ℕ → List ℕ
+live_cells links owners blocks [] = []
+live_cells links owners blocks (c ∷ cells) = cond (is_some (use_of links owners blocks c)) (c ∷ live_cells links owners blocks cells) (live_cells links owners blocks cells)
 
 -- whether a value, where there is one, is a result of the operation of an id
 abbrev pub is_some_of : ℕ → Option Value → Bool
@@ -70,3 +80,9 @@ pub record IsNamedLive (links : List Link) (lists : List (List Value)) (id : ℕ
   pub op : ℕ
   pub live : is_live_at links op ≡ true
   pub named : names_in id (slice_index_or lists op []) ≡ true
+
+-- a cell of a value is an operand of a live operation
+pub record IsUseCell (v : Value) (links : List Link) (t : OperandLists) (cell : ℕ) : Type 0 where
+  pub there : Contains (cells_of v t.cells) cell
+  pub live : is_some (use_of links t.owners t.blocks cell) ≡ true
+  pub value : slice_index_or t.cells.items cell Undefined ≡ v

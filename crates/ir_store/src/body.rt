@@ -7,7 +7,7 @@ ghost use Rattle.ir_store.specs.BodyOps.{place_before};
 use crate::dictionary::Dictionary;
 use crate::links::{Link, next_of};
 use crate::operands::OperandTable;
-use crate::operation::{NewOp, NewResultList, OpId, Parts, TyList, Value, copied_parts};
+use crate::operation::{NewOp, NewResultList, OpId, Parts, TyList, UseId, UsePlace, Value, copied_parts};
 use crate::order::Order;
 use crate::uses::Uses;
 use diag::refusal::Place;
@@ -118,8 +118,8 @@ impl Body {
     ghost use Rattle.ir_store.specs.Bodies.{ids_of, ops_of, gaps, spare_ops, spare_uses, read_op, read_parts, op_id, ids_left};
     ghost use Rattle.ir_store.specs.OperationViews.{parts_of};
     ghost use Rattle.ir_store.specs.Orders.{live_ids};
-    ghost use Rattle.ir_store.specs.declared.operation.UsePlace.{UsePlace};
-    ghost use Rattle.ir_store.specs.Uses.{uses_in, use_times};
+    ghost use Rattle.ir_store.specs.Uses.{uses_in, use_times, use_some};
+    ghost use Rattle.ir_store.specs.UseChains.{IsUse, use_chain, use_left, use_place, used_value, first_use_of};
     ghost use Rattle.ir_store.specs.UsesLeft.{uses_left};
 
     /// The body without operations. It takes no memory.
@@ -203,9 +203,49 @@ impl Body {
 
     /// The places that name `value`, each once, in no promised order. Linear in the chain of the value's head.
     pub fn uses(&self, value: Value) -> Uses<'_>
-        ensures { (p : UsePlace) → use_times p (uses_left result) ≡ use_times p (uses_in value (ops_of self.now)) }
+        ensures uses { (p : UsePlace) → use_times p (uses_left result) ≡ use_times p (uses_in value (ops_of self.now)) }
+        ensures chain { map use_some (uses_left result) ≡ map (λ u. use_place u self.now) (use_chain value self.now) }
     {
         Uses::among(value, &self.operands, self.order.links())
+    }
+
+    /// The first use of `value`, where it has one. The uses from it on, by `next_use`, are all of them, in an order that
+    /// stays until the body changes. Linear in the cells before it in the chain of the value's head.
+    pub fn first_use(&self, value: Value) -> Option<UseId>
+        ensures first { result ≡ first_use_of (use_chain value self.now) }
+        ensures left { use_left value result self.now ≡ use_chain value self.now }
+        ensures is_use { IfSome result (λ u. IsUse u self.now) }
+        ensures value { IfSome result (λ u. used_value u self.now ≡ value) }
+    {
+        match self.operands.first_use(value, self.order.links()) {
+            Some(cell) => Some(UseId { cell }),
+            None => None,
+        }
+    }
+
+    /// The use of the same value after this one, where there is one. Linear in the cells between them in the chain.
+    pub fn next_use(&self, id: UseId) -> Option<UseId>
+        requires { IsUse id self.now }
+        ensures left { use_left (used_value id self.now) (Some id) self.now ≡ id ∷ use_left (used_value id self.now) result self.now }
+        ensures first { result ≡ first_use_of (use_left (used_value id self.now) result self.now) }
+        ensures is_use { IfSome result (λ u. IsUse u self.now) }
+        ensures value { IfSome result (λ u. used_value u self.now ≡ used_value id self.now) }
+    {
+        match self.operands.next_use(id.cell, self.order.links()) {
+            Some(cell) => Some(UseId { cell }),
+            None => None,
+        }
+    }
+
+    /// Where a use is, in constant time.
+    pub fn use_at(&self, id: UseId) -> UsePlace
+        requires { IsUse id self.now }
+        ensures { use_place id self.now ≡ Some result }
+    {
+        match self.operands.use_of(id.cell, self.order.links()) {
+            Some(place) => place,
+            None => unreachable!(),
+        }
     }
 
     /// Puts `op` before the operation `before`, or at the end, and gives its id. On an error the

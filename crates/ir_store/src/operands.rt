@@ -116,13 +116,14 @@ fn refill_blocks(cells: &mut Cells, blocks: &mut [Block], from: &[Value])
 }
 
 impl OperandTable {
-    ghost use Rattle.std.specs.Prelude.{insert, remove, slice_index_or, slice_set, map, true, false, ◌&&◌, List, Contains, IfOk, IsOk, OnOk, Option};
+    ghost use Rattle.std.specs.Prelude.{insert, remove, slice_index_or, slice_set, map, true, false, ◌&&◌, List, Contains, IfOk, IfSome, Some, IsOk, OnOk, Option};
     ghost use Rattle.ir_store.specs.declared.links.Link.{Link};
     ghost use Rattle.ir_store.specs.declared.operation.UsePlace.{UsePlace};
     ghost use Rattle.ir_store.specs.Chains.{once_if};
     ghost use Rattle.ir_store.specs.Links.{is_live_at};
-    ghost use Rattle.ir_store.specs.ChainedValues.{has_value};
-    ghost use Rattle.ir_store.specs.Uses.{IsNamedLive, use_times, use_of, places_of, names_at};
+    ghost use Rattle.ir_store.specs.declared.operation.Value.TheVariants.{Undefined};
+    ghost use Rattle.ir_store.specs.ChainedValues.{has_value, rest_at};
+    ghost use Rattle.ir_store.specs.Uses.{IsNamedLive, IsUseCell, use_times, use_of, places_of, live_cells, names_at};
     ghost use Rattle.ir_store.specs.Ids.{put_at, times};
     ghost use Rattle.ir_store.specs.BodyOps.{replace_value, names_in};
 
@@ -532,6 +533,53 @@ impl OperandTable {
         ensures each { (other : ℕ) → times other (cells_of value self.now.cells) ≡ once_if (has_value value self.now.cells.items other) }
     {
         self.cells.values.next(value, cell)
+    }
+
+    /// The first cell of a value that is an operand of a live operation.
+    pub fn first_use(&self, value: Value, links: &[Link]) -> Option<u32>
+        ensures first { result ≡ cell_or_none (live_cells links.now self.now.owners self.now.blocks (cells_of value self.now.cells)) }
+        ensures left { live_cells links.now self.now.owners self.now.blocks (rest_at result (cells_of value self.now.cells)) ≡ live_cells links.now self.now.owners self.now.blocks (cells_of value self.now.cells) }
+        ensures is_use { IfSome result (λ c. IsUseCell value links.now self.now c) }
+    {
+        self.seek_use(value, self.first(value), links)
+    }
+
+    /// The one after a cell that is an operand of a live operation.
+    pub fn next_use(&self, cell: u32, links: &[Link]) -> Option<u32>
+        requires { IsUseCell (slice_index_or self.now.cells.items cell Undefined) links.now self.now cell }
+        ensures left { live_cells links.now self.now.owners self.now.blocks (rest_at (Some cell) (cells_of (slice_index_or self.now.cells.items cell Undefined) self.now.cells)) ≡ cell ∷ live_cells links.now self.now.owners self.now.blocks (rest_at result (cells_of (slice_index_or self.now.cells.items cell Undefined) self.now.cells)) }
+        ensures first { result ≡ cell_or_none (live_cells links.now self.now.owners self.now.blocks (rest_at result (cells_of (slice_index_or self.now.cells.items cell Undefined) self.now.cells))) }
+        ensures is_use { IfSome result (λ c. IsUseCell (slice_index_or self.now.cells.items cell Undefined) links.now self.now c) }
+    {
+        let value = self.value(cell);
+        self.seek_use(value, self.next(value, cell), links)
+    }
+
+    /// The first cell of a value from one on that is an operand of a live operation.
+    fn seek_use(&self, value: Value, from: Option<u32>, links: &[Link]) -> Option<u32>
+        requires { IfSome from (λ c. Contains (cells_of value self.now.cells) c) }
+        ensures first { result ≡ cell_or_none (live_cells links.now self.now.owners self.now.blocks (rest_at from (cells_of value self.now.cells))) }
+        ensures left { live_cells links.now self.now.owners self.now.blocks (rest_at result (cells_of value self.now.cells)) ≡ live_cells links.now self.now.owners self.now.blocks (rest_at from (cells_of value self.now.cells)) }
+        ensures is_use { IfSome result (λ c. IsUseCell value links.now self.now c) }
+    {
+        let mut at = from;
+        while let Some(cell) = at {
+            if self.use_of(cell, links).is_some() {
+                return Some(cell);
+            }
+            at = self.next(value, cell);
+        }
+        None
+    }
+
+    /// The value of a cell.
+    fn value(&self, cell: u32) -> Value
+        ensures { result ≡ slice_index_or self.now.cells.items cell Undefined }
+    {
+        match self.cells.values.as_slice().get(cell as usize) {
+            Some(value) => *value,
+            None => Value::Undefined,
+        }
     }
 
     /// Whether an operand of a live operation is a result of the operation `op`. Linear in the chain of the head that its

@@ -38,6 +38,12 @@ pub struct UsePlace {
     pub at: u32,
 }
 
+/// A use of a value in a body, until the body changes.
+#[derive(Clone, Copy, Debug, PartialEq, Eq)]
+pub struct UseId {
+    pub(crate) cell: u32,
+}
+
 /// A result of an operation.
 #[derive(Debug, Drop)]
 pub struct NewResult {

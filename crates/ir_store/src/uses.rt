@@ -23,12 +23,13 @@ impl<'b> Uses<'b> {
     ghost use Rattle.ir_store.specs.Chains.{once_if};
     ghost use Rattle.ir_store.specs.Links.{is_live_at};
     ghost use Rattle.ir_store.specs.ChainedValues.{has_value};
-    ghost use Rattle.ir_store.specs.Uses.{use_times, with_use};
+    ghost use Rattle.ir_store.specs.Uses.{use_times, with_use, places_of};
     ghost use Rattle.ir_store.specs.UsesLeft.{uses_left, cells_left};
 
     /// The places that name `value` among the operands of the operations that are live by `links`.
     pub(crate) fn among(value: Value, operands: &'b OperandTable, links: &'b [Link]) -> Uses<'b>
-        ensures { (p : UsePlace) → use_times p (uses_left result) ≡ once_if (is_live_at links.now p.op.index && has_value value (slice_index_or operands.now.lists p.op.index []) p.at) }
+        ensures cells { uses_left result ≡ places_of links.now operands.now.owners operands.now.blocks (cells_of value operands.now.cells) }
+        ensures times { (p : UsePlace) → use_times p (uses_left result) ≡ once_if (is_live_at links.now p.op.index && has_value value (slice_index_or operands.now.lists p.op.index []) p.at) }
     {
         let at = operands.first(value);
         Uses {
