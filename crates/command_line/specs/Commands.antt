@@ -23,13 +23,17 @@ pipeline_rule = record (new_rule (codes "pass-pipeline")) { long = Some (codes "
 abbrev pub passes_rule : Rule
 passes_rule = record (new_rule (codes "passes")) { long = Some (codes "passes") }
 
+-- `--split-input-file`
+abbrev pub split_rule : Rule
+split_rule = record (new_rule (codes "split-input-file")) { long = Some (codes "split-input-file"); action = Some SetTrue }
+
 -- with `[FILE] [-o FILE] [--pass-pipeline=TEXT]`
 abbrev pub with_common : App → App
 with_common a = with_rule (with_rule (with_rule (with_rule a file_rule) output_rule) pipeline_rule) passes_rule
 
--- `opt [FILE] [-o FILE] [--pass-pipeline=TEXT]`
+-- `opt [FILE] [-o FILE] [--pass-pipeline=TEXT] [--split-input-file]`
 abbrev pub opt_app : App
-opt_app = with_common (new_app (codes "opt"))
+opt_app = with_rule (with_common (new_app (codes "opt"))) split_rule
 
 -- `translate [FILE] --export-verilog [-o FILE] [--pass-pipeline=TEXT]`
 abbrev pub translate_app : App

@@ -4,17 +4,18 @@ use Rattle.clap.specs.Words.{Kinds}
 use Rattle.pass_pipeline.specs.declared.pass.Pass.{Pass}
 use Rattle.command_line.specs.Line as line
 use Rattle.command_line.specs.Line.{Command}
-use Rattle.command_line.specs.Line.Work.{mlir, verilog}
+use Rattle.command_line.specs.Line.Work.{mlir, mlir_pieces, verilog}
 use Rattle.command_line.specs.declared.usage.UsageKind.{UsageKind}
 use Rattle.command_line.specs.declared.usage.UsageKind.TheVariants.{Words}
 use Rattle.command_line.specs.declared.invocation.Work.{Work}
-use Rattle.command_line.specs.declared.invocation.Work.TheVariants.{Mlir, Verilog}
+use Rattle.command_line.specs.declared.invocation.Work.TheVariants.{Mlir, MlirPieces, Verilog}
 use Rattle.command_line.specs.declared.invocation.Invocation.{Invocation}
 use Rattle.command_line.specs.declared.invocation.LineFail.{LineFail}
 use Rattle.command_line.specs.declared.invocation.LineFail.TheVariants.{Usage, NoMemory}
 
 abbrev pub work_of : Work → line.Work
 work_of (Mlir passes) = mlir passes
+work_of (MlirPieces passes) = mlir_pieces passes
 work_of (Verilog passes) = verilog passes
 
 abbrev pub command_of : Invocation → Command

@@ -1,5 +1,5 @@
 -- What the words of a command line say.
-use Rattle.std.specs.Prelude.{◌-◌, ◌&&◌, Bool, false, cond, List, [], ◌∷◌, ◌++◌, Option, Some, None, is_some, Result, Ok, Err, codes, unwrap_or}
+use Rattle.std.specs.Prelude.{◌-◌, ◌&&◌, Bool, true, false, cond, List, [], ◌∷◌, ◌++◌, Option, Some, None, is_some, Result, Ok, Err, codes, unwrap_or}
 use Rattle.std.specs.Str.{bytes_eq}
 use Rattle.clap.specs.Words.{Row, Text, Kinds, first_of, fault_of, subcommand_of}
 use Rattle.pass_pipeline.specs.Pipelines.{passes}
@@ -11,9 +11,11 @@ use Rattle.command_line.specs.Commands.{circt_app}
 use Rattle.command_line.specs.declared.usage.UsageKind.{UsageKind}
 use Rattle.command_line.specs.declared.usage.UsageKind.TheVariants.{Words, TwoPipelines, NoTranslation, Pipeline}
 
--- what is made of the inputs: MLIR text, or Verilog, of the design that passes make of the one that is read
+-- what is made of the inputs: MLIR text, or Verilog, of the design that passes make of the one that is read; or MLIR text of the
+-- designs that they make of those of the pieces of an input
 pub data Work : Type 0 where
   mlir : List Pass → Work
+  mlir_pieces : List Pass → Work
   verilog : List Pass → Work
 
 -- a command: the files that it reads, in order, the one that it writes, and its work; `-` is standard input, no file standard output
@@ -84,11 +86,16 @@ abbrev pub on_passes : (List Pass → Work) → Result (List Pass) UsageKind →
 on_passes work (Ok ps) = Ok (work ps)
 on_passes work (Err kind) = Err kind
 
+-- `opt` with `--split-input-file` works on the pieces of the input
+abbrev pub mlir_work : Bool → List Pass → Work
+mlir_work true passes = mlir_pieces passes
+mlir_work false passes = mlir passes
+
 -- the work of a command of this name: passes given in two ways are wrong first, then a missing translation, then a bad pipeline
 abbrev pub work_in : List Pass → Text → List Row → Result Work UsageKind
 work_in offered name rows =
     cond (is_given_twice rows) (Err TwoPipelines)
-    (cond (bytes_eq name (codes "opt")) (on_passes mlir (passes_in offered rows))
+    (cond (bytes_eq name (codes "opt")) (on_passes (mlir_work (is_flagged (codes "split-input-file") rows)) (passes_in offered rows))
     (cond (is_flagged (codes "export-verilog") rows) (on_passes verilog (passes_in offered rows)) (Err NoTranslation)))
 
 -- a work with the files that are named

@@ -1,7 +1,7 @@
 //! The commands and their arguments.
 ghost use Rattle.std.specs.Prelude.{◌≡◌, IfOk, false, codes};
 ghost use Rattle.clap.specs.Words.{App, app_of, new_app, with_rule};
-ghost use Rattle.command_line.specs.Commands.{file_rule, output_rule, pipeline_rule, passes_rule, export_rule, opt_app, translate_app, circt_app, bare};
+ghost use Rattle.command_line.specs.Commands.{file_rule, output_rule, pipeline_rule, passes_rule, export_rule, split_rule, opt_app, translate_app, circt_app, bare};
 ghost use Rattle.command_line.specs.Making.{Grows, GrowsCommon, IsMade};
 
 use clap::{Arg, ArgAction, Command};
@@ -30,7 +30,8 @@ fn bare_command<'a>(alloc: Global) -> Command<'a>
 fn opt_command<'a>(alloc: Global) -> Result<Command<'a>, AllocError>
     ensures { IfOk result (IsMade opt_app) }
 {
-    common(alloc, Command::new(alloc, "opt"))
+    let command = common(alloc, Command::new(alloc, "opt"))?;
+    split(alloc, command)
 }
 
 fn translate_command<'a>(alloc: Global) -> Result<Command<'a>, AllocError>
@@ -76,6 +77,14 @@ fn passes<'a>(alloc: Global, command: Command<'a>) -> Result<Command<'a>, AllocE
     ensures { IfOk result (Grows command.entry passes_rule) }
 {
     command.arg(Arg::new(alloc, "passes").long("passes"))
+}
+
+/// The command with `--split-input-file`.
+fn split<'a>(alloc: Global, command: Command<'a>) -> Result<Command<'a>, AllocError>
+    ensures { IfOk result (Grows command.entry split_rule) }
+{
+    let flag = Arg::new(alloc, "split-input-file").long("split-input-file");
+    command.arg(flag.action(ArgAction::SetTrue))
 }
 
 /// The command with `--export-verilog`.

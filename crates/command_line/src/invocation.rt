@@ -3,8 +3,8 @@ ghost use Rattle.std.specs.Prelude.{◌≡◌, IfOk, map, string_bytes, option_m
 ghost use Rattle.clap.specs.Words.{found_of, rows_of, first_of, fault_of, subcommand_of, subcommand_rows_of, FailsBy};
 ghost use Rattle.pass_pipeline.specs.Pipelines.{passes};
 ghost use Rattle.command_line.specs.Commands.{circt_app};
-ghost use Rattle.command_line.specs.Line.{line, parse, input_in, inputs_in, output_in, items_text, in_items, in_pipeline, in_list, passes_in, is_given_twice, work_in, is_flagged, command_in};
-ghost use Rattle.command_line.specs.Invocations.{command_of, Says, SaysWork, SaysPasses, IsFault};
+ghost use Rattle.command_line.specs.Line.{line, parse, input_in, inputs_in, output_in, items_text, in_items, in_pipeline, in_list, passes_in, is_given_twice, mlir_work, work_in, is_flagged, command_in};
+ghost use Rattle.command_line.specs.Invocations.{command_of, work_of, Says, SaysWork, SaysPasses, IsFault};
 
 use crate::commands::circt_command;
 use crate::normalise::{WordsFail, normalise};
@@ -20,6 +20,8 @@ use std::alloc::{AllocError, Global};
 pub enum Work {
     /// MLIR text of the design that these passes make.
     Mlir(Pipeline),
+    /// MLIR text of the designs that these passes make of those of the pieces of an input.
+    MlirPieces(Pipeline),
     /// Verilog of the design that these passes make.
     Verilog(Pipeline),
 }
@@ -128,12 +130,24 @@ fn work_in(
         return Err(LineFail::Usage(UsageKind::TwoPipelines));
     }
     if name == "opt" {
-        return Ok(Work::Mlir(passes_in(alloc, matches, offered)?));
+        let passes = passes_in(alloc, matches, offered)?;
+        return Ok(mlir_work(is_flagged(matches, "split-input-file"), passes));
     }
     if is_flagged(matches, "export-verilog") {
         return Ok(Work::Verilog(passes_in(alloc, matches, offered)?));
     }
     Err(LineFail::Usage(UsageKind::NoTranslation))
+}
+
+/// The work of `opt`, on the pieces of the input or on the whole.
+fn mlir_work(splits: bool, passes: Pipeline) -> Work
+    ensures { work_of result ≡ mlir_work splits passes }
+{
+    if splits {
+        Work::MlirPieces(passes)
+    } else {
+        Work::Mlir(passes)
+    }
 }
 
 /// Whether passes are given both by flags and by a pipeline.

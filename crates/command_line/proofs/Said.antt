@@ -1,0 +1,32 @@
+-- What regular words say, by what `clap` finds in them.
+use Rattle.std.proofs.Common.{◌≡◌, List, [], Option, Some, None, Result, subst, sym, refl, option_map}
+use Rattle.clap.specs.Words.{Kinds, Row, Text}
+use Rattle.pass_pipeline.specs.declared.pass.Pass.{Pass}
+use Rattle.command_line.specs.Line.{parse, require_subcommand, command_in, unless_faulty}
+use Rattle.command_line.specs.Commands.{circt_app}
+use Rattle.clap.specs.Words.{fault_of, subcommand_of}
+use Rattle.command_line.specs.Invocations.{Says}
+use Rattle.command_line.specs.declared.invocation.Invocation.{Invocation}
+use Rattle.command_line.specs.declared.invocation.LineFail.{LineFail}
+
+-- a subcommand has the name and the rows that are told of it
+pub pair_found : {A B C : Type 0} (f : C → A) (g : C → B) (o : Option C) (a : A) (b : B)
+    → Some a ≡ option_map f o → Some b ≡ option_map (λ (p : A × B). p.1) (option_map {T = C} {U = A × B} (λ c. (f c, g c)) o)
+    → ◌≡◌ {A = Option (A × B)} (option_map (λ c. (f c, g c)) o) (Some (a, b))
+pair_found f g None a b h k = cc
+pair_found f g (Some c) a b h k =
+    let first : f c ≡ a = let e : Some a ≡ Some (f c) = h in cc in
+    let second : g c ≡ b = let e : Some b ≡ Some (g c) = k in cc in
+    rw (first, second) refl
+
+-- words without faults say what the subcommand that is found says
+said_by : (offered : List Pass) (kinds : Kinds) (found : Option (Text × List Row)) (name : Text) (rows : List Row) (r : Result Invocation LineFail)
+    → kinds ≡ [] → found ≡ Some (name, rows) → Says (command_in offered name rows) r → Says (unless_faulty kinds (require_subcommand offered found)) r
+said_by offered kinds found name rows r faultless is h =
+    subst (λ ks. Says (unless_faulty ks (require_subcommand offered found)) r) (sym faultless)
+    (subst (λ f. Says (require_subcommand offered f) r) (sym is) h)
+
+pub said_by_found : (offered : List Pass) (words : List Text) (name : Text) (rows : List Row) (r : Result Invocation LineFail)
+    → fault_of circt_app words ≡ [] → subcommand_of circt_app words ≡ Some (name, rows) → Says (command_in offered name rows) r → Says (parse offered words) r
+unfolding parse
+said_by_found offered words name rows r faultless is h = said_by offered (fault_of circt_app words) (subcommand_of circt_app words) name rows r faultless is h

@@ -1,0 +1,10 @@
+use Rattle.std.proofs.Common.{◌≡◌, Some, map, string_bytes, sym, ◌∙◌}
+use Rattle.std.specs.Prelude.{box_value}
+use Rattle.clap.specs.Words.{found_of, rows_of}
+use Rattle.command_line.proofs.Said.{pair_found, said_by_found}
+use Rattle.command_line.proofs.invocation.read_line.Goals as goal
+
+pub returns-in-Some : goal.returns-in-Some
+returns-in-Some c =
+    said_by_found c.args.offered.now (map string_bytes c.args.words.now) c.in-Some.name.now (rows_of (found_of c.in-Some.rows.now)) c.command_in.result
+    c.in_ok-matches.ensures.ok.0 (sym c.in_ok-matches.ensures.ok.1 ∙ pair_found _ _ _ c.in-Some.name.now (rows_of (found_of c.in-Some.rows.now)) c.in-Some.ensures.name c.in-Some.ensures.rows) c.command_in.ensures
