@@ -51,6 +51,12 @@ fn words_are_a_command_or_wrong(rt: HostRuntime) -> Result<(), Fail> {
         ("--version", Some(UsageKind::Words)),
         ("help", Some(UsageKind::Words)),
         ("opt help", None),
+        ("opt --split-input-file a.mlir -o b", None),
+        ("opt --split-input-file=x", Some(UsageKind::Words)),
+        (
+            "translate --export-verilog --split-input-file",
+            Some(UsageKind::Words),
+        ),
         ("translate", Some(UsageKind::NoTranslation)),
         ("translate x.mlir", Some(UsageKind::NoTranslation)),
         ("translate --export-verilog=x", Some(UsageKind::Words)),
@@ -164,7 +170,9 @@ fn passes_are_read_or_wrong(rt: HostRuntime) -> Result<(), Fail> {
 // Whether a work is on these passes.
 fn is_on(work: &Work, passes: &[Pass]) -> bool {
     match work {
-        Work::Mlir(given) | Work::Verilog(given) => given.as_slice() == passes,
+        Work::Mlir(given) | Work::MlirPieces(given) | Work::Verilog(given) => {
+            given.as_slice() == passes
+        }
     }
 }
 
@@ -192,11 +200,43 @@ fn passes_are_in_order(rt: HostRuntime) -> Result<(), Fail> {
             [Pass::Cse, Pass::Cse].as_slice(),
         ),
         (
+            "opt --split-input-file --passes=cse",
+            [Pass::Cse].as_slice(),
+        ),
+        (
             "opt --pass-pipeline=builtin.module(hw.module(cse),symbol-dce)",
             [Pass::Cse, Pass::SymbolDce].as_slice(),
         ),
     ] {
         assert!(rt; has_passes(alloc, line, passes)?, "of {line}");
+    }
+    Ok(())
+}
+
+// Whether the words of a line ask for work on the pieces of the input.
+fn splits(alloc: Global, line: &str) -> Result<bool, AllocError> {
+    let words = words_of(alloc, line)?;
+    match read_line(alloc, words.as_slice(), &ALL) {
+        Ok(invocation) => match invocation.work {
+            Work::MlirPieces(_) => Ok(true),
+            Work::Mlir(_) | Work::Verilog(_) => Ok(false),
+        },
+        Err(LineFail::Usage(_)) => Ok(false),
+        Err(LineFail::NoMemory) => Err(AllocError),
+    }
+}
+
+#[test]
+fn the_flag_asks_for_pieces(rt: HostRuntime) -> Result<(), Fail> {
+    let alloc = rt.alloc();
+    for (line, wanted) in [
+        ("opt --split-input-file", true),
+        ("opt a -o b --split-input-file", true),
+        ("opt", false),
+        ("opt -- --split-input-file", false),
+        ("translate --export-verilog", false),
+    ] {
+        assert_eq!(rt; splits(alloc, line)?, wanted, "of {line}");
     }
     Ok(())
 }
@@ -213,7 +253,7 @@ fn is_command(
     match read_line(alloc, words.as_slice(), &[]) {
         Ok(invocation) => {
             let is_work = match invocation.work {
-                Work::Mlir(_) => !translates,
+                Work::Mlir(_) | Work::MlirPieces(_) => !translates,
                 Work::Verilog(_) => translates,
             };
             let names = invocation.inputs.as_slice();

@@ -9,13 +9,14 @@ use Rattle.diag.specs.declared.refusal.OpName.TheVariants as op
 use Rattle.diag.specs.declared.cause.Cause.TheVariants.{TooLong}
 use Rattle.diag.specs.declared.refusal.Refusal.{Refusal}
 use Rattle.command_line.specs.Line.{Command, Work}
-use Rattle.command_line.specs.Line.Work.{mlir, verilog}
+use Rattle.command_line.specs.Line.Work.{mlir, mlir_pieces, verilog}
 use Rattle.mlir_syntax.specs.Stream.{stream_of, refusal}
 use Rattle.mlir_operations.specs.ModuleText.{file_text}
 use Rattle.mlir_reader.specs.Reading.{text_limit, read, design_read}
 use Rattle.pass_pipeline.specs.declared.pass.Pass.{Pass}
 use Rattle.circt_top.specs.Accepting.{Accepted, IsRefused, IsRefusedIn, first_input, unread, unaccepted}
 use Rattle.circt_top.specs.Reprint.{IsReprint}
+use Rattle.circt_top.specs.PieceReprint.{IsReprintOfPieces, IsRefusedInPieces}
 use Rattle.circt_top.specs.Translation.{IsTranslation, IsUnexported}
 use Rattle.circt_top.specs.Outcome.{Verdict, Answer, IsAnswer}
 use Rattle.circt_top.specs.Outcome.Verdict.{given}
@@ -120,28 +121,43 @@ unexported_whole : (passes : List Pass) (bytes source : List ℕ) (r : Refusal) 
 unexported_whole passes bytes source r same is =
     record { design = is.design; accepted = accepted_whole bytes source is.design same is.accepted; missing = is.missing }
 
+-- pieces of a front that is not too long are those of the whole
+pieces_whole : (passes : List Pass) (bytes source text : List ℕ) → source ≡ take read_limit bytes → IsReprintOfPieces passes source text → IsReprintOfPieces passes bytes text
+pieces_whole passes bytes source text front is = subst (λ s. IsReprintOfPieces passes s text) (whole_read bytes source front is.short) is
+
+refused_pieces_whole : (bytes source : List ℕ) (r : Refusal) → source ≡ take read_limit bytes → IsRefusedInPieces source r → IsRefusedInPieces bytes r
+refused_pieces_whole bytes source r front (inl is) = inl (long_read bytes source front is.0, is.1)
+refused_pieces_whole bytes source r front (inr is) = subst (λ s. IsRefusedInPieces s r) (whole_read bytes source front is.0) (inr is)
+
 -- what is answered for fronts is answered for the whole
-answer_whole : (work : Work) (contents sources : List (List ℕ)) (x : Answer) → read (first_input sources) ≡ read (first_input contents) → IsAnswer work sources x → IsAnswer work contents x
-answer_whole (mlir passes) contents sources (prints given text) same is = reprint_whole passes (first_input contents) (first_input sources) text same is
-answer_whole (mlir passes) contents sources (refuses r) same is = refused_in_again 0 (first_input contents) (first_input sources) r same is
-answer_whole (verilog passes) contents sources (prints given text) same is = translation_whole passes (first_input contents) (first_input sources) text same is
-answer_whole (verilog passes) contents sources (refuses r) same (inl is) = inl (refused_in_again 0 (first_input contents) (first_input sources) r same is)
-answer_whole (verilog passes) contents sources (refuses r) same (inr is) = inr (unexported_whole passes (first_input contents) (first_input sources) r same is)
+answer_whole : (work : Work) (contents sources : List (List ℕ)) (x : Answer) → first_input sources ≡ take read_limit (first_input contents) → IsAnswer work sources x → IsAnswer work contents x
+answer_whole (mlir passes) contents sources (prints given text) front is =
+    reprint_whole passes (first_input contents) (first_input sources) text (read_whole (first_input contents) (first_input sources) front) is
+answer_whole (mlir passes) contents sources (refuses r) front is =
+    refused_in_again 0 (first_input contents) (first_input sources) r (read_whole (first_input contents) (first_input sources) front) is
+answer_whole (mlir_pieces passes) contents sources (prints given text) front is = pieces_whole passes (first_input contents) (first_input sources) text front is
+answer_whole (mlir_pieces passes) contents sources (refuses r) front is = refused_pieces_whole (first_input contents) (first_input sources) r front is
+answer_whole (verilog passes) contents sources (prints given text) front is =
+    translation_whole passes (first_input contents) (first_input sources) text (read_whole (first_input contents) (first_input sources) front) is
+answer_whole (verilog passes) contents sources (refuses r) front (inl is) =
+    inl (refused_in_again 0 (first_input contents) (first_input sources) r (read_whole (first_input contents) (first_input sources) front) is)
+answer_whole (verilog passes) contents sources (refuses r) front (inr is) =
+    inr (unexported_whole passes (first_input contents) (first_input sources) r (read_whole (first_input contents) (first_input sources) front) is)
 
 first_front : (contents : List (List ℕ)) → first_input (fronts contents) ≡ take read_limit (first_input contents)
 first_front [] = refl
 first_front (bytes ∷ contents) = refl
 
-inputs_whole : (contents sources : List (List ℕ)) → sources ≡ fronts contents → read (first_input sources) ≡ read (first_input contents)
-inputs_whole contents sources e = read_whole (first_input contents) (first_input sources) (ap first_input e ∙ first_front contents)
+inputs_front : (contents sources : List (List ℕ)) → sources ≡ fronts contents → first_input sources ≡ take read_limit (first_input contents)
+inputs_front contents sources e = ap first_input e ∙ first_front contents
 
 -- what is refused of what was read is refused of the told files
 pub refused_whole : (c : Command) (told : Told) (sources : List (List ℕ)) (r : Refusal) → AreReads told c.inputs sources → IsAnswer c.work sources (refuses r) → IsRefusalOf c told r
 refused_whole c told sources r read is =
-    λ contents h. answer_whole c.work contents sources (refuses r) (inputs_whole contents sources (fronts_read told c.inputs sources contents read h)) is
+    λ contents h. answer_whole c.work contents sources (refuses r) (inputs_front contents sources (fronts_read told c.inputs sources contents read h)) is
 
 -- what is made of what was read is made of the told files
 pub made_whole : (c : Command) (told : Told) (sources : List (List ℕ)) (verdict : Verdict) (text : List ℕ) → AreReads told c.inputs sources → IsAnswer c.work sources (prints verdict text)
     → IsMadeOf c told verdict text
 made_whole c told sources verdict text read is =
-    λ contents h. answer_whole c.work contents sources (prints verdict text) (inputs_whole contents sources (fronts_read told c.inputs sources contents read h)) is
+    λ contents h. answer_whole c.work contents sources (prints verdict text) (inputs_front contents sources (fronts_read told c.inputs sources contents read h)) is

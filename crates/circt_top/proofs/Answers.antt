@@ -1,15 +1,18 @@
 -- A text is answered exactly where it is not refused.
-use Rattle.std.proofs.Common.{◌≡◌, ℕ, inl, inr, List, Some, None, Ok, Err, sym, ◌∙◌, ap, subst, false, true, is_some}
+use Rattle.std.proofs.Common.{◌≡◌, ℕ, inl, inr, List, [], ◌∷◌, arith, Some, None, Ok, Err, sym, ◌∙◌, ap, subst, false, true, is_some}
 use Rattle.diag.specs.declared.refusal.Refusal.{Refusal}
 use Rattle.hw_model.specs.Design.{Design}
 use Rattle.command_line.specs.Line.{Work}
-use Rattle.command_line.specs.Line.Work.{mlir, verilog}
+use Rattle.command_line.specs.Line.Work.{mlir, mlir_pieces, verilog}
 use Rattle.pass_manager.specs.Results.{result}
 use Rattle.mlir_reader.specs.Reading.{read}
 use Rattle.op_verifier.specs.Faults.{first_fault}
 use Rattle.op_verifier.specs.Verdict.{IsAccepted, IsRefusal, unfit, recursive, too_large, cyclic}
 use Rattle.circt_top.specs.Accepting.{Accepted, IsRefused, IsRefusedIn, first_input, unread, unaccepted}
 use Rattle.export_verilog.specs.Aggregates.{first_aggregate}
+use Rattle.pass_pipeline.specs.declared.pass.Pass.{Pass}
+use Rattle.circt_top.specs.Pieces.{Piece, pieces_of}
+use Rattle.circt_top.specs.PieceReprint.{AreReprints, IsFirstRefused, IsRefusedInPieces, AreAccepted, IsAcceptedInPieces}
 use Rattle.circt_top.specs.Outcome.{Verdict, IsAnswer, IsAnswered}
 use Rattle.circt_top.specs.Outcome.Verdict.{given}
 use Rattle.circt_top.specs.Outcome.Answer.{prints, refuses}
@@ -32,16 +35,36 @@ unrefused bytes d r a (unaccepted e x h refused) = not_both e x (subst IsAccepte
 unrefused_in : (number : ℕ) (bytes : List ℕ) (d : Design) (r : Refusal) → Accepted bytes d → IsRefusedIn number bytes r → ⊥
 unrefused_in number bytes d r a is = unrefused bytes d is.refusal a is.refused
 
+-- of pieces that are accepted none is refused
+none_refused : (ps : List Piece) (r : Refusal) → AreAccepted ps → IsFirstRefused ps r → ⊥
+none_refused [] r a is = is
+none_refused (p ∷ ps) r a (inl is) = unrefused p.bytes a.0.0 is.refusal a.0.1 is.refused
+none_refused (p ∷ ps) r a (inr is) = none_refused ps r a.1 is.1
+
+pieces_unrefused : (bytes : List ℕ) (r : Refusal) → IsAcceptedInPieces bytes → IsRefusedInPieces bytes r → ⊥
+pieces_unrefused bytes r a (inl is) = absurd (omega (arith, is.0, a.short))
+pieces_unrefused bytes r a (inr is) = none_refused (pieces_of bytes) r a.each is.1
+
+-- pieces that are printed are accepted
+pub printed_accepted : (passes : List Pass) (ps : List Piece) (texts : List (List ℕ)) → AreReprints passes ps texts → AreAccepted ps
+printed_accepted passes [] [] h = tt
+printed_accepted passes [] (text ∷ texts) h = absurd h
+printed_accepted passes (p ∷ ps) [] h = absurd h
+printed_accepted passes (p ∷ ps) (text ∷ texts) h = ((h.0.design, h.0.accepted), printed_accepted passes ps texts h.1)
+
 -- what is answered is not refused
 pub answered_unrefused : (work : Work) (contents : List (List ℕ)) (r : Refusal) → IsAnswered work contents → IsAnswer work contents (refuses r) → ⊥
-answered_unrefused (mlir passes) contents r a is = unrefused_in 0 (first_input contents) a.design r a.accepted is
-answered_unrefused (verilog passes) contents r a (inl is) = unrefused_in 0 (first_input contents) a.design r a.accepted is
+answered_unrefused (mlir passes) contents r a is = unrefused_in 0 (first_input contents) a.0 r a.1 is
+answered_unrefused (mlir_pieces passes) contents r a is = pieces_unrefused (first_input contents) r a is
+answered_unrefused (verilog passes) contents r a (inl is) = unrefused_in 0 (first_input contents) a.0 r a.1 is
 answered_unrefused (verilog passes) contents r a (inr is) =
-    let same : a.design ≡ is.design = one_design (first_input contents) a.design is.design a.accepted.says is.accepted.says in
-    let e : first_aggregate (result passes a.design) ≡ Some r = ap (λ d. first_aggregate (result passes d)) same ∙ is.missing in
-    let f : None ≡ Some r = sym a.takes ∙ e in cc
+    let same : a.0 ≡ is.design = one_design (first_input contents) a.0 is.design a.1.says is.accepted.says in
+    let e : first_aggregate (result passes a.0) ≡ Some r = ap (λ d. first_aggregate (result passes d)) same ∙ is.missing in
+    let f : None ≡ Some r = sym a.2 ∙ e in cc
 
 -- what gives a text is answered
 pub made_answered : (work : Work) (contents : List (List ℕ)) (verdict : Verdict) (text : List ℕ) → IsAnswer work contents (prints verdict text) → IsAnswered work contents
-made_answered (mlir passes) contents given text is = record { design = is.design; accepted = is.accepted; takes = tt }
-made_answered (verilog passes) contents given text is = record { design = is.design; accepted = is.accepted; takes = is.exported }
+made_answered (mlir passes) contents given text is = (is.design, is.accepted)
+made_answered (mlir_pieces passes) contents given text is =
+    record { short = is.short; each = printed_accepted passes (pieces_of (first_input contents)) is.printed.texts is.printed.each }
+made_answered (verilog passes) contents given text is = (is.design, is.accepted, is.exported)

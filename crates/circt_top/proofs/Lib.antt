@@ -7,3 +7,5 @@ mod Subjects
 pub mod Answers
 pub mod Within
 pub mod Outcomes
+pub mod Cuts
+pub mod PieceTexts

@@ -6,7 +6,6 @@ use Rattle.hw_model.specs.Hierarchy.{HasNoRecursion}
 use Rattle.hw_model.specs.Machine.{Same}
 use Rattle.hw_model.specs.Meaning.{machine, HasNoCycle, HasHeights}
 use Rattle.hw_model.specs.Types.{Name}
-use Rattle.command_line.specs.Line.{Work}
 use Rattle.command_line.specs.Line.Work.{mlir, verilog}
 use Rattle.pass_pipeline.specs.declared.pass.Pass.{Pass}
 use Rattle.pass_manager.specs.Results.{result}
@@ -119,10 +118,18 @@ translated laws designs passes contents d (Err NoMemory) accepted room h = tt
 refused_in : (r : Refusal) (bytes : List ℕ) → IsRefused bytes r → IsRefusedIn 0 bytes (in_file 0 r)
 refused_in r bytes h = record { refusal = r; refused = h; numbered = refl }
 
-pub refused_gives : (work : Work) (contents : List (List ℕ)) (fail : OutcomeFail) → IsTaken (first_input contents) (Err fail) → Gives work contents (Err (fail_in_file 0 fail))
-refused_gives (mlir passes) contents (Refused r) h = refused_in r (first_input contents) h
-refused_gives (verilog passes) contents (Refused r) h = inl (refused_in r (first_input contents) h)
-refused_gives work contents NoMemory h = tt
+pub unprinted_gives : (passes : List Pass) (contents : List (List ℕ)) (fail : OutcomeFail) → IsTaken (first_input contents) (Err fail) → Gives (mlir passes) contents (Err (fail_in_file 0 fail))
+unprinted_gives passes contents (Refused r) h = refused_in r (first_input contents) h
+unprinted_gives passes contents NoMemory h = tt
+
+pub untranslated_gives : (passes : List Pass) (contents : List (List ℕ)) (fail : OutcomeFail) → IsTaken (first_input contents) (Err fail) → Gives (verilog passes) contents (Err (fail_in_file 0 fail))
+untranslated_gives passes contents (Refused r) h = inl (refused_in r (first_input contents) h)
+untranslated_gives passes contents NoMemory h = tt
+
+-- what is printed is given
+pub printed_gives : (passes : List Pass) (contents : List (List ℕ)) (r : Result (List ℕ) OutcomeFail) → IfOk r (IsReprint passes (first_input contents)) → IfErr r (λ fail. fail ≡ NoMemory) → Gives (mlir passes) contents r
+printed_gives passes contents (Ok text) h none = h
+printed_gives passes contents (Err fail) h none = subst (λ f. Gives (mlir passes) contents (Err f)) (sym none) tt
 
 -- what is not read is refused, and what is not verified
 pub unread_taken : (source : List ℕ) (fail : ReadFail) → ReadsDesign (Err fail) (read source) → IsTaken source (Err (read_failure fail))

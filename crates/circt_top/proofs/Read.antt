@@ -29,7 +29,7 @@ pub risen_later : (before between after : ℕ) → before ≤ between → HasRis
 risen_later before between after kept risen = omega (arith, kept, risen)
 
 -- the names of the first files and one more
-pub names_more : {A : Type 0} (f : A → Name) (xs : List A) (i : ℕ) (x : A) → i < length xs → x ≡ get_or xs i x → map f (take (i + 1) xs) ≡ map f (take i xs) ++ f x ∷ []
+pub names_more : {A B : Type 0} (f : A → B) (xs : List A) (i : ℕ) (x : A) → i < length xs → x ≡ get_or xs i x → map f (take (i + 1) xs) ≡ map f (take i xs) ++ f x ∷ []
 names_more f xs i x within is =
     let on : i + 1 ≡ suc i = omega arith in
     let one : take (i + 1) xs ≡ take i xs ++ x ∷ [] = ap (λ n. take n xs) on ∙ take-suc xs i x within ∙ ap (λ z. take i xs ++ z ∷ []) (sym is) in

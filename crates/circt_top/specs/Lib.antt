@@ -10,5 +10,8 @@ pub mod Delivery
 pub mod Accepting
 pub mod Exports
 pub mod Reprint
+pub mod Pieces
+pub mod PieceReprint
+pub mod PieceViews
 pub mod Outcomes
 pub mod Views

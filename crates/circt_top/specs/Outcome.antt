@@ -3,11 +3,13 @@ use Rattle.std.specs.Prelude.{ℕ, ◌⊎◌, List, Result, Ok, Err}
 use Rattle.hw_model.specs.Design.{Design}
 use Rattle.diag.specs.declared.refusal.Refusal.{Refusal}
 use Rattle.command_line.specs.Line.{Work}
-use Rattle.command_line.specs.Line.Work.{mlir, verilog}
+use Rattle.command_line.specs.Line.Work.{mlir, mlir_pieces, verilog}
 use Rattle.export_verilog.specs.Aggregates.{HasNoAggregates}
+use Rattle.pass_pipeline.specs.declared.pass.Pass.{Pass}
 use Rattle.pass_manager.specs.Results.{result}
 use Rattle.circt_top.specs.Accepting.{Accepted, IsRefusedIn, first_input}
 use Rattle.circt_top.specs.Reprint.{IsReprint}
+use Rattle.circt_top.specs.PieceReprint.{IsReprintOfPieces, IsRefusedInPieces, IsAcceptedInPieces}
 use Rattle.circt_top.specs.Translation.{IsTranslation, IsUnexported}
 use Rattle.circt_top.specs.declared.outcome.OutcomeFail.{OutcomeFail}
 use Rattle.circt_top.specs.declared.outcome.OutcomeFail.TheVariants.{Refused, NoMemory}
@@ -25,19 +27,24 @@ pub data Answer : Type 0 where
 abbrev pub IsAnswer : Work → List (List ℕ) → Answer → Type 0
 IsAnswer (mlir passes) contents (prints given text) = IsReprint passes (first_input contents) text
 IsAnswer (mlir passes) contents (refuses r) = IsRefusedIn 0 (first_input contents) r
+IsAnswer (mlir_pieces passes) contents (prints given text) = IsReprintOfPieces passes (first_input contents) text
+IsAnswer (mlir_pieces passes) contents (refuses r) = IsRefusedInPieces (first_input contents) r
 IsAnswer (verilog passes) contents (prints given text) = IsTranslation passes (first_input contents) text
 IsAnswer (verilog passes) contents (refuses r) = IsRefusedIn 0 (first_input contents) r ⊎ IsUnexported passes (first_input contents) r
 
--- a work takes this design
-abbrev pub Takes : Work → Design → Type 0
-Takes (mlir passes) d = Unit {0}
-Takes (verilog passes) d = HasNoAggregates (result passes d)
+-- bytes are accepted
+abbrev pub IsAcceptedText : List ℕ → Type 0
+IsAcceptedText bytes = (d : Design) × Accepted bytes d
 
--- the contents are accepted, as a design that the work takes
-pub record IsAnswered (work : Work) (contents : List (List ℕ)) : Type 0 where
-  pub design : Design
-  pub accepted : Accepted (first_input contents) design
-  pub takes : Takes work design
+-- bytes are accepted, and passes make a design of theirs that has no aggregates
+abbrev pub IsExportedText : List Pass → List ℕ → Type 0
+IsExportedText passes bytes = (d : Design) × Accepted bytes d × HasNoAggregates (result passes d)
+
+-- the contents are accepted, as what the work takes
+abbrev pub IsAnswered : Work → List (List ℕ) → Type 0
+IsAnswered (mlir passes) contents = IsAcceptedText (first_input contents)
+IsAnswered (mlir_pieces passes) contents = IsAcceptedInPieces (first_input contents)
+IsAnswered (verilog passes) contents = IsExportedText passes (first_input contents)
 
 -- what is given is the answer, or out of memory
 abbrev pub Gives : Work → List (List ℕ) → Result (List ℕ) OutcomeFail → Type 0

@@ -2,7 +2,10 @@
 use Rattle.std.specs.Prelude.{ℕ, List, Result, Ok, Err}
 use Rattle.ir_store.specs.Designs.{design_of}
 use Rattle.op_verifier.specs.declared.accepted.Verified.{Verified}
+use Rattle.pass_pipeline.specs.declared.pass.Pass.{Pass}
 use Rattle.circt_top.specs.Accepting.{Accepted, IsRefused, in_file}
+use Rattle.circt_top.specs.Pieces.{Piece, in_whole}
+use Rattle.circt_top.specs.PieceReprint.{ArePrinted, IsPieceRefused, IsFirstRefused}
 use Rattle.mlir_syntax.specs.declared.fail.ReadFail.{ReadFail}
 use Rattle.mlir_syntax.specs.declared.fail.ReadFail.TheVariants as read
 use Rattle.op_verifier.specs.declared.verify_fail.VerifyFail.{VerifyFail}
@@ -24,6 +27,22 @@ read_failure read.NoMemory = NoMemory
 abbrev pub verify_failure : VerifyFail → OutcomeFail
 verify_failure (verify.Refused r) = Refused r
 verify_failure verify.NoMemory = NoMemory
+
+-- the same of a piece, as one of the whole text
+abbrev pub fail_in_whole : Piece → OutcomeFail → OutcomeFail
+fail_in_whole p (Refused r) = Refused (in_whole p r)
+fail_in_whole p NoMemory = NoMemory
+
+-- the piece is refused so, or memory was wanting
+abbrev pub IsFailOfPiece : Piece → OutcomeFail → Type 0
+IsFailOfPiece p (Refused r) = IsPieceRefused p r
+IsFailOfPiece p NoMemory = Unit {0}
+
+-- the texts of pieces, joined, or the first refusal
+abbrev pub GivesPieces : List Pass → List Piece → Result (List ℕ) OutcomeFail → Type 0
+GivesPieces passes ps (Ok text) = ArePrinted passes ps text
+GivesPieces passes ps (Err (Refused r)) = IsFirstRefused ps r
+GivesPieces passes ps (Err NoMemory) = Unit {0}
 
 -- the same of the input of this number
 abbrev pub fail_in_file : ℕ → OutcomeFail → OutcomeFail

@@ -6,6 +6,7 @@
 mod delivery;
 mod inputs;
 mod outcome;
+mod pieces;
 mod report;
 pub mod run;
 pub mod status;

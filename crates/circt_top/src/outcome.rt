@@ -1,18 +1,25 @@
 //! What is made of the texts of the inputs.
-ghost use Rattle.std.specs.Prelude.{◌≡◌, ℕ, List, IfOk};
+ghost use Rattle.std.specs.Prelude.{◌≡◌, ℕ, List, ◌++◌, codes, map, IfOk, IfErr, OnOk};
 ghost use Rattle.ir_store.specs.Designs.{design_of};
 ghost use Rattle.command_line.specs.Invocations.{work_of};
-ghost use Rattle.command_line.specs.Line.Work.{verilog};
+ghost use Rattle.command_line.specs.Line.Work.{mlir, mlir_pieces, verilog};
 ghost use Rattle.canonical_form.specs.Bytes.{AreBytes};
 ghost use Rattle.pass_pipeline.specs.declared.pass.Pass.{Pass};
 ghost use Rattle.circt_top.specs.Accepting.{Accepted, first_input};
 ghost use Rattle.circt_top.specs.Reprint.{IsReprint};
 ghost use Rattle.circt_top.specs.Exports.{Exports};
 ghost use Rattle.circt_top.specs.Outcome.{Gives};
-ghost use Rattle.circt_top.specs.Outcomes.{IsTaken, read_failure, verify_failure, fail_in_file};
+ghost use Rattle.circt_top.specs.Outcomes.{IsTaken, read_failure, verify_failure, fail_in_file, fail_in_whole, IsFailOfPiece, GivesPieces};
+ghost use Rattle.circt_top.specs.PieceViews.{piece_of};
+ghost use Rattle.diag.specs.Place.{start_place};
+ghost use Rattle.diag.specs.declared.refusal.OpName.TheVariants as op;
+ghost use Rattle.diag.specs.declared.cause.Cause.TheVariants.{TooLong};
+ghost use Rattle.mlir_syntax.specs.Stream.{refusal};
 
+use crate::pieces::{Piece, pieces_of};
 use command_line::invocation::Work;
-use diag::refusal::Refusal;
+use diag::cause::Cause;
+use diag::refusal::{OpName, Place, Refusal};
 use export_verilog::aggregates::first_aggregate;
 use export_verilog::export::export;
 use export_verilog::{
@@ -23,7 +30,7 @@ use io_edge::byte_text::Text;
 use mlir_printer::design_text::print_and_drop;
 use mlir_printer::laws::{what_is_canonical_is_printable, what_is_printed_is_read_again};
 use mlir_reader::laws::what_is_read_is_canonical;
-use mlir_reader::read::read_design;
+use mlir_reader::read::{MOST_BYTES, read_design};
 use mlir_syntax::fail::ReadFail;
 use op_verifier::{
     Verified, VerifyFail, accepted_designs_are_sound, places_decide_no_verdict, verify,
@@ -64,13 +71,96 @@ pub(crate) fn outcome<R: Threads + Sync, G: Gate + Sync>(
 {
     let _ = gate;
     let source = first_input(sources);
-    let verified = match accept(alloc, source) {
-        Ok(verified) => verified,
-        Err(fail) => return Err(fail.in_file(0)),
-    };
     match work {
-        Work::Mlir(_) => Ok(reprint(alloc, source, verified)?),
-        Work::Verilog(_) => translate(rt, alloc, &verified),
+        Work::Mlir(_) => print_whole(alloc, source),
+        Work::MlirPieces(_) => print_pieces(alloc, source),
+        Work::Verilog(_) => translate_whole(rt, alloc, source),
+    }
+}
+
+/// The text of the design that a text says.
+fn print_whole(alloc: Global, source: &[u8]) -> Result<Text, OutcomeFail>
+    ensures { (contents : List (List ℕ)) (passes : List Pass) → first_input contents ≡ source.now → Gives (mlir passes) contents result }
+{
+    match accept(alloc, source) {
+        Ok(verified) => Ok(reprint(alloc, source, verified)?),
+        Err(fail) => Err(fail.in_file(0)),
+    }
+}
+
+/// The Verilog of the design that a text says.
+fn translate_whole<R: Threads + Sync>(
+    rt: &R,
+    alloc: Global,
+    source: &[u8],
+) -> Result<Text, OutcomeFail>
+    ensures { (contents : List (List ℕ)) (passes : List Pass) → first_input contents ≡ source.now → Gives (verilog passes) contents result }
+{
+    match accept(alloc, source) {
+        Ok(verified) => translate(rt, alloc, &verified),
+        Err(fail) => Err(fail.in_file(0)),
+    }
+}
+
+/// The texts of the designs that the pieces of a text say, joined. The whole text may not be too long.
+fn print_pieces(alloc: Global, source: &[u8]) -> Result<Text, OutcomeFail>
+    ensures { (contents : List (List ℕ)) (passes : List Pass) → first_input contents ≡ source.now → Gives (mlir_pieces passes) contents result }
+{
+    if source.len() > MOST_BYTES {
+        return Err(OutcomeFail::Refused(too_long()));
+    }
+    let pieces = pieces_of(alloc, source)?;
+    print_each(alloc, pieces.as_slice())
+}
+
+/// The refusal of a text that is too long.
+fn too_long() -> Refusal
+    ensures { result ≡ refusal start_place op.File TooLong }
+{
+    Refusal {
+        file: 0,
+        place: Place::start(),
+        op: OpName::File,
+        cause: Cause::TooLong,
+    }
+}
+
+/// The texts of the designs that pieces say, joined, or the first refusal.
+fn print_each(alloc: Global, pieces: &[Piece<'_>]) -> Result<Text, OutcomeFail>
+    ensures { (passes : List Pass) → GivesPieces passes (map piece_of pieces.now) result }
+{
+    let Some((first, others)) = pieces.split_first() else {
+        return Ok(Text::new(alloc));
+    };
+    let mut text = print_piece(alloc, first)?;
+    for piece in others {
+        match push_piece(alloc, &mut text, piece) {
+            Ok(()) => {}
+            Err(fail) => return Err(fail),
+        }
+    }
+    Ok(text)
+}
+
+/// Adds a line `// -----` and the text of the design that a piece says.
+fn push_piece(alloc: Global, text: &mut Text, piece: &Piece<'_>) -> Result<(), OutcomeFail>
+    ensures printed { OnOk result ((more : List ℕ) × ((passes : List Pass) → IsReprint passes (piece_of piece.now).bytes more) × (text.new ≡ text.old ++ (codes "// -----\n" ++ more))) }
+    ensures refused { IfErr result (IsFailOfPiece (piece_of piece.now)) }
+{
+    let more = print_piece(alloc, piece)?;
+    text.push_bytes(b"// -----\n")?;
+    text.push_bytes(more.as_bytes())?;
+    Ok(())
+}
+
+/// The text of the design that a piece says.
+fn print_piece(alloc: Global, piece: &Piece<'_>) -> Result<Text, OutcomeFail>
+    ensures printed { (passes : List Pass) → IfOk result (IsReprint passes (piece_of piece.now).bytes) }
+    ensures refused { IfErr result (IsFailOfPiece (piece_of piece.now)) }
+{
+    match accept(alloc, piece.bytes) {
+        Ok(verified) => Ok(reprint(alloc, piece.bytes, verified)?),
+        Err(fail) => Err(fail.in_whole(piece)),
     }
 }
 
@@ -94,6 +184,16 @@ impl OutcomeFail {
                 file: number,
                 ..refusal
             }),
+            OutcomeFail::NoMemory => OutcomeFail::NoMemory,
+        }
+    }
+
+    /// The same of a piece, as one of the whole text.
+    fn in_whole(self, piece: &Piece<'_>) -> OutcomeFail
+        ensures { result ≡ fail_in_whole (piece_of piece.now) self }
+    {
+        match self {
+            OutcomeFail::Refused(refusal) => OutcomeFail::Refused(piece.in_whole(refusal)),
             OutcomeFail::NoMemory => OutcomeFail::NoMemory,
         }
     }

@@ -35,7 +35,8 @@ const PASSES_ON_OFFER: [Pass; 0] = [];
 ///
 /// `opt [FILE] [-o FILE]` reads FILE and prints its design as MLIR text, and
 /// `translate [FILE] --export-verilog [-o FILE]` prints it as Verilog, each of the design that the
-/// passes of `--pass-pipeline=TEXT` make, if it is given. All other words are answered by
+/// passes of `--pass-pipeline=TEXT` make, if it is given. `opt --split-input-file` does so with each
+/// piece of FILE between the lines that are `// -----`, and joins the texts by such lines. All other words are answered by
 /// [`Status::Usage`]. A fault of `err` changes no status.
 pub fn run_circt<R: Threads + Sync, F: Files, O: Sink, E: Sink, G: Gate + Sync>(
     rt: &R,

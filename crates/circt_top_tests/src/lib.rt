@@ -5,6 +5,8 @@
 #[cfg(test)]
 mod limits;
 #[cfg(test)]
+mod pieces;
+#[cfg(test)]
 mod pipelines;
 #[cfg(test)]
 mod runs;

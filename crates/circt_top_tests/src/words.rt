@@ -15,7 +15,7 @@ const REFUSED_FILE: &str = "a.mlir:1:1: error: 'foo' S3: unknown operation\n";
 const READ_FAULT: &str = "circt: cannot read b.mlir\n";
 
 // Words that are no command.
-const BAD: [&str; 32] = [
+const BAD: [&str; 31] = [
     "",
     "help",
     "--help",
@@ -34,7 +34,6 @@ const BAD: [&str; 32] = [
     "opt --cse",
     "opt --canonicalise",
     "opt -canonicalize",
-    "opt --split-input-file",
     "opt --workers 4",
     "opt -o",
     "opt -ox.v",

@@ -1,0 +1,3 @@
+hw.module @A() {}
+// -----
+hw.module @A() {}

@@ -1,0 +1,11 @@
+module {
+  hw.module @A() {
+    hw.output
+  }
+}
+// -----
+module {
+  hw.module @A() {
+    hw.output
+  }
+}
