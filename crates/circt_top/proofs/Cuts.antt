@@ -2,7 +2,7 @@
 use Rattle.std.proofs.Common.{◌≡◌, ℕ, zero, suc, ◌+◌, ◌-◌, ◌≤◌, ◌<◌, Bool, true, false, cond, List, [], ◌∷◌, ◌++◌, length, map, take, drop, refl, sym, ◌∙◌, ap, arith, append_assoc, length-drop}
 use Rattle.std.proofs.Math.Seq.{take-add}
 use Rattle.std.proofs.lemmas.List.{append-nil, drop-drop, drop_all}
-use Rattle.std.specs.Prelude.{slice_range}
+use Rattle.std.specs.Prelude.{◌==◌, slice_range}
 use Rattle.circt_top.specs.Pieces.{Piece, begun_by, lines_of, line_size, is_separator, empty_piece, behind, begun_with, pieces_of_lines, pieces_of}
 
 -- ---- lines
@@ -17,25 +17,7 @@ first_line : (b : ℕ) (bytes : List ℕ) → lines_of (b ∷ bytes) ≡ take (l
 first_line b [] = line_at (b == 10) b [] 0 refl
 first_line b (c ∷ bytes) = line_at (b == 10) b (c ∷ bytes) (line_size (c ∷ bytes)) (ap (begun_by b) (first_line c bytes))
 
-size_within : (x : Bool) (n m : ℕ) → n ≤ m → cond x 1 (suc n) ≤ suc m
-size_within true n m h = omega arith
-size_within false n m h = omega (arith, h)
-
--- a line ends within its text
-pub line_within : (bytes : List ℕ) → line_size bytes ≤ length bytes
-line_within [] = omega arith
-line_within (b ∷ bytes) = size_within (b == 10) (line_size bytes) (length bytes) (line_within bytes)
-
-size_some : (x : Bool) (n : ℕ) → 0 < cond x 1 (suc n)
-size_some true n = omega arith
-size_some false n = omega arith
-
--- where there is a byte, the first line has one
-pub line_some : (bytes : List ℕ) → 0 < length bytes → 0 < line_size bytes
-line_some [] h = absurd (omega (arith, h))
-line_some (b ∷ bytes) h = size_some (b == 10) (line_size bytes)
-
-pub line_first : (bytes : List ℕ) → 0 < length bytes → lines_of bytes ≡ take (line_size bytes) bytes ∷ lines_of (drop (line_size bytes) bytes)
+line_first : (bytes : List ℕ) → 0 < length bytes → lines_of bytes ≡ take (line_size bytes) bytes ∷ lines_of (drop (line_size bytes) bytes)
 line_first [] h = absurd (omega (arith, h))
 line_first (b ∷ bytes) h = first_line b bytes
 
@@ -46,12 +28,18 @@ abbrev pub carried : List ℕ → List ℕ → List Piece → List Piece
 carried before piece [] = []
 carried before piece (p ∷ ps) = record { before = before ++ p.before; bytes = piece ++ p.bytes } ∷ map (behind (before ++ piece)) ps
 
-same_piece : {a b c d : List ℕ} → a ≡ b → c ≡ d → (record { before = a; bytes = c } : Piece) ≡ record { before = b; bytes = d }
-same_piece h k = rw (h, k) refl
+-- a piece after some bytes
+abbrev piece_after : List ℕ → List ℕ → Piece
+piece_after before bytes = record { before = before; bytes = bytes }
+
+same_piece : {a b c d : List ℕ} → a ≡ b → c ≡ d → piece_after a c ≡ piece_after b d
+same_piece {a} {b} {c} {d} h k = ap (λ x. piece_after x c) h ∙ ap (piece_after b) k
 
 behind_twice : (a b : List ℕ) (ps : List Piece) → map (behind a) (map (behind b) ps) ≡ map (behind (a ++ b)) ps
 behind_twice a b [] = refl
-behind_twice a b (p ∷ ps) = rw (behind_twice a b ps, append_assoc a b p.before) refl
+behind_twice a b (p ∷ ps) =
+    ap (λ l. piece_after l p.bytes ∷ map (behind a) (map (behind b) ps)) (sym (append_assoc a b p.before))
+    ∙ ap (λ l. piece_after ((a ++ b) ++ p.before) p.bytes ∷ l) (behind_twice a b ps)
 
 nothing_behind : (ps : List Piece) → map (behind []) ps ≡ ps
 nothing_behind [] = refl
@@ -65,17 +53,20 @@ nothing_carried (p ∷ ps) = ap (λ z. p ∷ z) (nothing_behind ps)
 line_carried : (before piece line : List ℕ) (ps : List Piece) → carried before piece (begun_with line ps) ≡ carried before (piece ++ line) ps
 line_carried before piece line [] = refl
 line_carried before piece line (p ∷ ps) =
-    rw (append_assoc piece line p.bytes, behind_twice (before ++ piece) line ps, append_assoc before piece line) refl
+    ap (λ l. piece_after (before ++ p.before) l ∷ map (behind (before ++ piece)) (map (behind line) ps)) (sym (append_assoc piece line p.bytes))
+    ∙ ap (λ l. piece_after (before ++ p.before) ((piece ++ line) ++ p.bytes) ∷ l)
+      (behind_twice (before ++ piece) line ps ∙ ap (λ x. map (behind x) ps) (append_assoc before piece line))
 
 begun_nothing : (before : List ℕ) (ps : List Piece) → map (behind before) ps ≡ carried before [] ps
 begun_nothing before [] = refl
-begun_nothing before (p ∷ ps) = rw (append-nil before) refl
+begun_nothing before (p ∷ ps) = ap (λ x. piece_after (before ++ p.before) p.bytes ∷ map (behind x) ps) (sym (append-nil before))
 
 -- a separator ends the piece
 separator_carried : (before piece line : List ℕ) (ps : List Piece)
-    → carried before piece (empty_piece ∷ map (behind line) ps) ≡ record { before = before; bytes = piece } ∷ carried ((before ++ piece) ++ line) [] ps
+    → carried before piece (empty_piece ∷ map (behind line) ps) ≡ piece_after before piece ∷ carried ((before ++ piece) ++ line) [] ps
 separator_carried before piece line ps =
-    rw (append-nil before, append-nil piece, behind_twice (before ++ piece) line ps, begun_nothing ((before ++ piece) ++ line) ps) refl
+    ap (λ p. p ∷ map (behind (before ++ piece)) (map (behind line) ps)) (same_piece (append-nil before) (append-nil piece))
+    ∙ ap (λ l. piece_after before piece ∷ l) (behind_twice (before ++ piece) line ps ∙ begun_nothing ((before ++ piece) ++ line) ps)
 
 -- ---- a text cut as far as a place
 
@@ -165,3 +156,7 @@ cut_end source start at pieces p h before bytes cut =
 -- nothing is cut as yet
 pub cut_start : (source : List ℕ) → IsCutTo source 0 0 []
 cut_start source = nothing_carried (pieces_of source)
+
+pub map_more : {A B : Type 0} (f : A → B) (xs : List A) (x : A) → map f (xs ++ x ∷ []) ≡ map f xs ++ f x ∷ []
+map_more f [] x = refl
+map_more f (y ∷ xs) x = ap (λ l. f y ∷ l) (map_more f xs x)

@@ -6,7 +6,7 @@ use Rattle.hw_model.specs.Hierarchy.{HasNoRecursion}
 use Rattle.hw_model.specs.Machine.{Same}
 use Rattle.hw_model.specs.Meaning.{machine, HasNoCycle, HasHeights}
 use Rattle.hw_model.specs.Types.{Name}
-use Rattle.command_line.specs.Line.Work.{mlir, verilog}
+use Rattle.command_line.specs.Line.Work.{verilog}
 use Rattle.pass_pipeline.specs.declared.pass.Pass.{Pass}
 use Rattle.pass_manager.specs.Results.{result}
 use Rattle.pass_manager.proofs.Results.{result_is}
@@ -27,9 +27,9 @@ use Rattle.op_verifier.specs.Verdict.{IsAccepted}
 use Rattle.mlir_printer.specs.Printable.{Printable}
 use Rattle.canonical_form.specs.Canonical.{IsCanonical}
 use Rattle.mlir_printer.specs.Texts.{ir_text}
-use Rattle.circt_top.specs.Accepting.{Accepted, IsRefused, IsRefusedIn, in_file, first_input, unaccepted}
+use Rattle.circt_top.specs.Accepting.{Accepted, first_input, unaccepted}
 use Rattle.circt_top.specs.Accepting.{unread as unread_text}
-use Rattle.circt_top.specs.Outcomes.{IsTaken, read_failure, verify_failure, fail_in_file}
+use Rattle.circt_top.specs.Outcomes.{IsTaken, read_failure, verify_failure}
 use Rattle.circt_top.specs.Partners.{HasPartners}
 use Rattle.circt_top.specs.Exports.{Exports}
 use Rattle.circt_top.specs.Outcome.{Gives}
@@ -113,23 +113,6 @@ translated laws designs passes contents d (Ok text) accepted room h =
 translated laws designs passes contents d (Err (Refused r)) accepted room h =
     inr (record { design = d; accepted = accepted; missing = ap first_aggregate (result_is passes d) ∙ h })
 translated laws designs passes contents d (Err NoMemory) accepted room h = tt
-
--- what is refused is refused by each work
-refused_in : (r : Refusal) (bytes : List ℕ) → IsRefused bytes r → IsRefusedIn 0 bytes (in_file 0 r)
-refused_in r bytes h = record { refusal = r; refused = h; numbered = refl }
-
-pub unprinted_gives : (passes : List Pass) (contents : List (List ℕ)) (fail : OutcomeFail) → IsTaken (first_input contents) (Err fail) → Gives (mlir passes) contents (Err (fail_in_file 0 fail))
-unprinted_gives passes contents (Refused r) h = refused_in r (first_input contents) h
-unprinted_gives passes contents NoMemory h = tt
-
-pub untranslated_gives : (passes : List Pass) (contents : List (List ℕ)) (fail : OutcomeFail) → IsTaken (first_input contents) (Err fail) → Gives (verilog passes) contents (Err (fail_in_file 0 fail))
-untranslated_gives passes contents (Refused r) h = inl (refused_in r (first_input contents) h)
-untranslated_gives passes contents NoMemory h = tt
-
--- what is printed is given
-pub printed_gives : (passes : List Pass) (contents : List (List ℕ)) (r : Result (List ℕ) OutcomeFail) → IfOk r (IsReprint passes (first_input contents)) → IfErr r (λ fail. fail ≡ NoMemory) → Gives (mlir passes) contents r
-printed_gives passes contents (Ok text) h none = h
-printed_gives passes contents (Err fail) h none = subst (λ f. Gives (mlir passes) contents (Err f)) (sym none) tt
 
 -- what is not read is refused, and what is not verified
 pub unread_taken : (source : List ℕ) (fail : ReadFail) → ReadsDesign (Err fail) (read source) → IsTaken source (Err (read_failure fail))

@@ -1,6 +1,6 @@
 -- The texts of the pieces of a text, one after another.
-use Rattle.std.proofs.Common.{◌≡◌, ℕ, ◌<◌, ◌≤◌, inl, inr, List, [], ◌∷◌, ◌++◌, length, map, Result, Ok, Err, refl, sym, ◌∙◌, ap, subst, append_assoc}
-use Rattle.std.proofs.lemmas.List.{append-nil}
+use Rattle.std.proofs.Common.{◌≡◌, ℕ, zero, suc, ◌+◌, take, drop, get_or, arith, ◌<◌, ◌≤◌, inl, inr, List, [], ◌∷◌, ◌++◌, length, map, Result, Ok, Err, refl, sym, ◌∙◌, ap, subst, append_assoc}
+use Rattle.std.proofs.lemmas.List.{append-nil, take_all}
 use Rattle.std.specs.Prelude.{codes}
 use Rattle.diag.specs.Place.{start_place}
 use Rattle.diag.specs.declared.refusal.OpName.TheVariants as op
@@ -12,9 +12,10 @@ use Rattle.mlir_reader.specs.Reading.{text_limit}
 use Rattle.pass_pipeline.specs.declared.pass.Pass.{Pass}
 use Rattle.circt_top.specs.Accepting.{first_input}
 use Rattle.circt_top.specs.Pieces.{Piece, pieces_of, joined, joined_behind}
+use Rattle.circt_top.proofs.Read.{names_more}
 use Rattle.circt_top.specs.PieceReprint.{AreReprints, ArePrinted, IsPieceRefused, IsFirstRefused}
 use Rattle.circt_top.specs.Reprint.{IsReprint}
-use Rattle.circt_top.specs.Outcomes.{IsFailOfPiece, GivesPieces, IsTaken, fail_in_whole}
+use Rattle.circt_top.specs.Outcomes.{IsFailOfPiece, GivesPieces}
 use Rattle.circt_top.specs.Outcome.{Gives}
 use Rattle.circt_top.specs.declared.outcome.OutcomeFail.{OutcomeFail}
 use Rattle.circt_top.specs.declared.outcome.OutcomeFail.TheVariants.{Refused, NoMemory}
@@ -72,10 +73,49 @@ pub fail_first : (passes : List Pass) (p : Piece) (rest : List Piece) (fail : Ou
 fail_first passes p rest (Refused r) is = inl is
 fail_first passes p rest NoMemory is = tt
 
--- a piece that is not taken is refused, by the lines of the whole text
-pub untaken_piece : (p : Piece) (fail : OutcomeFail) → IsTaken p.bytes (Err fail) → IsFailOfPiece p (fail_in_whole p fail)
-untaken_piece p (Refused r) h = record { refusal = r; refused = h; placed = refl }
-untaken_piece p NoMemory h = tt
+-- ---- pieces one by one
+
+same_item : {A : Type 0} (xs : List A) (i : ℕ) (d e : A) → i < length xs → get_or xs i d ≡ get_or xs i e
+same_item [] i d e within = absurd (omega (arith, within))
+same_item (x ∷ xs) zero d e within = refl
+same_item (x ∷ xs) (suc i) d e within = same_item xs i d e (omega (arith, within))
+
+parted : {A B : Type 0} (f : A → B) (xs : List A) (i : ℕ) (d : A) → i < length xs → map f xs ≡ map f (take i xs) ++ f (get_or xs i d) ∷ map f (drop (suc i) xs)
+parted f [] i d within = absurd (omega (arith, within))
+parted f (x ∷ xs) zero d within = refl
+parted f (x ∷ xs) (suc i) d within = ap (λ l. f x ∷ l) (parted f xs i d (omega (arith, within)))
+
+module _ {A : Type 0} (f : A → Piece) (passes : List Pass) (xs : List A) (first : A) (others : List A) (is : xs ≡ first ∷ others) where
+  so_far : (i : ℕ) (text : List ℕ) → ArePrinted passes (map f (take (suc i) xs)) text → ArePrinted passes (f first ∷ map f (take i others)) text
+  so_far i text h = subst (λ l. ArePrinted passes (map f (take (suc i) l)) text) is h
+
+  -- the first piece is printed
+  pub begun : (text : List ℕ) → IsReprint passes (f first).bytes text → ArePrinted passes (map f (take 1 xs)) text
+  begun text h = subst (λ l. ArePrinted passes (map f (take 1 l)) text) (sym is) (printed_first passes (f first) text h)
+
+  -- one more is printed
+  pub printed_on : (i : ℕ) (d : A) (text more new : List ℕ) → i < length others → ArePrinted passes (map f (take (suc i) xs)) text → IsReprint passes (f (get_or others i d)).bytes more
+      → new ≡ text ++ (codes "// -----\n" ++ more) → ArePrinted passes (map f (take (suc (i + 1)) xs)) new
+  printed_on i d text more new within h one e =
+      let longer : map f (take (suc (i + 1)) xs) ≡ f first ∷ (map f (take i others) ++ f (get_or others i d) ∷ []) =
+          ap (λ l. map f (take (suc (i + 1)) l)) is ∙ ap (λ l. f first ∷ l) (names_more f others i (get_or others i d) within (same_item others i d (get_or others i d) within)) in
+      subst (λ ps. ArePrinted passes ps new) (sym longer)
+      (subst (λ t. ArePrinted passes (f first ∷ (map f (take i others) ++ f (get_or others i d) ∷ [])) t) (sym e)
+      (printed_more passes (f first) (map f (take i others)) text (f (get_or others i d)) more (so_far i text h) one))
+
+  -- one is refused after those that are printed
+  pub refused_on : (i : ℕ) (d : A) (text : List ℕ) (fail : OutcomeFail) → i < length others → ArePrinted passes (map f (take (suc i) xs)) text → IsFailOfPiece (f (get_or others i d)) fail
+      → GivesPieces passes (map f xs) (Err fail)
+  refused_on i d text fail within h failed =
+      let all : map f xs ≡ (f first ∷ map f (take i others)) ++ f (get_or others i d) ∷ map f (drop (suc i) others) = ap (map f) is ∙ ap (λ l. f first ∷ l) (parted f others i d within) in
+      subst (λ ps. GivesPieces passes ps (Err fail)) (sym all)
+      (fail_behind passes (f first ∷ map f (take i others)) text (f (get_or others i d)) (map f (drop (suc i) others)) fail (so_far i text h) failed)
+
+  -- all are printed
+  pub all_printed : (i : ℕ) (text : List ℕ) → length others ≤ i → ArePrinted passes (map f (take (suc i) xs)) text → ArePrinted passes (map f xs) text
+  all_printed i text past h =
+      let e : length xs ≡ length (first ∷ others) = ap length is in
+      subst (λ l. ArePrinted passes (map f l) text) (take_all (suc i) xs (omega (arith, e, past))) h
 
 -- ---- the whole text
 

@@ -74,12 +74,14 @@ fn line_end(source: &[u8], at: usize) -> usize
     ensures within { result ≤ length source.now }
 {
     let (_, rest) = source.split_at(at);
-    at + line_size(rest)
+    source.len() - (rest.len() - line_size(rest))
 }
 
 /// How many bytes the first line has, with the LF that ends it.
 fn line_size(text: &[u8]) -> usize
-    ensures { result ≡ line_size text.now }
+    ensures is { result ≡ line_size text.now }
+    ensures within { result ≤ length text.now }
+    ensures some { 0 < length text.now → 0 < result }
 {
     let mut size: usize = 0;
     for byte in text {
