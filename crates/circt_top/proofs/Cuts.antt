@@ -1,5 +1,5 @@
 -- A text cut into pieces line by line.
-use Rattle.std.proofs.Common.{◌≡◌, ℕ, zero, suc, ◌+◌, ◌-◌, ◌≤◌, ◌<◌, Bool, true, false, cond, List, [], ◌∷◌, ◌++◌, length, map, take, drop, refl, sym, ◌∙◌, ap, arith, append_assoc, length-drop}
+use Rattle.std.proofs.Common.{◌≡◌, ℕ, suc, ◌+◌, ◌-◌, ◌≤◌, ◌<◌, Bool, true, false, cond, List, [], ◌∷◌, ◌++◌, length, map, take, drop, refl, sym, ◌∙◌, ap, arith, append_assoc, length-drop}
 use Rattle.std.proofs.Math.Seq.{take-add}
 use Rattle.std.proofs.lemmas.List.{append-nil, drop-drop, drop_all}
 use Rattle.std.specs.Prelude.{◌==◌, slice_range}
@@ -55,7 +55,7 @@ line_carried before piece line [] = refl
 line_carried before piece line (p ∷ ps) =
     ap (λ l. piece_after (before ++ p.before) l ∷ map (behind (before ++ piece)) (map (behind line) ps)) (sym (append_assoc piece line p.bytes))
     ∙ ap (λ l. piece_after (before ++ p.before) ((piece ++ line) ++ p.bytes) ∷ l)
-      (behind_twice (before ++ piece) line ps ∙ ap (λ x. map (behind x) ps) (append_assoc before piece line))
+    (behind_twice (before ++ piece) line ps ∙ ap (λ x. map (behind x) ps) (append_assoc before piece line))
 
 begun_nothing : (before : List ℕ) (ps : List Piece) → map (behind before) ps ≡ carried before [] ps
 begun_nothing before [] = refl
@@ -112,8 +112,8 @@ cut_line source start at pieces h lt other cut =
     let n = line_size (drop at source) in
     let rest = pieces_of_lines (lines_of (drop (at + n) source)) in
     let step : pieces_of_lines (lines_of (drop at source)) ≡ begun_with (line_from source at) rest =
-        ap pieces_of_lines (lines_from source at lt)
-        ∙ ap (λ b. cond b (empty_piece ∷ map (behind (line_from source at)) rest) (begun_with (line_from source at) rest)) other in
+    ap pieces_of_lines (lines_from source at lt)
+    ∙ ap (λ b. cond b (empty_piece ∷ map (behind (line_from source at)) rest) (begun_with (line_from source at) rest)) other in
     ap (λ l. pieces ++ l)
     (ap (λ l. carried (take start source) l rest) (part_more source start at n h)
     ∙ sym (line_carried (take start source) (slice_range source start at) (line_from source at) rest)
@@ -128,19 +128,19 @@ cut_separator source start at pieces p h lt separates before bytes cut =
     let n = line_size (drop at source) in
     let rest = pieces_of_lines (lines_of (drop (at + n) source)) in
     let step : pieces_of_lines (lines_of (drop at source)) ≡ empty_piece ∷ map (behind (line_from source at)) rest =
-        ap pieces_of_lines (lines_from source at lt)
-        ∙ ap (λ b. cond b (empty_piece ∷ map (behind (line_from source at)) rest) (begun_with (line_from source at) rest)) separates in
+    ap pieces_of_lines (lines_from source at lt)
+    ∙ ap (λ b. cond b (empty_piece ∷ map (behind (line_from source at)) rest) (begun_with (line_from source at) rest)) separates in
     let front : take (at + n) source ≡ (take start source ++ slice_range source start at) ++ line_from source at =
-        take-add at n source ∙ ap (λ l. l ++ take n (drop at source)) (front_to source start at h)
-        ∙ ap (λ l. (take start source ++ slice_range source start at) ++ l) (sym (line_is source at n)) in
+    take-add at n source ∙ ap (λ l. l ++ take n (drop at source)) (front_to source start at h)
+    ∙ ap (λ l. (take start source ++ slice_range source start at) ++ l) (sym (line_is source at n)) in
     let none : slice_range source (at + n) (at + n) ≡ [] = let e : (at + n) - (at + n) ≡ 0 = omega arith in ap (λ k. take k (drop (at + n) source)) e in
     append_assoc pieces (p ∷ []) (carried (take (at + n) source) (slice_range source (at + n) (at + n)) rest)
     ∙ ap (λ l. pieces ++ l)
-      (ap (λ l. p ∷ carried (take (at + n) source) l rest) none
-      ∙ ap (λ l. p ∷ carried l [] rest) front
-      ∙ ap (λ q. q ∷ carried ((take start source ++ slice_range source start at) ++ line_from source at) [] rest) (same_piece before bytes)
-      ∙ sym (separator_carried (take start source) (slice_range source start at) (line_from source at) rest)
-      ∙ ap (carried (take start source) (slice_range source start at)) (sym step))
+    (ap (λ l. p ∷ carried (take (at + n) source) l rest) none
+    ∙ ap (λ l. p ∷ carried l [] rest) front
+    ∙ ap (λ q. q ∷ carried ((take start source ++ slice_range source start at) ++ line_from source at) [] rest) (same_piece before bytes)
+    ∙ sym (separator_carried (take start source) (slice_range source start at) (line_from source at) rest)
+    ∙ ap (carried (take start source) (slice_range source start at)) (sym step))
     ∙ cut
 
 -- the end of the text

@@ -98,7 +98,7 @@ module _ {A : Type 0} (f : A → Piece) (passes : List Pass) (xs : List A) (firs
       → new ≡ text ++ (codes "// -----\n" ++ more) → ArePrinted passes (map f (take (suc (i + 1)) xs)) new
   printed_on i d text more new within h one e =
       let longer : map f (take (suc (i + 1)) xs) ≡ f first ∷ (map f (take i others) ++ f (get_or others i d) ∷ []) =
-          ap (λ l. map f (take (suc (i + 1)) l)) is ∙ ap (λ l. f first ∷ l) (names_more f others i (get_or others i d) within (same_item others i d (get_or others i d) within)) in
+      ap (λ l. map f (take (suc (i + 1)) l)) is ∙ ap (λ l. f first ∷ l) (names_more f others i (get_or others i d) within (same_item others i d (get_or others i d) within)) in
       subst (λ ps. ArePrinted passes ps new) (sym longer)
       (subst (λ t. ArePrinted passes (f first ∷ (map f (take i others) ++ f (get_or others i d) ∷ [])) t) (sym e)
       (printed_more passes (f first) (map f (take i others)) text (f (get_or others i d)) more (so_far i text h) one))

@@ -21,10 +21,7 @@ pub(crate) struct Piece<'a> {
 
 /// The pieces of a text, in order. There is one piece more than lines that are `// -----`, and no
 /// piece has one of these.
-pub(crate) fn pieces_of<'a>(
-    alloc: Global,
-    source: &'a [u8],
-) -> Result<Vec<Piece<'a>>, AllocError>
+pub(crate) fn pieces_of<'a>(alloc: Global, source: &'a [u8]) -> Result<Vec<Piece<'a>>, AllocError>
     ensures { IfOk result (λ v. map piece_of v.items ≡ pieces_of source.entry.now) }
 {
     let mut pieces = Vec::new(alloc);

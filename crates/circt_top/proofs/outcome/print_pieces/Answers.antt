@@ -1,5 +1,4 @@
-use Rattle.std.proofs.Common.{◌≡◌, ◌≤◌, length, map, sym, ◌∙◌, ap, subst, arith}
-use Rattle.mlir_reader.specs.Reading.{text_limit}
+use Rattle.std.proofs.Common.{◌≡◌, map, sym, ◌∙◌, ap, subst, arith}
 use Rattle.circt_top.specs.Accepting.{first_input}
 use Rattle.circt_top.specs.Pieces.{pieces_of}
 use Rattle.circt_top.specs.Outcomes.{GivesPieces}
@@ -10,6 +9,6 @@ use Rattle.circt_top.proofs.outcome.print_pieces.Goals as goal
 pub returns : goal.returns
 returns c = λ contents passes e.
     let pieces : map piece_of c.as_slice.result.now ≡ pieces_of (first_input contents) =
-        ap (map piece_of) c.as_slice.ensures.value ∙ c.in_ok-pieces.ensures ∙ ap pieces_of (sym e) in
+    ap (map piece_of) c.as_slice.ensures.value ∙ c.in_ok-pieces.ensures ∙ ap pieces_of (sym e) in
     pieces_give passes contents c.print_each.result (rw e (omega (arith, c.if-source-gt-MOST_BYTES.false)))
     (subst (λ ps. GivesPieces passes ps c.print_each.result) pieces (c.print_each.ensures passes))

@@ -1,5 +1,4 @@
-use Rattle.std.proofs.Common.{◌≡◌, Some, map, string_bytes, sym, ◌∙◌}
-use Rattle.std.specs.Prelude.{box_value}
+use Rattle.std.proofs.Common.{map, string_bytes, sym, ◌∙◌}
 use Rattle.clap.specs.Words.{found_of, rows_of}
 use Rattle.command_line.proofs.Said.{pair_found, said_by_found}
 use Rattle.command_line.proofs.invocation.read_line.Goals as goal
