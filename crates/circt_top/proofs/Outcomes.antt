@@ -1,5 +1,5 @@
 -- What is made of an accepted design.
-use Rattle.std.proofs.Common.{◌≡◌, ℕ, ◌≤◌, inr, List, length, Option, Some, None, Result, Ok, Err, is_some, false, refl, sym, ◌∙◌, ap, subst}
+use Rattle.std.proofs.Common.{◌≡◌, ℕ, ◌≤◌, inr, List, length, Result, Ok, Err, refl, sym, ◌∙◌, ap, subst}
 use Rattle.diag.specs.declared.refusal.Refusal.{Refusal}
 use Rattle.hw_model.specs.Design.{Design, IsSameDesign}
 use Rattle.hw_model.specs.Hierarchy.{HasNoRecursion}
