@@ -6,3 +6,6 @@ pub mod Dictionaries
 pub mod Kinds
 pub mod ResultTypes
 pub mod Canonical
+pub mod Fields
+pub mod Followed
+pub mod Alone
