@@ -10,6 +10,23 @@ use ir_store::operation::{NewOp, NewResult, NewResultList, TyList, Value};
 use smallvec::SmallVec;
 use std::alloc::{AllocError, Global};
 
+/// Why a test has no verdict on a design.
+#[derive(Debug, Drop)]
+pub enum NoVerdict {
+    /// Memory ran out.
+    NoMemory,
+    /// The design that the test builds is not in canonical form, so it may not be verified.
+    NotCanonical,
+    /// Two calls that give a verdict differ.
+    Differs,
+}
+
+impl From<AllocError> for NoVerdict {
+    fn from(_error: AllocError) -> NoVerdict {
+        NoVerdict::NoMemory
+    }
+}
+
 /// The types of an operation on bits, and whether the name of its result was defined before.
 #[derive(Clone, Copy)]
 pub struct Shape {

@@ -1,9 +1,11 @@
 //! The verdicts on designs with asynchronous resets.
 use crate::definitions::{DATA, Definition, OUT, Operand, Operation, RESET, design_of};
+use crate::designs::NoVerdict;
+use canonical_form::is_canonical;
 use diag::cause::Cause;
 use ir_store::design::Design;
 use op_verifier::{VerifyFail, verify};
-use std::alloc::{AllocError, Global};
+use std::alloc::Global;
 use std::test::Fail;
 
 /// Modules, and the line and the cause of their refusal, where they are refused.
@@ -297,16 +299,19 @@ const RECURSIVE: [Case; 2] = [
 ];
 
 // The line and the cause of a design's refusal.
-fn refusal_of(alloc: Global, design: Design) -> Result<Option<(u32, Cause)>, AllocError> {
+fn refusal_of(alloc: Global, design: Design) -> Result<Option<(u32, Cause)>, NoVerdict> {
+    if !is_canonical(&design) {
+        return Err(NoVerdict::NotCanonical);
+    }
     match verify(alloc, design) {
         Ok(_) => Ok(None),
         Err(VerifyFail::Refused(refusal)) => Ok(Some((refusal.place.line, refusal.cause))),
-        Err(VerifyFail::NoMemory) => Err(AllocError),
+        Err(VerifyFail::NoMemory) => Err(NoVerdict::NoMemory),
     }
 }
 
 // The first case with another verdict, by its position.
-fn first_other(alloc: Global, cases: &[Case]) -> Result<Option<usize>, AllocError> {
+fn first_other(alloc: Global, cases: &[Case]) -> Result<Option<usize>, NoVerdict> {
     for (at, case) in cases.iter().enumerate() {
         let design = design_of(alloc, case.modules)?;
         if refusal_of(alloc, design)? != case.refused {

@@ -1,10 +1,12 @@
 //! The verdicts on designs of one module.
 use crate::definitions::{DATA, Definition, OUT, Operation, RESET, design_of};
+use crate::designs::NoVerdict;
+use canonical_form::is_canonical;
 use diag::cause::Cause;
 use diag::refusal::Refusal;
 use ir_store::design::Design;
 use op_verifier::{VerifyFail, first_fault, verify};
-use std::alloc::{AllocError, Global};
+use std::alloc::Global;
 use std::test::Fail;
 
 /// A body, and the line and the cause of the refusal, where the module is refused.
@@ -44,12 +46,15 @@ const CASES: [Case; 5] = [
 ];
 
 // The verifier's refusal of a design, where it is the first one among those of headers and operations.
-fn refusal_of(alloc: Global, design: Design) -> Result<Option<Refusal>, AllocError> {
+fn refusal_of(alloc: Global, design: Design) -> Result<Option<Refusal>, NoVerdict> {
     let first = first_fault(alloc, &design)?;
+    if !is_canonical(&design) {
+        return Err(NoVerdict::NotCanonical);
+    }
     match verify(alloc, design) {
         Ok(verified) => same_verdict(verified.design().module_count() == 1, first, None),
         Err(VerifyFail::Refused(refusal)) => same_verdict(true, first, Some(refusal)),
-        Err(VerifyFail::NoMemory) => Err(AllocError),
+        Err(VerifyFail::NoMemory) => Err(NoVerdict::NoMemory),
     }
 }
 
@@ -58,11 +63,11 @@ fn same_verdict(
     is_sound: bool,
     first: Option<Refusal>,
     refusal: Option<Refusal>,
-) -> Result<Option<Refusal>, AllocError> {
+) -> Result<Option<Refusal>, NoVerdict> {
     if is_sound && first == refusal {
         Ok(refusal)
     } else {
-        Err(AllocError)
+        Err(NoVerdict::Differs)
     }
 }
 
@@ -77,7 +82,7 @@ fn is_told(refusal: Option<Refusal>, case: &Case) -> bool {
 }
 
 // The first case with another verdict, by its position.
-fn first_other(alloc: Global, cases: &[Case]) -> Result<Option<usize>, AllocError> {
+fn first_other(alloc: Global, cases: &[Case]) -> Result<Option<usize>, NoVerdict> {
     for (at, case) in cases.iter().enumerate() {
         let modules = [Definition {
             symbol: b"T",
