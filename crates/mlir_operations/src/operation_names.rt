@@ -4,10 +4,10 @@ ghost use Rattle.opcode.specs.Listed.{name_of_listed};
 ghost use Rattle.hw_model.specs.Design.{same_name};
 ghost use Rattle.mlir_syntax.specs.AttributeText.{is_among};
 ghost use Rattle.mlir_operations.specs.OperationText.{class_of, class_of_listed, class_of_other, is_foreign, is_last};
-ghost use Rattle.canonical_form.specs.Dictionaries.{dialect, takes_bin};
 ghost use Rattle.mlir_operations.specs.NameClasses.{class_seen};
 
-use mlir_lexer::classes::{Class, run_of};
+use canonical_form::names::{NoDot, dialect};
+use mlir_lexer::classes::run_of;
 use opcode::listed::Listed;
 
 /// What a name means in an operation's or a module's place.
@@ -50,19 +50,6 @@ const LEFT_OUT: [&str; 14] = [
 
 // The dialects of which an unknown name is no operation.
 const KNOWN_DIALECTS: [&str; 4] = ["hw", "comb", "seq", "builtin"];
-
-/// The bytes before a dot.
-pub enum NoDot {}
-
-impl Class for NoDot {
-    ghost use Rattle.std.specs.Prelude.{not, ◌==◌};
-
-    ghost test = { λ b. not (b == 46) };
-
-    fn has(byte: u8) -> bool {
-        !(byte == b'.')
-    }
-}
 
 /// The class of a name.
 pub fn class_of(name: &[u8]) -> NameClass
@@ -143,13 +130,6 @@ fn class_of_other(name: &[u8]) -> NameClass
     }
 }
 
-// What stands before the first dot of a name.
-fn dialect(name: &[u8]) -> &[u8]
-    ensures { result.now ≡ dialect name.now }
-{
-    &name[..run_of::<NoDot>(name)]
-}
-
 // Whether a name has a dot and another dialect.
 fn is_foreign(name: &[u8]) -> bool
     ensures { result ≡ is_foreign name.now }
@@ -167,13 +147,6 @@ fn is_among(name: &[u8], names: &[&str]) -> bool
         }
     }
     false
-}
-
-/// Whether `bin` may stand after the name of an operation: after those of the dialect comb.
-pub fn takes_bin(name: Listed) -> bool
-    ensures { result ≡ takes_bin name }
-{
-    dialect(name.name()) == b"comb".as_slice()
 }
 
 /// Whether an operation is a module's output, which is the last of a body.

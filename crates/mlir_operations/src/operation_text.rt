@@ -7,7 +7,6 @@ ghost use Rattle.mlir_syntax.specs.AttributeHeads.{keys_of};
 ghost use Rattle.mlir_operations.specs.ModuleText.{header};
 ghost use Rattle.mlir_operations.specs.NameClasses.{class_seen};
 ghost use Rattle.mlir_operations.specs.OperationText.{bin_text, form_text, late_dictionary, named_operation, classed_operation, operation_behind, operation_text, misplaced_refusal, no_operation, is_outside, other_name};
-ghost use Rattle.canonical_form.specs.Dictionaries.{string_keys};
 ghost use Rattle.mlir_operations.specs.ElementText.{gathered_nothing};
 ghost use Rattle.mlir_syntax.specs.Stream.{first, is_first};
 ghost use Rattle.mlir_syntax.specs.Views.{ReadsAs};
@@ -15,10 +14,12 @@ ghost use Rattle.mlir_operations.specs.Views.{gathered_of, names_of, operation_o
 
 use crate::element_text::elements_text;
 use crate::operand_text::maybe_results;
-use crate::operation_names::{NameClass, class_of, takes_bin};
+use crate::operation_names::{NameClass, class_of};
 use crate::syntax::{Gathered, InherentAttributes, OperationText, ResultNames};
 use assembly_format::elements::Format;
 use assembly_format::formats::{format_of, front_elements, type_elements};
+use canonical_form::dictionaries::string_keys;
+use canonical_form::names::takes_bin;
 use diag::cause::Cause;
 use diag::refusal::{OpName, Place, Refusal};
 use ir_store::dictionary::Dictionary;
@@ -234,17 +235,5 @@ fn other_name(token: Token) -> OpName
     OpName::Other {
         at: token.at,
         len: token.text.len() as u64,
-    }
-}
-
-// The keys whose values are strings: a hint everywhere, the name of a register or a wire.
-fn string_keys(name: Listed) -> StringKeys
-    ensures { keys_of result ≡ string_keys name }
-{
-    match name {
-        Listed::HwWire | Listed::SeqCompreg | Listed::SeqCompregCe | Listed::SeqFirreg => {
-            StringKeys::HintAndName
-        }
-        _ => StringKeys::Hint,
     }
 }
