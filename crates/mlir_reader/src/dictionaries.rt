@@ -1,54 +1,13 @@
 //! What is kept of the dictionary that a text gives, and the names that it holds.
 ghost use Rattle.std.specs.Prelude.{◌≡◌, ◌++◌, map, IfOk, Some};
-ghost use Rattle.ir_store.specs.DictionaryViews.{attribute_of, entry_of, entries_in};
+ghost use Rattle.ir_store.specs.DictionaryViews.{entry_of, entries_in};
 ghost use Rattle.mlir_reader.specs.Resolving.{without, kept_entries, kept_module_entries, sort_entries};
-ghost use Rattle.canonical_form.specs.Dictionaries.{is_empty_text, is_empty_hint, is_name_entry, has_name, is_dropped};
+ghost use Rattle.canonical_form.specs.Dictionaries.{is_dropped};
 
-use io_edge::byte_text::Text;
-use ir_store::dictionary::{Attribute, Dictionary, Entry};
+use canonical_form::dictionaries::is_dropped;
+use ir_store::dictionary::{Dictionary, Entry};
 use opcode::listed::Listed;
 use std::alloc::{AllocError, Global};
-
-// Whether an attribute is the empty string.
-fn is_empty_text(value: &Attribute) -> bool
-    ensures { result ≡ is_empty_text (attribute_of value.now) }
-{
-    match value {
-        Attribute::String(text) => text.is_empty(),
-        _ => false,
-    }
-}
-
-// Whether an entry is an empty hint.
-fn is_empty_hint(entry: &Entry) -> bool
-    ensures { result ≡ is_empty_hint (entry_of entry.now) }
-{
-    b"sv.namehint".as_slice() == entry.key.as_bytes() && is_empty_text(&entry.value)
-}
-
-// Whether an entry is a name.
-pub fn is_name_entry(entry: &Entry) -> bool
-    ensures { result ≡ is_name_entry (entry_of entry.now) }
-{
-    b"name".as_slice() == entry.key.as_bytes()
-}
-
-// Whether an operation has a name of its own.
-pub fn has_name(name: Listed) -> bool
-    ensures { result ≡ has_name name }
-{
-    match name {
-        Listed::HwWire | Listed::SeqCompreg | Listed::SeqCompregCe | Listed::SeqFirreg => true,
-        _ => false,
-    }
-}
-
-// Whether an operation's entry is not kept.
-fn is_dropped(name: Listed, entry: &Entry) -> bool
-    ensures { result ≡ is_dropped name (entry_of entry.now) }
-{
-    is_empty_hint(entry) || (has_name(name) && is_name_entry(entry))
-}
 
 // The entries of a dictionary that are kept, in their order.
 fn entries_without(

@@ -8,6 +8,7 @@ ghost use Rattle.canonical_form.specs.Constants.{has_negative, kept_number, kept
 ghost use Rattle.mlir_operations.specs.ElementText.InherentAttributes.{nothing};
 ghost use Rattle.mlir_operations.specs.Views.{inherent_of};
 
+use canonical_form::constants::has_negative;
 use hw_model::kinds::{Instance, Integer, Literal, LiteralList, OpKind, Predicate, Reset};
 use hw_model::types::Ty;
 use io_edge::byte_text::Text;
@@ -185,13 +186,6 @@ fn kept_number(width: u32, number: Integer) -> Integer
         Integer::Negative(n) if has_negative(width, n) => Integer::NonNegative(bits(width, n)),
         Integer::Negative(_) | Integer::NonNegative(_) => number,
     }
-}
-
-// Whether -1 less a number is in the range of an integer type.
-fn has_negative(width: u32, n: u128) -> bool
-    ensures { result ≡ has_negative width n }
-{
-    0 < width && (width < 129 && n < 1 << (width - 1))
 }
 
 // The bits of -1 less a number that is in the range of an integer type.

@@ -5,7 +5,7 @@ ghost use Rattle.ir_store.specs.DictionaryViews.{attribute_of, entry_of, entries
 ghost use Rattle.mlir_reader.specs.Resolving.{text_in, given_name, unless_digits, first_name, own_name_of};
 ghost use Rattle.mlir_operations.specs.Views.{names_of};
 
-use crate::dictionaries::{has_name, is_name_entry};
+use canonical_form::dictionaries::{has_name, is_name_entry};
 use io_edge::byte_text::Text;
 use ir_store::dictionary::{Attribute, Dictionary};
 use mlir_lexer::classes::{Digit, run_of};
