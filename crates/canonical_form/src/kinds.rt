@@ -26,7 +26,7 @@ pub(crate) fn is_written(family: Family<'_>) -> bool
             true
         }
         Family::Instance(instance) => {
-            is_written_instance(instance);
+            names_are_bytes(instance);
             true
         }
         _ => true,
@@ -34,7 +34,7 @@ pub(crate) fn is_written(family: Family<'_>) -> bool
 }
 
 /// Does nothing. Its clause says that the names of an instance are bytes.
-fn is_written_instance(instance: &Instance)
+fn names_are_bytes(instance: &Instance)
     ensures { IsWrittenInstance (instance_of instance.now) }
 {
     are_bytes(instance.name.as_bytes());
