@@ -1,6 +1,7 @@
 //! Bodies that are changed step by step, with ample memory.
 
 use crate::body_changes::{Change, OPERANDS, ORDERS, Operand, Run};
+use crate::use_changes::USES;
 use Change::{DropAt, Erase, Insert, Put, Replace, Set};
 use Operand::{Port, Sum, Undefined};
 use diag::refusal::Place;
@@ -140,19 +141,41 @@ fn has_ops(
     Ok(left.next().is_none())
 }
 
-// Whether the value is used at just these places, in this order.
-fn is_used_at(body: &Body, value: Value, places: &[(u32, u32)]) -> bool {
-    let mut left = body.uses(value);
+// whether one of the places is this operand
+fn is_among(place: UsePlace, places: &[(u32, u32)]) -> bool {
     for (op, at) in places {
-        let place = UsePlace {
-            op: OpId::nth(*op),
-            at: *at,
-        };
-        if left.next() != Some(place) {
-            return false;
+        if place.op == OpId::nth(*op) && place.at == *at {
+            return true;
         }
     }
-    left.next().is_none()
+    false
+}
+
+// Whether the value is used at just these places, in some order.
+fn is_used_at(body: &Body, value: Value, places: &[(u32, u32)]) -> bool {
+    let mut count = 0;
+    for place in body.uses(value) {
+        if count == places.len() || !is_among(place, places) {
+            return false;
+        }
+        count += 1;
+    }
+    count == places.len()
+}
+
+// Whether the walk over the uses of a value gives the places that are told at once, in their order.
+fn is_walked(body: &Body, value: Value) -> bool {
+    let mut at = body.first_use(value);
+    for place in body.uses(value) {
+        let Some(id) = at else {
+            return false;
+        };
+        if body.use_at(id) != place {
+            return false;
+        }
+        at = body.next_use(id);
+    }
+    at.is_none()
 }
 
 // The body after the changes of a run; none where one of them is made or not made against the table.
@@ -169,7 +192,8 @@ fn body_of(alloc: Global, run: &Run) -> Result<Option<Body>, AllocError> {
 // Whether a body is what a run gives.
 fn is_given(alloc: Global, run: &Run, body: &Body) -> Result<bool, AllocError> {
     for (operand, places) in run.uses {
-        if !is_used_at(body, value_of(*operand), places) {
+        let value = value_of(*operand);
+        if !is_used_at(body, value, places) || !is_walked(body, value) {
             return Ok(false);
         }
     }
@@ -204,5 +228,11 @@ fn operands_change_where_they_are_named(rt: HostRuntime) -> Result<(), Fail> {
 #[test]
 fn operations_stand_in_text_order(rt: HostRuntime) -> Result<(), Fail> {
     assert_eq!(rt; first_other(rt.alloc(), &ORDERS)?, None);
+    Ok(())
+}
+
+#[test]
+fn uses_follow_their_values(rt: HostRuntime) -> Result<(), Fail> {
+    assert_eq!(rt; first_other(rt.alloc(), &USES)?, None);
     Ok(())
 }

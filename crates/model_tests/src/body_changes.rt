@@ -49,7 +49,7 @@ pub struct Run {
     pub changes: &'static [(Change, bool)],
     /// The ids in text order, each with its operands.
     pub ops: &'static [(u32, &'static [Operand])],
-    /// Values, each with the operations and positions where it is used, in their order.
+    /// Values, each with the operations and positions where it is used.
     pub uses: &'static [(Operand, &'static [(u32, u32)])],
 }
 

@@ -18,6 +18,8 @@ mod runs;
 #[cfg(test)]
 mod short_lists;
 #[cfg(test)]
+mod use_changes;
+#[cfg(test)]
 mod value_rows;
 #[cfg(test)]
 mod values;

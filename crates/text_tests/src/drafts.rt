@@ -2,7 +2,7 @@
 use Operand::{Port, Result as Of, Undefined};
 use io_edge::byte_text::Text;
 use ir_store::body::Body;
-use ir_store::operation::{OpId, Value};
+use ir_store::operation::{OpId, UsePlace, Value};
 use mlir_operations::operation_text::operation_text;
 use mlir_reader::definitions::define_port;
 use mlir_reader::draft::Draft;
@@ -144,16 +144,26 @@ fn value_of(operand: Operand) -> Value {
     }
 }
 
-// whether a value is used at these operands of these operations alone
-fn is_used_at(body: &Body, operand: Operand, places: &[(u32, u32)]) -> bool {
-    let mut left = body.uses(value_of(operand));
+// whether one of the places is this operand
+fn is_among(place: UsePlace, places: &[(u32, u32)]) -> bool {
     for (op, at) in places {
-        match left.next() {
-            Some(place) if place.op.number() == *op && place.at == *at => {}
-            Some(_) | None => return false,
+        if place.op.number() == *op && place.at == *at {
+            return true;
         }
     }
-    left.next().is_none()
+    false
+}
+
+// whether a value is used at these operands of these operations alone
+fn is_used_at(body: &Body, operand: Operand, places: &[(u32, u32)]) -> bool {
+    let mut count = 0;
+    for place in body.uses(value_of(operand)) {
+        if count == places.len() || !is_among(place, places) {
+            return false;
+        }
+        count += 1;
+    }
+    count == places.len()
 }
 
 // whether the results of an operation have these marks
