@@ -1,11 +1,15 @@
 -- Values of which one takes the place of another, cell by cell.
-use Rattle.std.proofs.Common.{◌≡◌, ℕ, zero, suc, ◌<◌, Bool, true, false, cond, List, [], ◌∷◌, map, length, set, refl, ap, sym, ◌∙◌, arith}
-use Rattle.std.specs.Prelude.{Some, None}
+use Rattle.std.proofs.Common.{◌≡◌, ℕ, zero, suc, ◌<◌, Bool, true, false, cond, nat_eq, List, [], ◌∷◌, ◌++◌, map, length, get_or, set, refl, ap, sym, ◌∙◌, arith}
+use Rattle.std.specs.Prelude.{Option, Some, None}
+use Rattle.std.proofs.lemmas.List.{get_or-set_same, get_or-set_other, length-set}
+use Rattle.std.proofs.lemmas.Bool.{eqb-true, eqb-false}
 use Rattle.ir_store.specs.declared.operation.Value.{Value}
 use Rattle.ir_store.specs.BodyOps.{same_value, replace_value}
 use Rattle.ir_store.specs.Ids.{times}
-use Rattle.ir_store.specs.Chains.{once_if, cell_or_none}
-use Rattle.ir_store.specs.ChainedValues.{has_value}
+use Rattle.ir_store.specs.Chains.{once_if, cell_or_none, cut}
+use Rattle.ir_store.specs.ChainedValues.{has_value, cells_with}
+use Rattle.ir_store.specs.declared.operation.Value.TheVariants.{Undefined}
+use Rattle.ir_store.proofs.Chaining.{eq_self}
 use Rattle.ir_store.proofs.Linking.{first_there}
 use Rattle.ir_store.proofs.Seeking.{same_is}
 
@@ -82,3 +86,96 @@ is_once false h = absurd (omega (arith, h))
 pub is_never : (b : Bool) → 0 ≡ once_if b → b ≡ false
 is_never true h = absurd (omega (arith, h))
 is_never false h = refl
+
+-- a cell that has a value
+pub value_is : (v : Value) (zs : List Value) (c : ℕ) → has_value v zs c ≡ true → get_or zs c Undefined ≡ v
+value_is v [] c e = absurd (cc e)
+value_is v (z ∷ zs) zero e = sym (same_is v z e)
+value_is v (z ∷ zs) (suc c) e = value_is v zs c e
+
+-- the one after the first of some cells is the first of the others
+pub next_after : (c : ℕ) (cells : List ℕ) (next : Option ℕ) → cell_or_none cells ≡ Some c → ((xs ys : List ℕ) → cells ≡ xs ++ c ∷ ys → next ≡ cell_or_none ys) → next ≡ cell_or_none (cut c cells)
+next_after c [] next e f = absurd (cc e)
+next_after c (x ∷ cells) next e f =
+    let d : x ≡ c = cc e in
+    let t : nat_eq x c ≡ true = ap (λ w. nat_eq w c) d ∙ eq_self c in
+    f [] cells (ap (λ y. y ∷ cells) d) ∙ sym (ap (λ b. cell_or_none (cond b cells (x ∷ cut c cells))) t)
+
+-- ---- a cell that gets another value leaves the cells of the one that it had
+
+module _ (v to : Value) (xs : List Value) (cell : ℕ) (was : has_value v xs cell ≡ true) (other : same_value v to ≡ false) where
+  elsewhere : (d : ℕ) → (d ≡ cell → ⊥) → has_value v (set xs cell to) d ≡ has_value v xs d
+  elsewhere d n = go xs cell d n
+    where
+      go : (zs : List Value) (c e : ℕ) → (e ≡ c → ⊥) → has_value v (set zs c to) e ≡ has_value v zs e
+      go [] c e n = refl
+      go (z ∷ zs) zero zero n = absurd (n refl)
+      go (z ∷ zs) zero (suc e) n = refl
+      go (z ∷ zs) (suc c) zero n = refl
+      go (z ∷ zs) (suc c) (suc e) n = go zs c e (λ s. n (ap suc s))
+
+  here : has_value v (set xs cell to) cell ≡ false
+  here = go xs cell was
+    where
+      go : (zs : List Value) (c : ℕ) → has_value v zs c ≡ true → has_value v (set zs c to) c ≡ false
+      go [] c h = absurd (cc h)
+      go (z ∷ zs) zero h = other
+      go (z ∷ zs) (suc c) h = go zs c h
+
+  -- cells without the written one
+  without_it : (cells : List ℕ) → times cell cells ≡ 0 → cells_with v (set xs cell to) cells ≡ cells_with v xs cells
+  without_it [] e = refl
+  without_it (x ∷ cells) e = go (nat_eq x cell) refl e (without_it cells)
+    where
+      go : (b : Bool) → nat_eq x cell ≡ b → cond b (suc (times cell cells)) (times cell cells) ≡ 0 →
+          (times cell cells ≡ 0 → cells_with v (set xs cell to) cells ≡ cells_with v xs cells) → cells_with v (set xs cell to) (x ∷ cells) ≡ cells_with v xs (x ∷ cells)
+      go true t n r = absurd (omega (arith, n))
+      go false t n r =
+          ap (λ b. cond b (x ∷ cells_with v (set xs cell to) cells) (cells_with v (set xs cell to) cells)) (elsewhere x (eqb-false x cell t))
+          ∙ ap (λ zs. cond (has_value v xs x) (x ∷ zs) zs) (r n)
+
+  -- the written one left out
+  left_out : (cells : List ℕ) → times cell cells ≡ 1 → cells_with v (set xs cell to) (cut cell cells) ≡ cut cell (cells_with v xs cells)
+  left_out [] e = absurd (omega (arith, e))
+  left_out (x ∷ cells) e = go (nat_eq x cell) refl e (left_out cells)
+    where
+      keep : (b : Bool) → nat_eq x cell ≡ false → cond b (x ∷ cut cell (cells_with v xs cells)) (cut cell (cells_with v xs cells)) ≡ cut cell (cond b (x ∷ cells_with v xs cells) (cells_with v xs cells))
+      keep true t = sym (ap (λ s. cond s (cells_with v xs cells) (x ∷ cut cell (cells_with v xs cells))) t)
+      keep false t = refl
+
+      go : (b : Bool) → nat_eq x cell ≡ b → cond b (suc (times cell cells)) (times cell cells) ≡ 1 →
+          (times cell cells ≡ 1 → cells_with v (set xs cell to) (cut cell cells) ≡ cut cell (cells_with v xs cells)) →
+          cells_with v (set xs cell to) (cond b cells (x ∷ cut cell cells)) ≡ cut cell (cells_with v xs (x ∷ cells))
+      go true t n r =
+          let d : x ≡ cell = eqb-true x cell t in
+          let h : has_value v xs x ≡ true = ap (has_value v xs) d ∙ was in
+          without_it cells (omega (arith, n))
+          ∙ sym (ap (λ b. cut cell (cond b (x ∷ cells_with v xs cells) (cells_with v xs cells))) h ∙ ap (λ b. cond b (cells_with v xs cells) (x ∷ cut cell (cells_with v xs cells))) t)
+      go false t n r =
+          ap (λ b. cond b (x ∷ cells_with v (set xs cell to) (cut cell cells)) (cells_with v (set xs cell to) (cut cell cells))) (elsewhere x (eqb-false x cell t))
+          ∙ (ap (λ zs. cond (has_value v xs x) (x ∷ zs) zs) (r n) ∙ keep (has_value v xs x) t)
+
+  -- in the chains where the cell is in another one, or in front of the same one
+  pub moved : (chains : List (List ℕ)) (s t : ℕ) → s < length chains → t < length chains → times cell (get_or chains s []) ≡ 1 →
+      cells_with v (set xs cell to) (get_or (set (set chains s (cut cell (get_or chains s []))) t (cell ∷ get_or (set chains s (cut cell (get_or chains s []))) t [])) s []) ≡ cut cell (cells_with v xs (get_or chains s []))
+  moved chains s t s_in t_in once = go (nat_eq s t) refl
+    where
+      out : List (List ℕ)
+      out = set chains s (cut cell (get_or chains s []))
+
+      at_s : get_or out s [] ≡ cut cell (get_or chains s [])
+      at_s = get_or-set_same chains s (cut cell (get_or chains s [])) [] s_in
+
+      all_in : t < length out
+      all_in = omega (arith, t_in, length-set chains s (cut cell (get_or chains s [])))
+
+      go : (b : Bool) → nat_eq s t ≡ b → cells_with v (set xs cell to) (get_or (set out t (cell ∷ get_or out t [])) s []) ≡ cut cell (cells_with v xs (get_or chains s []))
+      go true e =
+          let d : s ≡ t = eqb-true s t e in
+          let q : get_or (set out t (cell ∷ get_or out t [])) s [] ≡ cell ∷ get_or out s [] =
+          ap (λ u. get_or (set out t (cell ∷ get_or out t [])) u []) d ∙ (get_or-set_same out t (cell ∷ get_or out t []) [] all_in ∙ ap (λ u. cell ∷ get_or out u []) (sym d)) in
+          ap (cells_with v (set xs cell to)) (q ∙ ap (λ zs. cell ∷ zs) at_s)
+          ∙ (ap (λ b. cond b (cell ∷ cells_with v (set xs cell to) (cut cell (get_or chains s []))) (cells_with v (set xs cell to) (cut cell (get_or chains s [])))) here ∙ left_out (get_or chains s []) once)
+      go false e =
+          ap (cells_with v (set xs cell to)) (get_or-set_other out t s (cell ∷ get_or out t []) [] (eqb-false s t e) ∙ at_s)
+          ∙ left_out (get_or chains s []) once

@@ -15,7 +15,6 @@ use Rattle.ir_store.specs.ChainedValues.{is_value, has_value}
 use Rattle.ir_store.specs.Uses.{same_place, use_times, use_some, live_use, use_of, live_cells, with_use, places_of}
 use Rattle.ir_store.proofs.BlockLists.{split, list_at}
 use Rattle.ir_store.proofs.Chaining.{eq_self}
-use Rattle.ir_store.proofs.Seeking.{same_is}
 
 -- ---- what a block has at a place
 
@@ -125,12 +124,6 @@ module _ (links : List Link) (xs : List Value) (os : List ℕ) (bs : List Block)
       tested : (t : Bool) → nat_le b.start c && nat_lt (c - b.start) b.len ≡ t → P
       tested true e = alive e (is_live_at links owner) refl
       tested false e = f (rw e refl)
-
--- a cell that has a value
-pub value_is : (v : Value) (zs : List Value) (c : ℕ) → has_value v zs c ≡ true → get_or zs c Undefined ≡ v
-value_is v [] c e = absurd (cc e)
-value_is v (z ∷ zs) zero e = sym (same_is v z e)
-value_is v (z ∷ zs) (suc c) e = value_is v zs c e
 
 -- the first of some cells that are uses
 pub live_head : (links : List Link) (os : List ℕ) (bs : List Block) (c : ℕ) (cells : List ℕ) → is_some (use_of links os bs c) ≡ true → live_cells links os bs (c ∷ cells) ≡ c ∷ live_cells links os bs cells

@@ -53,10 +53,10 @@ fn head_of(value: Value, heads: usize) -> usize
 }
 
 impl ChainedValues {
-    ghost use Rattle.std.specs.Prelude.{◌≡◌, ℕ, ◌<◌, ◌≤◌, ◌+◌, ◌-◌, ◌^◌, map, List, [], ◌∷◌, ◌++◌, length, min, take, slice_set, slice_index_or, Contains, IfOk, IfSome, IsOk, OnOk};
+    ghost use Rattle.std.specs.Prelude.{◌≡◌, ℕ, ◌<◌, ◌≤◌, ◌+◌, ◌-◌, ◌^◌, true, false, map, List, [], ◌∷◌, ◌++◌, length, min, take, slice_set, slice_index_or, Contains, IfOk, IfSome, IsOk, OnOk};
     ghost use Rattle.ir_store.specs.Ids.{times};
-    ghost use Rattle.ir_store.specs.BodyOps.{replace_value};
-    ghost use Rattle.ir_store.specs.Chains.{cell_or_none, once_if, has_head};
+    ghost use Rattle.ir_store.specs.BodyOps.{same_value, replace_value};
+    ghost use Rattle.ir_store.specs.Chains.{cell_or_none, once_if, has_head, cut};
     ghost use Rattle.ir_store.specs.ChainedValues.{has_value, cells_with, cells_of, rest_at, chain_near, head_at, head_of};
 
     /// No values. It takes no memory.
@@ -215,6 +215,8 @@ impl ChainedValues {
         requires { cell < length self.old.items }
         ensures items { self.new.items ≡ slice_set self.old.items cell value }
         ensures room { self.new.room ≡ self.old.room }
+        ensures gone { (v : Value) → has_value v self.old.items cell ≡ true → same_value v value ≡ false → cells_of v self.new ≡ cut cell (cells_of v self.old) }
+        ensures each { (v : Value) (other : ℕ) → times other (cells_of v self.new) ≡ once_if (has_value v self.new.items other) }
     {
         let heads = self.chains.head_count();
         self.chains
@@ -245,8 +247,7 @@ impl ChainedValues {
         self.values.truncate(cell);
     }
 
-    /// Puts `to` in the place of each `from`. Each of its cells is looked for from the front of its chain: linear where no
-    /// other value, `to` among them, has the same head, and else at most the square of the chain's cells.
+    /// Puts `to` in the place of each `from`. Linear in the chain of the head of `from`.
     pub fn replace(&mut self, from: Value, to: Value)
         ensures items { self.new.items ≡ map (replace_value from to) self.old.items }
         ensures room { self.new.room ≡ self.old.room }
@@ -254,7 +255,9 @@ impl ChainedValues {
         if is_same(from, to) {
             return;
         }
-        while let Some(cell) = self.first(from) {
+        let mut at = self.first(from);
+        while let Some(cell) = at {
+            at = self.next(from, cell);
             self.set(cell as usize, to);
         }
     }

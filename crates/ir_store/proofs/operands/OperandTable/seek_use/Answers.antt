@@ -6,7 +6,8 @@ use Rattle.ir_store.specs.ChainedValues.{cells_of, rest_at, has_value, chain_nea
 use Rattle.ir_store.specs.Uses.{use_of, live_cells}
 use Rattle.ir_store.proofs.Chaining.{once_at_most}
 use Rattle.ir_store.proofs.Seeking.{step, found_at, if_some, with_part}
-use Rattle.ir_store.proofs.UseCells.{value_is, live_head}
+use Rattle.ir_store.proofs.Replacing.{value_is}
+use Rattle.ir_store.proofs.UseCells.{live_head}
 use Rattle.ir_store.proofs.operands.OperandTable.seek_use.Goals as goal
 
 pub loop-at-init : goal.loop-at-init
