@@ -1,14 +1,12 @@
 //! Whether attributes can be read: which may stand where, how large integers are, how deep lists are nested.
 ghost use Rattle.std.specs.Prelude.{◌≡◌, ◌↔◌, map, IsTrue};
-ghost use Rattle.hw_model.specs.KindViews.{integer_of};
 ghost use Rattle.ir_store.specs.DictionaryViews.{attribute_of, attributes_of};
-ghost use Rattle.mlir_syntax.specs.AttributeText.{is_stored};
 ghost use Rattle.canonical_form.specs.Limits.{IsAttribute, AreAttributes, IsValue};
 
 use crate::bytes::are_bytes;
 use crate::types::is_type;
-use hw_model::kinds::Integer;
 use ir_store::dictionary::Attribute;
+use mlir_syntax::attribute_text::is_stored;
 use mlir_syntax::type_text::MOST_OPEN;
 
 /// Whether an attribute may be the value of a key, `of_string` saying whether the key's values are strings.
@@ -54,14 +52,4 @@ fn are_attributes(attributes: &[Attribute], room: u32) -> bool
         }
     }
     true
-}
-
-/// Whether an integer is one that a dictionary may hold: -2^63 to 2^64 - 1.
-fn is_stored(value: Integer) -> bool
-    ensures { result ≡ is_stored (integer_of value) }
-{
-    match value {
-        Integer::NonNegative(number) => number < 1 << 64,
-        Integer::Negative(number) => number < 1 << 63,
-    }
 }

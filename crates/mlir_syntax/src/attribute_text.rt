@@ -244,8 +244,8 @@ pub fn begins_integer(token: Token) -> bool
     is_kind(token.kind, TokenKind::Integer) || is_kind(token.kind, TokenKind::Minus)
 }
 
-// Whether an integer is one that a dictionary may hold.
-fn is_stored(value: Integer) -> bool
+/// Whether an integer is one that a dictionary may hold: -2^63 to 2^64 - 1.
+pub fn is_stored(value: Integer) -> bool
     ensures { result ≡ is_stored (integer_of value) }
 {
     match value {

@@ -17,7 +17,7 @@ use opcode::listed::Listed;
 use std::alloc::{AllocError, Global};
 
 /// Takes a design in canonical form of which nothing is refused. It is dropped where something is, and where memory is wanting.
-/// What is read is in canonical form; of a design that is built otherwise its maker shows it.
+/// What is read is in canonical form; who builds a design otherwise may ask `is_canonical` of `canonical_form`.
 pub fn verify(alloc: Global, design: Design) -> Result<Verified, VerifyFail>
     requires { IsCanonical (design_of design) }
     ensures ok { IfOk result (λ v. modules_verified v ≡ modules_of design) }
