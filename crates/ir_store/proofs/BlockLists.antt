@@ -42,8 +42,8 @@ pub block_same : (xs ys : List Value) (b c : Block) → c.len ≡ b.len → b.st
 block_same xs ys b c e h g each =
     ext_get_or Undefined (block_list ys c) (block_list xs b) (omega (arith, block_length xs b h, block_length ys c g, e))
     (λ k l.
-      let m : k < b.len = omega (arith, l, block_length ys c g, e) in
-      block_read ys c k (omega (arith, m, e)) ∙ (each k m ∙ sym (block_read xs b k m)))
+    let m : k < b.len = omega (arith, l, block_length ys c g, e) in
+    block_read ys c k (omega (arith, m, e)) ∙ (each k m ∙ sym (block_read xs b k m)))
 
 -- ---- all blocks
 
@@ -228,9 +228,9 @@ module _ (xs : List Value) (os : List ℕ) (bs : List Block) (live : ℕ) (ok : 
       let here : block_list ys b ≡ remove (block_list xs old) spot =
       ext_get_or Undefined (block_list ys b) (remove (block_list xs old) spot) size
       (λ k g.
-        let q : k < b.len = omega (arith, g, block_length ys b fits) in
-        let u : k + 1 < old.len = omega (arith, q, m) in
-        block_read ys b k q ∙ (ap (λ (z : ℕ). get_or ys (z + k) Undefined) s ∙ split k spot (in_front k) (λ v. behind k v u))) in
+      let q : k < b.len = omega (arith, g, block_length ys b fits) in
+      let u : k + 1 < old.len = omega (arith, q, m) in
+      block_read ys b k q ∙ (ap (λ (z : ℕ). get_or ys (z + k) Undefined) s ∙ split k spot (in_front k) (λ v. behind k v u))) in
       lists_update xs ys bs i b (remove (get_or (lists_in xs bs) i []) spot) h (here ∙ ap (λ z. remove z spot) (sym (list_at xs bs i)))
       (others_kept ys i e (λ c o. others c (λ p q. o (omega (arith, p, f)) (omega (arith, q, t, l)))))
 
@@ -243,8 +243,8 @@ module _ (xs : List Value) (os : List ℕ) (bs : List Block) (live : ℕ) (ok : 
     own =
         λ j. at_set bs i j b h (λ q d. (k : ℕ) → k < d.len → get_or (os ++ replicate n i) (d.start + k) none ≡ q)
         (λ k m.
-          let at : b.start + k ≡ length os + k = omega (arith, s, same) in
-          ap (λ z. get_or (os ++ replicate n i) z none) at ∙ (get_or-append-add os (replicate n i) k none ∙ get_or-replicate n k i none (omega (arith, m, l))))
+        let at : b.start + k ≡ length os + k = omega (arith, s, same) in
+        ap (λ z. get_or (os ++ replicate n i) z none) at ∙ (get_or-append-add os (replicate n i) k none ∙ get_or-replicate n k i none (omega (arith, m, l))))
         (λ _ k m. get_or_append_left os (replicate n i) none ((block_at bs j).start + k) (omega (arith, m, ok.within j, same)) ∙ ok.own j k m);
     count = omega (arith, total_set bs i b h, ok.count, none_there, l, more);
     fits = omega (arith, length-append xs zs, ok.fits, e, more);

@@ -1,12 +1,12 @@
 -- Blocks that are put into cells again, one after another.
-use Rattle.std.proofs.Common.{◌≡◌, ℕ, zero, suc, ◌+◌, ◌-◌, ◌<◌, ◌≤◌, List, [], ◌∷◌, ◌++◌, length, take, drop, get_or, set, replicate, refl, ap, sym, ◌∙◌, arith, length-append}
-use Rattle.std.proofs.lemmas.List.{get_or_append_left, get_or-append-add, get_or-replicate, get_or-set_same, get_or-set_other, get_or_past, ext_get_or, length-set, take_all}
+use Rattle.std.proofs.Common.{◌≡◌, ℕ, zero, suc, ◌+◌, ◌<◌, ◌≤◌, List, [], ◌∷◌, ◌++◌, length, take, drop, get_or, set, replicate, refl, ap, sym, ◌∙◌, arith, length-append}
+use Rattle.std.proofs.lemmas.List.{get_or_append_left, get_or-append-add, get_or-replicate, get_or-set_other, get_or_past, ext_get_or, length-set, take_all}
 use Rattle.ir_store.specs.declared.operands.Block.{Block}
 use Rattle.ir_store.specs.declared.operation.Value.{Value}
 use Rattle.ir_store.specs.declared.operation.Value.TheVariants.{Undefined}
 use Rattle.ir_store.specs.Links.{none}
 use Rattle.ir_store.specs.Blocks.{AreBlocks, no_block, block_at, block_list, lists_in, total}
-use Rattle.ir_store.proofs.BlockLists.{split, block_length, block_read, block_same, list_at, lists_count, at_set, total_more, total_part}
+use Rattle.ir_store.proofs.BlockLists.{split, block_length, block_same, list_at, lists_count, at_set, total_more, total_part}
 
 -- the first n blocks are in the cells, and the others are as they were
 pub record Refilled (from : List Value) (bs : List Block) (n : ℕ) (xs : List Value) (os : List ℕ) (cs : List Block) : Type 0 where
@@ -51,8 +51,8 @@ module _ (from : List Value) (bs : List Block) (n : ℕ) (xs : List Value) (os :
         own =
             λ i. at_set cs n i b there (λ q d. q < n + 1 → (k : ℕ) → k < d.len → get_or (os ++ replicate m n) (d.start + k) none ≡ q)
             (λ q k u.
-              let at : b.start + k ≡ length os + k = omega (arith, s, same) in
-              ap (λ w. get_or (os ++ replicate m n) w none) at ∙ (get_or-append-add os (replicate m n) k none ∙ get_or-replicate m k n none (omega (arith, u, size, e))))
+            let at : b.start + k ≡ length os + k = omega (arith, s, same) in
+            ap (λ w. get_or (os ++ replicate m n) w none) at ∙ (get_or-append-add os (replicate m n) k none ∙ get_or-replicate m k n none (omega (arith, u, size, e))))
             (λ o q k u. get_or_append_left os (replicate m n) none ((block_at cs i).start + k) (omega (arith, u, r.within i (old i q o), same)) ∙ r.own i (old i q o) k u);
         rest = λ i q. get_or-set_other cs n i b no_block (λ o. omega (arith, q, o)) ∙ r.rest i (omega (arith, q));
         cells = omega (arith, longer, r.cells, total_more bs n, size, l, r.lens n);

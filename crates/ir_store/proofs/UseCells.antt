@@ -1,20 +1,14 @@
 -- The places of cells among the operands of live operations.
-use Rattle.std.proofs.Common.{◌≡◌, ℕ, zero, suc, ◌+◌, ◌-◌, ◌<◌, ◌≤◌, Bool, true, false, cond, nat_eq, List, [], ◌∷◌, map, length, take, drop, get_or, refl, ap, sym, ◌∙◌, arith}
+use Rattle.std.proofs.Common.{◌≡◌, ℕ, zero, suc, ◌+◌, ◌-◌, ◌<◌, ◌≤◌, Bool, true, false, cond, nat_eq, List, [], ◌∷◌, map, take, drop, get_or, refl, ap, sym, ◌∙◌, arith}
 use Rattle.std.specs.Prelude.{Option, Some, None, ◌&&◌, nat_le, nat_lt, is_some, slice_get}
-use Rattle.std.proofs.lemmas.Bool.{eqb-true, eqb-false, le-leb, leb-true, lt-ltb, ltb-true}
+use Rattle.std.proofs.lemmas.Bool.{eqb-true, le-leb, leb-true, lt-ltb, ltb-true}
 use Rattle.ir_store.specs.declared.links.Link.{Link}
 use Rattle.ir_store.specs.declared.operands.Block.{Block}
 use Rattle.ir_store.specs.declared.operation.UsePlace.{UsePlace}
 use Rattle.ir_store.specs.declared.operation.Value.{Value}
-use Rattle.ir_store.specs.declared.operation.Value.TheVariants.{Undefined}
-use Rattle.ir_store.specs.Ids.{times}
 use Rattle.ir_store.specs.Links.{none, is_live_at}
-use Rattle.ir_store.specs.Chains.{once_if}
-use Rattle.ir_store.specs.Blocks.{AreBlocks, block_at, block_list, lists_in, place_within}
-use Rattle.ir_store.specs.ChainedValues.{is_value, has_value}
-use Rattle.ir_store.specs.Uses.{same_place, use_times, use_some, live_use, use_of, live_cells, with_use, places_of}
-use Rattle.ir_store.proofs.BlockLists.{split, list_at}
-use Rattle.ir_store.proofs.Chaining.{eq_self}
+use Rattle.ir_store.specs.Blocks.{AreBlocks, block_at, block_list, place_within}
+use Rattle.ir_store.specs.Uses.{use_times, use_some, live_use, use_of, live_cells, with_use, places_of}
 
 -- ---- what a block has at a place
 

@@ -1,5 +1,5 @@
 -- How often a place stands among uses.
-use Rattle.std.proofs.Common.{◌≡◌, ℕ, zero, suc, ◌+◌, ◌-◌, ◌<◌, ◌≤◌, Bool, true, false, cond, nat_eq, List, [], ◌∷◌, ◌++◌, map, length, get_or, refl, ap, sym, ◌∙◌, arith}
+use Rattle.std.proofs.Common.{◌≡◌, ℕ, zero, suc, ◌+◌, ◌<◌, ◌≤◌, Bool, true, false, cond, nat_eq, List, [], ◌∷◌, ◌++◌, map, get_or, refl, ap, sym, ◌∙◌, arith}
 use Rattle.std.specs.Prelude.{Option, Some, None, ◌&&◌}
 use Rattle.std.proofs.lemmas.Bool.{eqb-true, eqb-false}
 use Rattle.ir_store.specs.declared.links.Link.{Link}
@@ -16,7 +16,7 @@ use Rattle.ir_store.specs.BodyOps.{stored_op, same_value}
 use Rattle.ir_store.specs.Uses.{use_at, places_in, uses_in, same_place, use_times, use_of, with_use, places_of}
 use Rattle.ir_store.proofs.BlockLists.{split, list_at}
 use Rattle.ir_store.proofs.Chaining.{eq_self}
-use Rattle.ir_store.proofs.UseCells.{IsUse, used, use_there, block_get, block_past}
+use Rattle.ir_store.proofs.UseCells.{used, use_there, block_get, block_past}
 
 -- ---- among the cells of a chain
 

@@ -1,5 +1,5 @@
 -- Lists of operands that lie in blocks of cells.
-use Rattle.std.specs.Prelude.{◌≡◌, ℕ, ◌+◌, ◌-◌, ◌<◌, ◌≤◌, ◌&&◌, Bool, cond, nat_le, nat_lt, List, [], ◌∷◌, Option, Some, None, length, map, min, take, drop, slice_index_or}
+use Rattle.std.specs.Prelude.{◌≡◌, ℕ, ◌+◌, ◌-◌, ◌<◌, ◌≤◌, ◌&&◌, cond, nat_le, nat_lt, List, [], ◌∷◌, Option, Some, None, length, map, min, take, drop, slice_index_or}
 use Rattle.std.specs.Vec.{vec_capacity}
 use Rattle.ir_store.specs.declared.cells.Cells.{Cells}
 use Rattle.ir_store.specs.declared.operands.Block.{Block}

@@ -7,7 +7,9 @@ ghost use Rattle.ir_store.specs.BodyOps.{place_before};
 use crate::dictionary::Dictionary;
 use crate::links::{Link, next_of};
 use crate::operands::OperandTable;
-use crate::operation::{NewOp, NewResultList, OpId, Parts, TyList, UseId, UsePlace, Value, copied_parts};
+use crate::operation::{
+    NewOp, NewResultList, OpId, Parts, TyList, UseId, UsePlace, Value, copied_parts,
+};
 use crate::order::Order;
 use crate::uses::Uses;
 use diag::refusal::Place;

@@ -613,7 +613,11 @@ impl OperandTable {
         ensures { result ≡ use_of links.now self.now.owners self.now.blocks cell }
     {
         match self.place_of(cell) {
-            Some(place) => if is_live(links, place.op.index) { Some(place) } else { None },
+            Some(place) => if is_live(links, place.op.index) {
+                Some(place)
+            } else {
+                None
+            },
             None => None,
         }
     }

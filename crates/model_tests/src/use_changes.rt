@@ -40,8 +40,15 @@ pub const USES: [Run; 6] = [
             ),
             (Erase { op: 0 }, false),
         ],
-        ops: &[(0, &[Port(1), Sum(0), Port(1)]), (1, &[Sum(0), Sum(0), Port(1)])],
-        uses: &[(Sum(0), &[(0, 1), (1, 0), (1, 1)]), (Port(1), &[(0, 0), (0, 2), (1, 2)]), (Port(0), &[])],
+        ops: &[
+            (0, &[Port(1), Sum(0), Port(1)]),
+            (1, &[Sum(0), Sum(0), Port(1)]),
+        ],
+        uses: &[
+            (Sum(0), &[(0, 1), (1, 0), (1, 1)]),
+            (Port(1), &[(0, 0), (0, 2), (1, 2)]),
+            (Port(0), &[]),
+        ],
     },
     // what nothing defines is used by operands alone, whatever was taken out
     Run {
@@ -77,7 +84,11 @@ pub const USES: [Run; 6] = [
             ),
         ],
         ops: &[(1, &[Port(0), Port(0)]), (0, &[Undefined])],
-        uses: &[(Port(0), &[(1, 0), (1, 1)]), (Undefined, &[(0, 0)]), (Port(2), &[])],
+        uses: &[
+            (Port(0), &[(1, 0), (1, 1)]),
+            (Undefined, &[(0, 0)]),
+            (Port(2), &[]),
+        ],
     },
     // an operation taken out in the middle, and another put there
     Run {
@@ -112,8 +123,15 @@ pub const USES: [Run; 6] = [
                 true,
             ),
         ],
-        ops: &[(0, &[Port(0), Port(1)]), (1, &[Port(1), Port(1), Port(1)]), (2, &[Port(1), Port(0)])],
-        uses: &[(Port(1), &[(0, 1), (1, 0), (1, 1), (1, 2), (2, 0)]), (Port(0), &[(0, 0), (2, 1)])],
+        ops: &[
+            (0, &[Port(0), Port(1)]),
+            (1, &[Port(1), Port(1), Port(1)]),
+            (2, &[Port(1), Port(0)]),
+        ],
+        uses: &[
+            (Port(1), &[(0, 1), (1, 0), (1, 1), (1, 2), (2, 0)]),
+            (Port(0), &[(0, 0), (2, 1)]),
+        ],
     },
     // operands put in before those of the next operation
     Run {
@@ -159,7 +177,11 @@ pub const USES: [Run; 6] = [
             (DropAt { op: 0, at: 2 }, true),
         ],
         ops: &[(0, &[Port(3), Port(0), Port(1)]), (1, &[Port(2), Port(0)])],
-        uses: &[(Port(0), &[(0, 1), (1, 1)]), (Port(2), &[(1, 0)]), (Port(3), &[(0, 0)])],
+        uses: &[
+            (Port(0), &[(0, 1), (1, 1)]),
+            (Port(2), &[(1, 0)]),
+            (Port(3), &[(0, 0)]),
+        ],
     },
     // a value in its own place
     Run {

@@ -1,8 +1,8 @@
-use Rattle.std.proofs.Common.{◌≡◌, ◌+◌, ◌≤◌, ◌<◌, length, take, drop, ap, sym, refl, ◌∙◌, arith, length-append}
+use Rattle.std.proofs.Common.{◌≡◌, length, ap, refl, ◌∙◌, arith, length-append}
 use Rattle.ir_store.specs.declared.operands.Block.{Block}
 use Rattle.ir_store.specs.Blocks.{block_at, block_list}
-use Rattle.ir_store.proofs.BlockLists.{block_is, block_length}
-use Rattle.ir_store.proofs.Refilling.{Refilled, refilled_none, refilled_more, refilled_all, refilled_lists, refilled_room}
+use Rattle.ir_store.proofs.BlockLists.{block_length}
+use Rattle.ir_store.proofs.Refilling.{refilled_none, refilled_more, refilled_all, refilled_lists, refilled_room}
 use Rattle.ir_store.proofs.operands.refill_blocks.Goals as goal
 
 pub loop-i-init : goal.loop-i-init

@@ -1,7 +1,4 @@
-use Rattle.std.proofs.Common.{◌≡◌, ◌<◌, ◌≤◌, ◌+◌, ℕ, true, false, Bool, nat_eq, length, get_or, set, ap, refl, sym, arith, ◌∙◌}
-use Rattle.std.proofs.lemmas.List.{get_or-set_other, get_or-set_same, get_or_default, length-set}
-use Rattle.std.proofs.lemmas.Bool.{eqb-true, eqb-false}
-use Rattle.ir_store.specs.declared.operation.Value.TheVariants.{Undefined}
+use Rattle.std.proofs.Common.{length, ap, refl, arith}
 use Rattle.ir_store.proofs.cells.Cells.close_gap.Goals as goal
 
 pub loop-cell-init : goal.loop-cell-init

@@ -6,5 +6,5 @@ abbrev pub invariant-loop-cell : goal.invariant-loop-cell
 invariant-loop-cell l =
     (length l.self.values.items ≡ length l.fn.self.values.items)
     × (((d : ℕ) → (l.first ≤ d → d < l.cell → ⊥) → get_or l.self.values.items d Undefined ≡ get_or l.fn.self.values.items d Undefined)
-      × (((d : ℕ) → l.first ≤ d → d < l.cell → get_or l.self.values.items d Undefined ≡ get_or l.fn.self.values.items (d + 1) Undefined)
-        × ((l.self.owners ≡ l.fn.self.owners) × (l.self.values.room ≡ l.fn.self.values.room))))
+    × (((d : ℕ) → l.first ≤ d → d < l.cell → get_or l.self.values.items d Undefined ≡ get_or l.fn.self.values.items (d + 1) Undefined)
+    × ((l.self.owners ≡ l.fn.self.owners) × (l.self.values.room ≡ l.fn.self.values.room))))

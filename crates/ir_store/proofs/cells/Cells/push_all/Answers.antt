@@ -1,4 +1,4 @@
-use Rattle.std.proofs.Common.{◌≡◌, ◌≤◌, ◌+◌, ◌++◌, length, take, replicate, sym, ap, ◌∙◌, arith}
+use Rattle.std.proofs.Common.{◌≡◌, ◌≤◌, ◌++◌, length, take, replicate, sym, ap, ◌∙◌, arith}
 use Rattle.std.proofs.lemmas.List.{append-nil, append_assoc, take_more, take_all, replicate_more}
 use Rattle.ir_store.proofs.cells.Cells.push_all.Goals as goal
 
@@ -11,10 +11,10 @@ push-requires c = omega (arith, c.loop-value.invariant.1.1, c.requires, c.loop-v
 pub loop-value-preserved : goal.loop-value-preserved
 loop-value-preserved c = (
   rw (c.push.ensures.values, c.loop-value.invariant.0)
-  (append_assoc c.args.self.now.values.items (take c.loop-value.value-index c.args.list.now) _ ∙ ap (λ zs. c.args.self.now.values.items ++ zs) (sym (take_more c.args.list.now c.loop-value.value-index _ c.loop-value-test.true))),
+      (append_assoc c.args.self.now.values.items (take c.loop-value.value-index c.args.list.now) _ ∙ ap (λ zs. c.args.self.now.values.items ++ zs) (sym (take_more c.args.list.now c.loop-value.value-index _ c.loop-value-test.true))),
   (
     rw (c.push.ensures.owners, c.loop-value.invariant.1.0)
-    (append_assoc c.args.self.now.owners.items (replicate c.loop-value.value-index c.args.owner) _ ∙ ap (λ zs. c.args.self.now.owners.items ++ zs) (replicate_more c.loop-value.value-index c.args.owner)),
+        (append_assoc c.args.self.now.owners.items (replicate c.loop-value.value-index c.args.owner) _ ∙ ap (λ zs. c.args.self.now.owners.items ++ zs) (replicate_more c.loop-value.value-index c.args.owner)),
     omega (arith, c.push.ensures.room, c.loop-value.invariant.1.1),
   ),
 )

@@ -1,4 +1,4 @@
-use Rattle.std.proofs.Common.{◌≡◌, ◌<◌, ℕ, length, ap, refl, arith, ◌∙◌}
+use Rattle.std.proofs.Common.{length, ap, refl, arith, ◌∙◌}
 use Rattle.std.proofs.lemmas.List.{get_or-set_other, length-set}
 use Rattle.ir_store.specs.declared.operation.Value.TheVariants.{Undefined}
 use Rattle.ir_store.proofs.cells.Cells.wipe.Goals as goal
@@ -14,9 +14,9 @@ loop-cell-preserved c = (
   ap length c.set.ensures.values ∙ (length-set c.loop-cell.self.values.items c.loop-cell.cell _ ∙ c.loop-cell.invariant.0),
   (
     (λ d n.
-      rw c.set.ensures.values
-      (get_or-set_other c.loop-cell.self.values.items c.loop-cell.cell d _ Undefined (λ e. n (omega (arith, e, c.loop-cell.auto.cell)) (omega (arith, e)))
-      ∙ c.loop-cell.invariant.1.0 d (λ p q. n p (omega (arith, q))))),
+        rw c.set.ensures.values
+        (get_or-set_other c.loop-cell.self.values.items c.loop-cell.cell d _ Undefined (λ e. n (omega (arith, e, c.loop-cell.auto.cell)) (omega (arith, e)))
+        ∙ c.loop-cell.invariant.1.0 d (λ p q. n p (omega (arith, q))))),
     (c.set.ensures.owners ∙ c.loop-cell.invariant.1.1.0, c.set.ensures.room ∙ c.loop-cell.invariant.1.1.1),
   ),
 )

@@ -6,4 +6,4 @@ abbrev pub invariant-loop-cell : goal.invariant-loop-cell
 invariant-loop-cell l =
     (length l.self.values.items ≡ length l.fn.self.values.items)
     × (((d : ℕ) → (l.start ≤ d → d < l.cell → ⊥) → get_or l.self.values.items d Undefined ≡ get_or l.fn.self.values.items d Undefined)
-      × ((l.self.owners ≡ l.fn.self.owners) × (l.self.values.room ≡ l.fn.self.values.room)))
+    × ((l.self.owners ≡ l.fn.self.owners) × (l.self.values.room ≡ l.fn.self.values.room)))

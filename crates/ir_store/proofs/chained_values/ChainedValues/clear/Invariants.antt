@@ -1,4 +1,4 @@
-use Rattle.std.proofs.Common.{◌≡◌, ◌+◌, ◌-◌, length, take}
+use Rattle.std.proofs.Common.{◌≡◌, ◌+◌, length}
 use Rattle.ir_store.proofs.chained_values.ChainedValues.clear.Given as goal
 
 abbrev pub invariant-loop : goal.invariant-loop

@@ -1,4 +1,4 @@
-use Rattle.std.proofs.Common.{◌≡◌, ◌<◌, ℕ, true, false, length, refl, ap, sym, ◌∙◌, arith}
+use Rattle.std.proofs.Common.{◌≡◌, ℕ, true, false, refl, ap, sym, ◌∙◌, arith}
 use Rattle.ir_store.specs.BodyOps.{same_value}
 use Rattle.ir_store.specs.Chains.{cell_or_none}
 use Rattle.ir_store.specs.ChainedValues.{cells_of, has_value}

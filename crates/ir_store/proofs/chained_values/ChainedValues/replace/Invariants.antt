@@ -10,7 +10,7 @@ abbrev pub invariant-loop-at : goal.invariant-loop-at
 invariant-loop-at l =
     (map (replace_value l.from l.to) l.self.items ≡ map (replace_value l.from l.to) l.fn.self.items)
     × ((l.self.room ≡ l.fn.self.room)
-      × ((l.at ≡ cell_or_none (cells_of l.from l.self)) × ((d : ℕ) → times d (cells_of l.from l.self) ≡ once_if (has_value l.from l.self.items d))))
+    × ((l.at ≡ cell_or_none (cells_of l.from l.self)) × ((d : ℕ) → times d (cells_of l.from l.self) ≡ once_if (has_value l.from l.self.items d))))
 
 abbrev pub decreases-loop-at : goal.decreases-loop-at
 decreases-loop-at l = value_count l.from l.self.items

@@ -1,5 +1,5 @@
-use Rattle.std.proofs.Common.{◌≡◌, ◌+◌, ◌≤◌, ◌<◌, ◌^◌, [], ◌∷◌, length, refl, arith, length-append}
-use Rattle.ir_store.specs.Blocks.{OperandLists, no_block}
+use Rattle.std.proofs.Common.{[], ◌∷◌, refl, arith, length-append}
+use Rattle.ir_store.specs.Blocks.{no_block}
 use Rattle.ir_store.proofs.BlockLists.{blocks_pushed, list_pushed, lists_count}
 use Rattle.ir_store.proofs.operands.OperandTable.add_empty.Goals as goal
 

@@ -1,4 +1,4 @@
-use Rattle.std.proofs.Common.{◌≡◌, ◌<◌, [], length, sym, ◌∙◌, ap, arith}
+use Rattle.std.proofs.Common.{◌≡◌, [], length, sym, ◌∙◌, ap, arith}
 use Rattle.ir_store.specs.Blocks.{OperandLists}
 use Rattle.ir_store.proofs.BlockLists.{lists_count}
 use Rattle.ir_store.proofs.IdLemmas.{put_at_set, below_unless}

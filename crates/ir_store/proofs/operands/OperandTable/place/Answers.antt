@@ -1,4 +1,4 @@
-use Rattle.std.proofs.Common.{◌≡◌, ◌+◌, ◌-◌, ◌≤◌, ◌<◌, length, ap, refl, arith, length-append, length-set}
+use Rattle.std.proofs.Common.{◌≡◌, ◌+◌, ◌-◌, length, ap, refl, arith, length-append, length-set}
 use Rattle.ir_store.specs.declared.operands.Block.{Block}
 use Rattle.ir_store.specs.Blocks.{OperandLists, block_at}
 use Rattle.ir_store.proofs.BlockLists.{in_blocks, length_at, blocks_placed, list_placed}
@@ -13,7 +13,7 @@ invariant_of-self c =
     let nb : Block = record { start = c.end-start.result; len = c.end.result - c.end-start.result } in
     rw (c.push_all.ensures.values, c.push_all.ensures.owners) (
       blocks_placed c.self.inside.cells.values.items c.self.inside.cells.owners.items c.self.inside.blocks.items c.self.inside.live c.self.invariant.0 c.args.i nb c.args.list.now (length c.args.list.now) (c.self.inside.live + length c.args.list.now) c.self.inside.cells.same h empty c.end-start.ensures
-      (omega (arith, c.end-start.ensures, c.end.ensures, ap length c.push_all.ensures.values, more)) refl refl,
+          (omega (arith, c.end-start.ensures, c.end.ensures, ap length c.push_all.ensures.values, more)) refl refl,
       (omega (arith, more, tail, c.self.invariant.1.0), omega (arith, length-set c.self.inside.blocks.items c.args.i nb, c.self.invariant.1.1)),
     )
 

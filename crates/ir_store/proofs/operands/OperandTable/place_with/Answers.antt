@@ -1,4 +1,4 @@
-use Rattle.std.proofs.Common.{◌≡◌, ◌+◌, ◌-◌, ◌≤◌, ◌<◌, List, length, set, take, drop, ap, sym, refl, ◌∙◌, arith, length-append, length-set, length-take, length-drop}
+use Rattle.std.proofs.Common.{◌≡◌, ◌+◌, ◌-◌, List, length, set, take, drop, ap, sym, ◌∙◌, arith, length-append, length-set, length-take, length-drop}
 use Rattle.std.specs.Prelude.{insert}
 use Rattle.std.proofs.lemmas.List.Edits.{length-insert}
 use Rattle.ir_store.specs.declared.operation.Value.{Value}
@@ -22,7 +22,7 @@ invariant_of-self c =
     let nb : Block = record { start = c.end-first.result; len = c.end.result - c.end-first.result } in
     rw (values, owners) (
       blocks_placed c.self.inside.cells.values.items c.self.inside.cells.owners.items c.self.inside.blocks.items c.self.inside.live c.self.invariant.0 c.args.i nb (insert kept c.args.at c.args.value) (length kept + 1) (c.self.inside.live + (c.args.count + 1)) c.self.inside.cells.same h empty c.end-first.ensures
-      (omega (arith, c.end-first.ensures, c.end.ensures, ap length values, more, longer)) (sym longer) (omega (arith, size)),
+          (omega (arith, c.end-first.ensures, c.end.ensures, ap length values, more, longer)) (sym longer) (omega (arith, size)),
       (omega (arith, more, longer, size, tail, c.self.invariant.1.0), omega (arith, length-set c.self.inside.blocks.items c.args.i nb, c.self.invariant.1.1)),
     )
 

@@ -1,6 +1,6 @@
-use Rattle.std.proofs.Common.{◌≡◌, ◌+◌, ◌-◌, ◌≤◌, ◌<◌, length, ap, sym, refl, ◌∙◌, arith, length-set}
+use Rattle.std.proofs.Common.{◌≡◌, ◌+◌, ◌-◌, ap, sym, refl, arith, length-set}
 use Rattle.ir_store.specs.declared.operands.Block.{Block}
-use Rattle.ir_store.specs.Blocks.{OperandLists, AreBlocks, block_at, cell_room}
+use Rattle.ir_store.specs.Blocks.{OperandLists, cell_room}
 use Rattle.ir_store.proofs.BlockLists.{block_is, in_blocks, block_le, blocks_shrunk, list_removed, length_at}
 use Rattle.ir_store.proofs.operands.OperandTable.remove.Goals as goal
 
@@ -20,7 +20,7 @@ invariant_of-self c =
     let nb : Block = record { start = c.index_mut.result.now.start; len = c.index-block.result.now.len - 1 } in
     rw c.close_gap.ensures.owners (
       blocks_shrunk c.self.inside.cells.values.items c.self.inside.cells.owners.items c.self.inside.blocks.items c.self.inside.live c.self.invariant.0 c.close_gap.new.self.values.items c.args.i nb (c.self.inside.live - 1) c.close_gap.ensures.count h (sym (ap (λ (d : Block). d.start) w)) (omega (arith, ap (λ (d : Block). d.len) b))
-      (omega (arith, block_le c.self.inside.blocks.items c.args.i, ap (λ (d : Block). d.len) b, c.self.invariant.0.count, long, place)),
+          (omega (arith, block_le c.self.inside.blocks.items c.args.i, ap (λ (d : Block). d.len) b, c.self.invariant.0.count, long, place)),
       (omega (arith, c.close_gap.ensures.count, c.self.invariant.1.0), omega (arith, length-set c.self.inside.blocks.items c.args.i nb, c.self.invariant.1.1)),
     )
 

@@ -1,6 +1,5 @@
-use Rattle.std.proofs.Common.{◌≡◌, map, length, arith}
 use Rattle.ir_store.specs.BodyOps.{replace_value}
-use Rattle.ir_store.proofs.BlockLists.{lists_mapped, blocks_mapped}
+use Rattle.ir_store.proofs.BlockLists.{lists_mapped}
 use Rattle.ir_store.proofs.operands.OperandTable.replace.Goals as goal
 
 pub returns-clause-lists : goal.returns-clause-lists

@@ -1,5 +1,5 @@
-use Rattle.std.proofs.Common.{◌≡◌, ◌≤◌, ℕ, Bool, true, false, cond, List, ◌∷◌, length, refl, ap, sym, ◌∙◌, arith}
-use Rattle.std.specs.Prelude.{Some, Contains, is_some}
+use Rattle.std.proofs.Common.{◌≡◌, ◌≤◌, ℕ, true, false, cond, ◌∷◌, refl, ap, sym, ◌∙◌, arith}
+use Rattle.std.specs.Prelude.{Contains, is_some}
 use Rattle.ir_store.specs.Ids.{times}
 use Rattle.ir_store.specs.Chains.{cell_or_none}
 use Rattle.ir_store.specs.ChainedValues.{cells_of, rest_at, has_value, chain_near}

@@ -1,5 +1,4 @@
-use Rattle.std.proofs.Common.{◌≡◌, ◌+◌, ◌<◌, length, ap, arith}
-use Rattle.ir_store.specs.declared.operands.Block.{Block}
+use Rattle.std.proofs.Common.{ap, arith}
 use Rattle.ir_store.specs.Blocks.{OperandLists}
 use Rattle.ir_store.proofs.BlockLists.{block_is, in_blocks, length_at, list_set}
 use Rattle.ir_store.proofs.operands.OperandTable.set.Goals as goal
