@@ -10,6 +10,10 @@ pub record Accepted (bytes : List ℕ) (d : Design) : Type 0 where
   pub says : read bytes ≡ Ok d
   pub accepted : IsAccepted d
 
+-- the bytes say some design, of which nothing is refused
+abbrev pub IsAcceptedText : List ℕ → Type 0
+IsAcceptedText bytes = (d : Design) × Accepted bytes d
+
 -- the first refusal: of the text, or else of the design that it says
 pub data IsRefused (bytes : List ℕ) : Refusal → Type 0 where
   unread : (r : Refusal) → read bytes ≡ Err r → IsRefused bytes r

@@ -7,7 +7,7 @@ use Rattle.command_line.specs.Line.Work.{mlir, mlir_pieces, verilog}
 use Rattle.export_verilog.specs.Aggregates.{HasNoAggregates}
 use Rattle.pass_pipeline.specs.declared.pass.Pass.{Pass}
 use Rattle.pass_manager.specs.Results.{result}
-use Rattle.circt_top.specs.Accepting.{Accepted, IsRefusedIn, first_input}
+use Rattle.circt_top.specs.Accepting.{Accepted, IsAcceptedText, IsRefusedIn, first_input}
 use Rattle.circt_top.specs.Reprint.{IsReprint}
 use Rattle.circt_top.specs.PieceReprint.{IsReprintOfPieces, IsRefusedInPieces, IsAcceptedInPieces}
 use Rattle.circt_top.specs.Translation.{IsTranslation, IsUnexported}
@@ -31,10 +31,6 @@ IsAnswer (mlir_pieces passes) contents (prints given text) = IsReprintOfPieces p
 IsAnswer (mlir_pieces passes) contents (refuses r) = IsRefusedInPieces (first_input contents) r
 IsAnswer (verilog passes) contents (prints given text) = IsTranslation passes (first_input contents) text
 IsAnswer (verilog passes) contents (refuses r) = IsRefusedIn 0 (first_input contents) r ⊎ IsUnexported passes (first_input contents) r
-
--- bytes are accepted
-abbrev pub IsAcceptedText : List ℕ → Type 0
-IsAcceptedText bytes = (d : Design) × Accepted bytes d
 
 -- bytes are accepted, and passes make a design of theirs that has no aggregates
 abbrev pub IsExportedText : List Pass → List ℕ → Type 0

@@ -4,11 +4,10 @@ use Rattle.diag.specs.Place.{start_place}
 use Rattle.diag.specs.declared.refusal.OpName.TheVariants as op
 use Rattle.diag.specs.declared.cause.Cause.TheVariants.{TooLong}
 use Rattle.diag.specs.declared.refusal.Refusal.{Refusal}
-use Rattle.hw_model.specs.Design.{Design}
 use Rattle.mlir_syntax.specs.Stream.{refusal}
 use Rattle.mlir_reader.specs.Reading.{text_limit}
 use Rattle.pass_pipeline.specs.declared.pass.Pass.{Pass}
-use Rattle.circt_top.specs.Accepting.{Accepted, IsRefused}
+use Rattle.circt_top.specs.Accepting.{IsAcceptedText, IsRefused}
 use Rattle.circt_top.specs.Pieces.{Piece, pieces_of, in_whole, joined}
 use Rattle.circt_top.specs.Reprint.{IsReprint}
 
@@ -39,7 +38,7 @@ pub record IsPieceRefused (p : Piece) (r : Refusal) : Type 0 where
 -- the first refusal of pieces, before which each one is accepted
 abbrev pub IsFirstRefused : List Piece → Refusal → Type 0
 IsFirstRefused [] r = ⊥
-IsFirstRefused (p ∷ ps) r = IsPieceRefused p r ⊎ (((d : Design) × Accepted p.bytes d) × IsFirstRefused ps r)
+IsFirstRefused (p ∷ ps) r = IsPieceRefused p r ⊎ (IsAcceptedText p.bytes × IsFirstRefused ps r)
 
 -- the first refusal of a text in pieces: that it is too long, or else that of its pieces
 abbrev pub IsRefusedInPieces : List ℕ → Refusal → Type 0
@@ -49,7 +48,7 @@ IsRefusedInPieces bytes r =
 -- each piece is accepted
 abbrev pub AreAccepted : List Piece → Type 0
 AreAccepted [] = Unit {0}
-AreAccepted (p ∷ ps) = ((d : Design) × Accepted p.bytes d) × AreAccepted ps
+AreAccepted (p ∷ ps) = IsAcceptedText p.bytes × AreAccepted ps
 
 -- the text is not too long, and each piece of it is accepted
 pub record IsAcceptedInPieces (bytes : List ℕ) : Type 0 where
