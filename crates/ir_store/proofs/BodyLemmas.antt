@@ -7,14 +7,14 @@ use Rattle.ir_store.specs.declared.operation.OpId.{OpId}
 use Rattle.ir_store.specs.declared.operation.Value.{Value}
 use Rattle.ir_store.specs.OperationViews.{OpParts}
 use Rattle.ir_store.specs.BodyOps.{BodyOp, no_parts, stored_op, op_at, put_before, place_before, operands_at, ids_in, taken_out, operand_count}
-use Rattle.ir_store.specs.Ids.{times, put_at}
+use Rattle.linked_lists.specs.Ids.{times, put_at}
 use Rattle.ir_store.specs.declared.body.Body.{Body}
 use Rattle.ir_store.specs.Bodies.{ids_of, op_id}
-use Rattle.ir_store.specs.Links.{walk}
+use Rattle.linked_lists.specs.Links.{walk}
 use Rattle.ir_store.specs.Orders.{live_ids}
 use Rattle.ir_store.specs.Live.{AreDistinct}
 use Rattle.ir_store.specs.OperationViews.{parts_of}
-use Rattle.ir_store.proofs.IdLemmas.{get_or-put_at_same, get_or-put_at_other, times-append}
+use Rattle.linked_lists.proofs.IdLemmas.{get_or-put_at_same, get_or-put_at_other, times-append}
 
 module _ (ps : List OpParts) (ls : List (List Value)) where
   -- the operation of an id is found

@@ -4,11 +4,11 @@ use Rattle.std.specs.Prelude.{Option, Some, None, Contains, max}
 use Rattle.std.proofs.lemmas.List.{get_or-set_same, get_or-set_other, length-set}
 use Rattle.std.proofs.lemmas.Bool.{eqb-true, eqb-false}
 use Rattle.ir_store.specs.declared.operation.Value.{Value}
-use Rattle.ir_store.specs.Ids.{times}
-use Rattle.ir_store.specs.Chains.{ChainTable, has_head, once_if, cut, with_head, IsAlone}
+use Rattle.linked_lists.specs.Ids.{times}
+use Rattle.linked_lists.specs.Chains.{ChainTable, has_head, once_if, cut, with_head, IsAlone}
 use Rattle.ir_store.specs.ChainedValues.{AreIndexed, head_of, head_at}
-use Rattle.ir_store.proofs.IdLemmas.{times_contained}
-use Rattle.ir_store.proofs.Chaining.{eq_self, unlike, times-cut}
+use Rattle.linked_lists.proofs.IdLemmas.{times_contained}
+use Rattle.linked_lists.proofs.Chaining.{eq_self, unlike, times-cut}
 
 -- the cells of each head are those that have it
 pub AreMembers : List (List ℕ) → (ℕ → Option ℕ) → Type 0

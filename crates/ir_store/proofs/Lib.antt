@@ -1,17 +1,13 @@
 -- Lemmas.
 pub mod BlockLists
 pub mod BodyLemmas
-pub mod ChainCalls
-pub mod ChainLists
-pub mod Chaining
 pub mod DesignLemmas
 mod FieldTypes
-pub mod IdLemmas
 pub mod Indexing
-pub mod Linking
 pub mod Living
 pub mod OrderCalls
 pub mod Ordering
+pub mod PlacesBefore
 pub mod Numbering
 pub mod PositionTables
 pub mod ReadOps

@@ -8,7 +8,7 @@ use Rattle.hw_model.specs.Design.Ref.{result}
 use Rattle.ir_store.specs.declared.operation.OpId.{OpId}
 use Rattle.ir_store.specs.declared.operation.Value.{Value}
 use Rattle.ir_store.specs.declared.operation.Value.TheVariants.{Port, Result, Undefined}
-use Rattle.ir_store.specs.Ids.{times}
+use Rattle.linked_lists.specs.Ids.{times}
 use Rattle.ir_store.specs.BodyOps.{BodyOp, operands_at, ids_in, put_before, taken_out, all_replaced, replace_value, same_value, is_of, IsUnused}
 use Rattle.ir_store.specs.Live.{IsLive, HasLive, AreLive, AreDistinct}
 use Rattle.ir_store.specs.Numbered.{position_of, ref_by, op_by, ops_by_position}

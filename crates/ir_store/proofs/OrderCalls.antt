@@ -3,14 +3,15 @@ use Rattle.std.proofs.Common.{◌≡◌, ℕ, zero, suc, ◌+◌, ◌-◌, ◌<�
 use Rattle.std.specs.Prelude.{insert, remove, max, Contains, Some}
 use Rattle.std.proofs.lemmas.List.{take-append-drop}
 use Rattle.ir_store.specs.declared.operation.OpId.{OpId}
-use Rattle.ir_store.specs.declared.links.Link.{Link}
+use Rattle.linked_lists.specs.declared.links.Link.{Link}
 use Rattle.ir_store.specs.declared.order.Order.{Order}
-use Rattle.ir_store.specs.Ids.{times, put_at}
+use Rattle.linked_lists.specs.Ids.{times, put_at}
 use Rattle.ir_store.specs.BodyOps.{place_before}
-use Rattle.ir_store.specs.Links.{none, new_link, next_at, prev_at, walk, first_of, last_of, linked_in, linked_out, IsOrder}
+use Rattle.linked_lists.specs.Links.{none, new_link, next_at, prev_at, walk, first_of, last_of, linked_in, linked_out, IsOrder}
 use Rattle.ir_store.specs.Orders.{live_ids, free_ids}
-use Rattle.ir_store.proofs.Linking.{place_front, place_back, place_next}
-use Rattle.ir_store.proofs.Ordering.{Added, Removed, added, removed, order_of, length-linked_in, length-linked_out}
+use Rattle.ir_store.proofs.Ordering.{Added, Removed, added, removed, order_of}
+use Rattle.ir_store.proofs.PlacesBefore.{place_front, place_back, place_next}
+use Rattle.linked_lists.proofs.Linking.{length-linked_in, length-linked_out}
 
 length-put_at_least : {A : Type 0} (i : ℕ) (x : A) (xs : List A) → (length xs ≤ length (put_at i x xs)) × (i ≤ length xs → i + 1 ≤ length (put_at i x xs))
 length-put_at_least zero x [] = (omega arith, λ _. omega arith)

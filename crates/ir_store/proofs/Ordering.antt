@@ -1,14 +1,14 @@
 -- The order of ids: what putting one in and taking one out keeps.
 use Rattle.std.proofs.Common.{◌≡◌, ℕ, zero, suc, ◌+◌, ◌-◌, ◌<◌, ◌≤◌, ◌^◌, Bool, true, false, cond, nat_eq, List, [], ◌∷◌, ◌++◌, length, refl, ap, sym, ◌∙◌, arith, length-append}
 use Rattle.std.specs.Prelude.{max, Contains}
-use Rattle.std.proofs.lemmas.List.{get_or-set_same, get_or-set_other, length-set}
+use Rattle.std.proofs.lemmas.List.{get_or-set_same, get_or-set_other}
 use Rattle.std.proofs.lemmas.Bool.{eqb-true, eqb-false}
-use Rattle.ir_store.specs.declared.links.Link.{Link}
+use Rattle.linked_lists.specs.declared.links.Link.{Link}
 use Rattle.ir_store.specs.declared.order.Order.{Order}
-use Rattle.ir_store.specs.Ids.{times, put_at}
-use Rattle.ir_store.specs.Links.{none, no_link, new_link, free_link, next_at, is_live_at, walk, first_of, last_of, IsLinked, with_next, with_prev, linked_in, linked_out, IsOrder}
-use Rattle.ir_store.proofs.IdLemmas.{times-append, times_contained, get_or-put_at_other, length-put_at}
-use Rattle.ir_store.proofs.Linking.{length-with_next, length-with_prev, next_other, next_kept, live_next, live_prev, apart, first_there, last_there, last-append, linked_walk, walk_same, linked_more, linked_less}
+use Rattle.linked_lists.specs.Ids.{times, put_at}
+use Rattle.linked_lists.specs.Links.{none, no_link, new_link, free_link, next_at, is_live_at, walk, first_of, last_of, IsLinked, with_next, with_prev, linked_in, linked_out, IsOrder}
+use Rattle.linked_lists.proofs.IdLemmas.{times-append, times_contained, get_or-put_at_other, length-put_at}
+use Rattle.linked_lists.proofs.Linking.{length-with_next, length-with_prev, next_other, next_kept, live_next, live_prev, apart, first_there, last_there, last-append, linked_walk, walk_same, linked_more, linked_less, length-linked_in, length-linked_out}
 
 -- a number that is no id equals none that is there
 other_none : (x n : ℕ) (xs : List ℕ) → times n xs ≡ 0 → 0 < times x xs → nat_eq x n ≡ false
@@ -25,12 +25,6 @@ walk_first ls (suc n) i x xs e = cc
 pub length-walk : (ls : List Link) (n i : ℕ) → length (walk ls n i) ≡ n
 length-walk ls zero i = refl
 length-walk ls (suc n) i = ap suc (length-walk ls n (next_at ls i))
-
-pub length-linked_in : (id p q : ℕ) (ls : List Link) → length (linked_in id p q ls) ≡ length (put_at id (new_link p q) ls)
-length-linked_in id p q ls = length-with_prev q id (with_next p id (put_at id (new_link p q) ls)) ∙ length-with_next p id (put_at id (new_link p q) ls)
-
-pub length-linked_out : (id p q f : ℕ) (ls : List Link) → length (linked_out id p q f ls) ≡ length ls
-length-linked_out id p q f ls = length-set (with_prev q p (with_next p q ls)) id (free_link f) ∙ (length-with_prev q p (with_next p q ls) ∙ length-with_next p q ls)
 
 -- ---- an id that is put in between two parts
 

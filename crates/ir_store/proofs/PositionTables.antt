@@ -6,7 +6,7 @@ use Rattle.ir_store.specs.Bodies.{op_id}
 use Rattle.ir_store.specs.Numbered.{position_of}
 use Rattle.std.proofs.lemmas.Option.{slice_get-map, slice_get_within, slice_get-get_or}
 use Rattle.wiring.proofs.Lists.{slice_get-set_same, slice_get-set_other}
-use Rattle.ir_store.specs.Ids.{times}
+use Rattle.linked_lists.specs.Ids.{times}
 use Rattle.ir_store.specs.Live.{AreDistinct}
 use Rattle.ir_store.specs.declared.operation.OpId.{OpId}
 use Rattle.ir_store.specs.PositionTables.{ArePositions}

@@ -8,12 +8,12 @@ use Rattle.wiring.proofs.Lists.{slice_get_some}
 use Rattle.ir_store.specs.declared.body.Body.{Body}
 use Rattle.ir_store.specs.declared.body.Op.{Op}
 use Rattle.ir_store.specs.declared.operation.OpId.{OpId}
-use Rattle.ir_store.specs.Ids.{times}
+use Rattle.linked_lists.specs.Ids.{times}
 use Rattle.ir_store.specs.BodyOps.{BodyOp, ids_in, op_at}
 use Rattle.ir_store.specs.Bodies.{ids_of, ops_of, op_id, read_op}
 use Rattle.ir_store.specs.Numbered.{position_of, op_by, ops_by_position}
 use Rattle.ir_store.proofs.BodyLemmas.{ids_once}
-use Rattle.ir_store.proofs.IdLemmas.{contained_times}
+use Rattle.linked_lists.proofs.IdLemmas.{contained_times}
 use Rattle.ir_store.proofs.PositionTables.{index_at, ids_same, position_found}
 
 -- ---- the operation of an id that stands once

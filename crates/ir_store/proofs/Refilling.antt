@@ -4,7 +4,7 @@ use Rattle.std.proofs.lemmas.List.{get_or_append_left, get_or-append-add, get_or
 use Rattle.ir_store.specs.declared.operands.Block.{Block}
 use Rattle.ir_store.specs.declared.operation.Value.{Value}
 use Rattle.ir_store.specs.declared.operation.Value.TheVariants.{Undefined}
-use Rattle.ir_store.specs.Links.{none}
+use Rattle.linked_lists.specs.Links.{none}
 use Rattle.ir_store.specs.Blocks.{AreBlocks, no_block, block_at, block_list, lists_in, total}
 use Rattle.ir_store.proofs.BlockLists.{split, block_length, block_same, list_at, lists_count, at_set, total_more, total_part}
 

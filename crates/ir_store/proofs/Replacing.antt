@@ -5,12 +5,12 @@ use Rattle.std.proofs.lemmas.List.{get_or-set_same, get_or-set_other, length-set
 use Rattle.std.proofs.lemmas.Bool.{eqb-true, eqb-false}
 use Rattle.ir_store.specs.declared.operation.Value.{Value}
 use Rattle.ir_store.specs.BodyOps.{same_value, replace_value}
-use Rattle.ir_store.specs.Ids.{times}
-use Rattle.ir_store.specs.Chains.{once_if, cell_or_none, cut}
+use Rattle.linked_lists.specs.Ids.{times}
+use Rattle.linked_lists.specs.Chains.{once_if, cell_or_none, cut}
 use Rattle.ir_store.specs.ChainedValues.{has_value, cells_with}
 use Rattle.ir_store.specs.declared.operation.Value.TheVariants.{Undefined}
-use Rattle.ir_store.proofs.Chaining.{eq_self}
-use Rattle.ir_store.proofs.Linking.{first_there}
+use Rattle.linked_lists.proofs.Chaining.{eq_self}
+use Rattle.linked_lists.proofs.Linking.{first_there}
 use Rattle.ir_store.proofs.Seeking.{same_is}
 
 -- how many of some values are one value

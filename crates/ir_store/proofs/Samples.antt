@@ -2,7 +2,7 @@
 use Rattle.std.proofs.Common.{◌≡◌, ℕ, true, false, [], ◌∷◌, refl}
 use Rattle.hw_model.specs.Design.Ref.{port, result, undefined}
 use Rattle.ir_store.specs.declared.operation.Value.TheVariants.{Port, Result, Undefined}
-use Rattle.ir_store.specs.Ids.{times, put_at}
+use Rattle.linked_lists.specs.Ids.{times, put_at}
 use Rattle.ir_store.specs.Blocks.{lists_in}
 use Rattle.ir_store.specs.BodyOps.{BodyOp, no_parts, taken_out, is_named, operand_count}
 use Rattle.ir_store.specs.Numbered.{position_of, ref_by}

@@ -5,12 +5,12 @@ use Rattle.std.proofs.lemmas.Bool.{eqb-true, eqb-false}
 use Rattle.ir_store.specs.declared.operation.Value.{Value}
 use Rattle.ir_store.specs.declared.operation.Value.TheVariants.{Port, Result, Undefined}
 use Rattle.ir_store.specs.BodyOps.{same_value}
-use Rattle.ir_store.specs.Ids.{times}
-use Rattle.ir_store.specs.Chains.{ChainTable, has_head, once_if, cell_or_none}
+use Rattle.linked_lists.specs.Ids.{times}
+use Rattle.linked_lists.specs.Chains.{ChainTable, has_head, once_if, cell_or_none}
 use Rattle.ir_store.specs.ChainedValues.{AreIndexed, head_of, head_at, is_value, has_value, cells_with, from_cell, rest_at}
-use Rattle.ir_store.proofs.IdLemmas.{times-append, contained_times, times_contained}
-use Rattle.ir_store.proofs.Linking.{first_there}
-use Rattle.ir_store.proofs.Chaining.{eq_self, once_at_most}
+use Rattle.linked_lists.proofs.IdLemmas.{times-append, contained_times, times_contained}
+use Rattle.linked_lists.proofs.Linking.{first_there}
+use Rattle.linked_lists.proofs.Chaining.{eq_self, once_at_most}
 
 -- a cell that is there, what stands before it and what stands after it
 pub record FoundAt (c : ℕ) (cells : List ℕ) : Type 0 where

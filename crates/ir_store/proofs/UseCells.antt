@@ -2,11 +2,11 @@
 use Rattle.std.proofs.Common.{◌≡◌, ℕ, zero, suc, ◌+◌, ◌-◌, ◌<◌, ◌≤◌, Bool, true, false, cond, nat_eq, List, [], ◌∷◌, map, take, drop, get_or, refl, ap, sym, ◌∙◌, arith}
 use Rattle.std.specs.Prelude.{Option, Some, None, ◌&&◌, nat_le, nat_lt, is_some, slice_get}
 use Rattle.std.proofs.lemmas.Bool.{eqb-true, le-leb, leb-true, lt-ltb, ltb-true}
-use Rattle.ir_store.specs.declared.links.Link.{Link}
+use Rattle.linked_lists.specs.declared.links.Link.{Link}
 use Rattle.ir_store.specs.declared.operands.Block.{Block}
 use Rattle.ir_store.specs.declared.operation.UsePlace.{UsePlace}
 use Rattle.ir_store.specs.declared.operation.Value.{Value}
-use Rattle.ir_store.specs.Links.{none, is_live_at}
+use Rattle.linked_lists.specs.Links.{none, is_live_at}
 use Rattle.ir_store.specs.Blocks.{AreBlocks, block_at, block_list, place_within}
 use Rattle.ir_store.specs.Uses.{use_times, use_some, live_use, use_of, live_cells, with_use, places_of}
 

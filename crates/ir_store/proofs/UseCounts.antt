@@ -2,20 +2,20 @@
 use Rattle.std.proofs.Common.{◌≡◌, ℕ, zero, suc, ◌+◌, ◌<◌, ◌≤◌, Bool, true, false, cond, nat_eq, List, [], ◌∷◌, ◌++◌, map, get_or, refl, ap, sym, ◌∙◌, arith}
 use Rattle.std.specs.Prelude.{Option, Some, None, ◌&&◌}
 use Rattle.std.proofs.lemmas.Bool.{eqb-true, eqb-false}
-use Rattle.ir_store.specs.declared.links.Link.{Link}
+use Rattle.linked_lists.specs.declared.links.Link.{Link}
 use Rattle.ir_store.specs.declared.operands.Block.{Block}
 use Rattle.ir_store.specs.declared.operation.UsePlace.{UsePlace}
 use Rattle.ir_store.specs.declared.operation.Value.{Value}
 use Rattle.ir_store.specs.OperationViews.{OpParts}
-use Rattle.ir_store.specs.Ids.{times}
-use Rattle.ir_store.specs.Links.{is_live_at}
-use Rattle.ir_store.specs.Chains.{once_if}
+use Rattle.linked_lists.specs.Ids.{times}
+use Rattle.linked_lists.specs.Links.{is_live_at}
+use Rattle.linked_lists.specs.Chains.{once_if}
 use Rattle.ir_store.specs.Blocks.{AreBlocks, block_at, lists_in}
 use Rattle.ir_store.specs.ChainedValues.{is_value, has_value}
 use Rattle.ir_store.specs.BodyOps.{stored_op, same_value}
 use Rattle.ir_store.specs.Uses.{use_at, places_in, uses_in, same_place, use_times, use_of, with_use, places_of}
 use Rattle.ir_store.proofs.BlockLists.{split, list_at}
-use Rattle.ir_store.proofs.Chaining.{eq_self}
+use Rattle.linked_lists.proofs.Chaining.{eq_self}
 use Rattle.ir_store.proofs.UseCells.{used, use_there, block_get, block_past}
 
 -- ---- among the cells of a chain

@@ -2,22 +2,22 @@
 use Rattle.std.proofs.Common.{◌≡◌, ℕ, zero, suc, ◌+◌, ◌-◌, ◌<◌, ◌≤◌, Bool, true, false, cond, nat_eq, List, [], ◌∷◌, map, get_or, refl, ap, sym, ◌∙◌, arith}
 use Rattle.std.specs.Prelude.{Option, Some, None, ◌&&◌, Contains, nat_le, nat_lt, is_some, slice_get, option_map}
 use Rattle.std.proofs.lemmas.Bool.{eqb-true}
-use Rattle.ir_store.specs.declared.links.Link.{Link}
+use Rattle.linked_lists.specs.declared.links.Link.{Link}
 use Rattle.ir_store.specs.declared.operands.Block.{Block}
 use Rattle.ir_store.specs.declared.operation.OpId.{OpId}
 use Rattle.ir_store.specs.declared.operation.UsePlace.{UsePlace}
 use Rattle.ir_store.specs.declared.operation.Value.{Value}
 use Rattle.ir_store.specs.declared.operation.Value.TheVariants.{Port, Result, Undefined}
 use Rattle.ir_store.specs.OperationViews.{OpParts}
-use Rattle.ir_store.specs.Ids.{times}
-use Rattle.ir_store.specs.Links.{none, is_live_at}
-use Rattle.ir_store.specs.Chains.{once_if, has_head}
+use Rattle.linked_lists.specs.Ids.{times}
+use Rattle.linked_lists.specs.Links.{none, is_live_at}
+use Rattle.linked_lists.specs.Chains.{once_if, has_head}
 use Rattle.ir_store.specs.Blocks.{AreBlocks, block_at, block_list, lists_in}
 use Rattle.ir_store.specs.ChainedValues.{head_of, head_at}
 use Rattle.ir_store.specs.BodyOps.{stored_op, is_of, names_in, is_named}
 use Rattle.ir_store.specs.Uses.{use_of, live_use, is_some_of, names_at, any_names, IsNamedLive}
 use Rattle.ir_store.proofs.BlockLists.{list_at, split}
-use Rattle.ir_store.proofs.Chaining.{eq_self}
+use Rattle.linked_lists.proofs.Chaining.{eq_self}
 use Rattle.ir_store.proofs.UseCells.{lies_in, use_there, block_get, block_past}
 
 -- ---- a list that names an operation

@@ -5,7 +5,7 @@ use Rattle.ir_store.specs.declared.cells.Cells.{Cells}
 use Rattle.ir_store.specs.declared.operands.Block.{Block}
 use Rattle.ir_store.specs.declared.operation.Value.{Value}
 use Rattle.ir_store.specs.declared.operation.UsePlace.{UsePlace}
-use Rattle.ir_store.specs.Links.{none}
+use Rattle.linked_lists.specs.Links.{none}
 use Rattle.ir_store.specs.ChainedValues.{ValueChains}
 
 -- for how many more cells there is room

@@ -8,7 +8,7 @@ use Rattle.ir_store.specs.declared.body.Op.{Op}
 use Rattle.ir_store.specs.declared.body.Ops.{Ops}
 use Rattle.ir_store.specs.DictionaryViews.{entries_in}
 use Rattle.ir_store.specs.OperationViews.{OpParts, parts_of, types_in, results_in, place_of}
-use Rattle.ir_store.specs.Links.{walk}
+use Rattle.linked_lists.specs.Links.{walk}
 use Rattle.ir_store.specs.Orders.{live_ids, free_ids}
 use Rattle.ir_store.specs.BodyOps.{BodyOp, stored_op, ids_in}
 

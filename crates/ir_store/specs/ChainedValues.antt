@@ -2,9 +2,9 @@
 use Rattle.std.specs.Prelude.{◌≡◌, ℕ, ◌+◌, ◌*◌, ◌%◌, ◌<◌, ◌≤◌, ◌^◌, Bool, false, cond, nat_eq, List, [], ◌∷◌, Option, Some, None, length, option_map, slice_get, slice_index_or}
 use Rattle.ir_store.specs.declared.operation.Value.{Value}
 use Rattle.ir_store.specs.declared.operation.Value.TheVariants.{Port, Result, Undefined}
-use Rattle.ir_store.specs.Ids.{times}
+use Rattle.linked_lists.specs.Ids.{times}
 use Rattle.ir_store.specs.BodyOps.{same_value}
-use Rattle.ir_store.specs.Chains.{ChainTable, has_head, once_if}
+use Rattle.linked_lists.specs.Chains.{ChainTable, has_head, once_if}
 
 -- the number from which a value's head follows, one for all results of an operation; the factors are primes of xxHash for 32 bits
 abbrev pub value_number : Value → ℕ

@@ -2,11 +2,8 @@ pub mod Blocks
 pub mod Bodies
 pub mod BodyOps
 pub mod ChainedValues
-pub mod Chains
 pub mod Designs
 pub mod DictionaryViews
-pub mod Ids
-pub mod Links
 pub mod Live
 pub mod Numbered
 pub mod OperationViews

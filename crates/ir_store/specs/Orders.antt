@@ -1,7 +1,7 @@
 -- The ids that an order holds.
 use Rattle.std.specs.Prelude.{ℕ, ◌-◌, List, length}
 use Rattle.ir_store.specs.declared.order.Order.{Order}
-use Rattle.ir_store.specs.Links.{walk}
+use Rattle.linked_lists.specs.Links.{walk}
 
 -- the ids that are live, in text order
 abbrev pub live_ids : Order → List ℕ

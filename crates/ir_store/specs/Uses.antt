@@ -1,12 +1,12 @@
 -- The places where a value is used.
 use Rattle.std.specs.Prelude.{◌≡◌, ℕ, suc, Bool, true, false, cond, ◌&&◌, nat_eq, List, [], ◌∷◌, ◌++◌, Option, Some, None, is_some, slice_get, slice_index_or, Contains}
-use Rattle.ir_store.specs.declared.links.Link.{Link}
+use Rattle.linked_lists.specs.declared.links.Link.{Link}
 use Rattle.ir_store.specs.declared.operands.Block.{Block}
 use Rattle.ir_store.specs.declared.operation.UsePlace.{UsePlace}
 use Rattle.ir_store.specs.declared.operation.Value.{Value}
 use Rattle.ir_store.specs.declared.operation.Value.TheVariants.{Undefined}
 use Rattle.ir_store.specs.ChainedValues.{cells_of}
-use Rattle.ir_store.specs.Links.{is_live_at}
+use Rattle.linked_lists.specs.Links.{is_live_at}
 use Rattle.ir_store.specs.Blocks.{OperandLists, place_in}
 use Rattle.ir_store.specs.BodyOps.{BodyOp, same_value, is_of, names_in}
 

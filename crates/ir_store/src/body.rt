@@ -1,11 +1,10 @@
 //! The body of a module: its operations in text order.
 ghost use Rattle.std.specs.Prelude.{◌≡◌, ℕ, ◌<◌, ◌≤◌, length, min, Some};
 ghost use Rattle.std.specs.Vec.{vec_len, vec_capacity};
-ghost use Rattle.ir_store.specs.Ids.{put_at};
+ghost use Rattle.linked_lists.specs.Ids.{put_at};
 ghost use Rattle.ir_store.specs.BodyOps.{place_before};
 
 use crate::dictionary::Dictionary;
-use crate::links::{Link, next_of};
 use crate::operands::OperandTable;
 use crate::operation::{
     NewOp, NewResultList, OpId, Parts, TyList, UseId, UsePlace, Value, copied_parts,
@@ -15,6 +14,7 @@ use crate::uses::Uses;
 use diag::refusal::Place;
 use hw_model::kinds::OpKind;
 use io_edge::byte_text::Text;
+use linked_lists::links::{Link, next_of};
 use std::alloc::{AllocError, Global};
 
 /// The operations of a module in text order, each with an id that stays while the body changes.
@@ -79,7 +79,7 @@ impl<'b> Iterator for Ops<'b> {
 impl<'b> Ops<'b> {
     ghost use Rattle.std.specs.Prelude.{drop};
     ghost use Rattle.ir_store.specs.Bodies.{ids_left, first_id};
-    ghost use Rattle.ir_store.specs.Links.{walk};
+    ghost use Rattle.linked_lists.specs.Links.{walk};
     ghost use Rattle.ir_store.specs.Orders.{live_ids};
 
     /// The ids of an order.

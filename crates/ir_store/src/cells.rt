@@ -2,8 +2,8 @@
 ghost use Rattle.std.specs.Prelude.{◌≡◌, length};
 
 use crate::chained_values::ChainedValues;
-use crate::links::NONE;
 use crate::operation::{OpId, Value};
+use linked_lists::links::NONE;
 use std::alloc::{AllocError, Global};
 
 /// What a cell has that no list has: a result of no operation, so that few look for it.

@@ -2,9 +2,9 @@
 ghost use Rattle.std.specs.Prelude.{◌≡◌, ◌<◌, ◌≤◌, ◌+◌, length};
 ghost use Rattle.ir_store.specs.ChainedValues.{value_number, head_of};
 
-use crate::chains::Chains;
 use crate::operands::is_same;
 use crate::operation::Value;
+use linked_lists::chains::Chains;
 use std::alloc::{AllocError, Global};
 use std::marker::Model;
 
@@ -54,9 +54,9 @@ fn head_of(value: Value, heads: usize) -> usize
 
 impl ChainedValues {
     ghost use Rattle.std.specs.Prelude.{◌≡◌, ℕ, ◌<◌, ◌≤◌, ◌+◌, ◌-◌, ◌^◌, true, false, map, List, [], ◌∷◌, ◌++◌, length, min, take, slice_set, slice_index_or, Contains, IfOk, IfSome, IsOk, OnOk};
-    ghost use Rattle.ir_store.specs.Ids.{times};
+    ghost use Rattle.linked_lists.specs.Ids.{times};
     ghost use Rattle.ir_store.specs.BodyOps.{same_value, replace_value};
-    ghost use Rattle.ir_store.specs.Chains.{cell_or_none, once_if, has_head, cut};
+    ghost use Rattle.linked_lists.specs.Chains.{cell_or_none, once_if, has_head, cut};
     ghost use Rattle.ir_store.specs.ChainedValues.{has_value, cells_with, cells_of, rest_at, chain_near, head_at, head_of};
 
     /// No values. It takes no memory.

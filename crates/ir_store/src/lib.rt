@@ -8,12 +8,10 @@
 pub mod body;
 mod cells;
 mod chained_values;
-mod chains;
 pub mod design;
 pub mod dictionary;
 pub mod ids;
 mod laws;
-pub mod links;
 mod operands;
 pub mod operation;
 mod order;

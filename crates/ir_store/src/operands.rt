@@ -2,13 +2,13 @@
 ghost use Rattle.std.specs.Prelude.{◌≡◌, ℕ, ◌+◌, ◌≤◌, ◌<◌, ◌^◌, [], ◌∷◌, ◌++◌, length, take, drop};
 ghost use Rattle.std.specs.Vec.{vec_len, vec_capacity};
 ghost use Rattle.ir_store.specs.Blocks.{AreBlocks, place_within, place_in, block_list, block_at, lists_in, total, cell_room};
-ghost use Rattle.ir_store.specs.Chains.{cell_or_none};
+ghost use Rattle.linked_lists.specs.Chains.{cell_or_none};
 ghost use Rattle.ir_store.specs.ChainedValues.{cells_of};
 ghost use Rattle.ir_store.specs.BodyOps.{same_value, is_of};
 
 use crate::cells::Cells;
-use crate::links::{Link, NONE, is_live};
 use crate::operation::{OpId, UsePlace, Value};
+use linked_lists::links::{Link, NONE, is_live};
 use std::alloc::{AllocError, Global};
 use std::marker::Model;
 
@@ -117,14 +117,14 @@ fn refill_blocks(cells: &mut Cells, blocks: &mut [Block], from: &[Value])
 
 impl OperandTable {
     ghost use Rattle.std.specs.Prelude.{insert, remove, slice_index_or, slice_set, map, true, false, ◌&&◌, List, Contains, IfOk, IfSome, Some, IsOk, OnOk, Option};
-    ghost use Rattle.ir_store.specs.declared.links.Link.{Link};
+    ghost use Rattle.linked_lists.specs.declared.links.Link.{Link};
     ghost use Rattle.ir_store.specs.declared.operation.UsePlace.{UsePlace};
-    ghost use Rattle.ir_store.specs.Chains.{once_if};
-    ghost use Rattle.ir_store.specs.Links.{is_live_at};
+    ghost use Rattle.linked_lists.specs.Chains.{once_if};
+    ghost use Rattle.linked_lists.specs.Links.{is_live_at};
     ghost use Rattle.ir_store.specs.declared.operation.Value.TheVariants.{Undefined};
     ghost use Rattle.ir_store.specs.ChainedValues.{has_value, rest_at};
     ghost use Rattle.ir_store.specs.Uses.{IsNamedLive, IsUseCell, use_times, use_of, places_of, live_cells, names_at};
-    ghost use Rattle.ir_store.specs.Ids.{put_at, times};
+    ghost use Rattle.linked_lists.specs.Ids.{put_at, times};
     ghost use Rattle.ir_store.specs.BodyOps.{replace_value, names_in};
 
     /// No lists. It takes no memory.

@@ -1,10 +1,10 @@
 //! The ids of a body: the live ones linked in text order, and those that are free.
 ghost use Rattle.std.specs.Prelude.{◌≡◌, ℕ, ◌-◌, ◌<◌, ◌≤◌, ◌^◌, ◌++◌, false, nat_eq, cond, length};
-ghost use Rattle.ir_store.specs.Ids.{times};
-ghost use Rattle.ir_store.specs.Links.{none, walk, last_of, IsLinked, IsLinked-prop, is_live_at};
+ghost use Rattle.linked_lists.specs.Ids.{times};
+ghost use Rattle.linked_lists.specs.Links.{none, walk, last_of, IsLinked, IsLinked-prop, is_live_at};
 
-use crate::links::{Link, NONE, is_live, link_in, link_out, next_of, prev_of, unless_none};
 use crate::operation::OpId;
+use linked_lists::links::{Link, NONE, is_live, link_in, link_out, next_of, prev_of, unless_none};
 use std::alloc::{AllocError, Global};
 
 /// The numbers from 0 on, as many as there are, each once: the live ids, linked in text order, and those that are free,
@@ -28,9 +28,9 @@ pub struct Order {
 impl Order {
     ghost use Rattle.std.specs.Prelude.{◌≡◌, ◌+◌, ◌<◌, ◌≤◌, ◌^◌, [], ◌↔◌, max, length, take, drop, insert, remove, Contains, Some, IfSome, IfOk, IsOk, IsTrue, OnOk};
     ghost use Rattle.std.specs.Vec.{vec_capacity};
-    ghost use Rattle.ir_store.specs.Ids.{times};
+    ghost use Rattle.linked_lists.specs.Ids.{times};
     ghost use Rattle.ir_store.specs.BodyOps.{place_before};
-    ghost use Rattle.ir_store.specs.Links.{none, next_at, first_of, last_of};
+    ghost use Rattle.linked_lists.specs.Links.{none, next_at, first_of, last_of};
     ghost use Rattle.ir_store.specs.Orders.{live_ids, free_ids};
 
     /// No ids. It takes no memory.

@@ -1,11 +1,11 @@
 //! The places where a value of a body is used.
 ghost use Rattle.std.specs.Prelude.{◌≡◌, [], slice_index_or};
 ghost use Rattle.ir_store.specs.ChainedValues.{cells_of};
-ghost use Rattle.ir_store.specs.Chains.{times_at};
+ghost use Rattle.linked_lists.specs.Chains.{times_at};
 
-use crate::links::Link;
 use crate::operands::OperandTable;
 use crate::operation::{UsePlace, Value};
+use linked_lists::links::Link;
 
 /// The places that name a value: a walk along the chain of its cells.
 #[derive(Drop)]
@@ -20,8 +20,8 @@ pub struct Uses<'b> {
 impl<'b> Uses<'b> {
     ghost use Rattle.std.specs.Prelude.{◌&&◌, ◌<◌, length, Some};
     ghost use Rattle.ir_store.specs.declared.operation.UsePlace.{UsePlace};
-    ghost use Rattle.ir_store.specs.Chains.{once_if};
-    ghost use Rattle.ir_store.specs.Links.{is_live_at};
+    ghost use Rattle.linked_lists.specs.Chains.{once_if};
+    ghost use Rattle.linked_lists.specs.Links.{is_live_at};
     ghost use Rattle.ir_store.specs.ChainedValues.{has_value};
     ghost use Rattle.ir_store.specs.Uses.{use_times, with_use, places_of};
     ghost use Rattle.ir_store.specs.UsesLeft.{uses_left, cells_left};

@@ -4,7 +4,7 @@ use Rattle.std.proofs.lemmas.Bool.{eqb-false}
 use Rattle.std.proofs.lemmas.List.{length-map, drop_all}
 use Rattle.std.proofs.lemmas.Option.{slice_get-get_or}
 use Rattle.wiring.proofs.Lists.{drop_some, slice_get_some}
-use Rattle.ir_store.proofs.IdLemmas.{below_unless}
+use Rattle.linked_lists.proofs.IdLemmas.{below_unless}
 use Rattle.diag.specs.declared.cause.Cause.{Cause}
 use Rattle.diag.specs.declared.refusal.Refusal.{Refusal}
 use Rattle.hw_model.specs.Design.{Port, Op, Module, Design}

@@ -18,7 +18,7 @@ use Rattle.hw_model.specs.Sound.{input_type, input_types, type_in, Fits, SoundBo
 use Rattle.hw_model.specs.Resets.{IsMarkedInput, IsConstantOf, ResetsFromPorts}
 use Rattle.hw_model.proofs.NetWidths.{input_found, typed_at}
 use Rattle.ir_store.specs.ResultTypes.{result_count}
-use Rattle.ir_store.proofs.IdLemmas.{below_unless}
+use Rattle.linked_lists.proofs.IdLemmas.{below_unless}
 use Rattle.port_checks.specs.ResetPorts.{IsBitInput, IsResetPort, port_count, is_reset_port}
 use Rattle.port_checks.proofs.Least.{reset_some, is_sound, is_complete}
 use Rattle.op_verifier.specs.Faults.{first_fault}

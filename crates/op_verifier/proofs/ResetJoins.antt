@@ -8,7 +8,7 @@ use Rattle.hw_model.specs.Design.{Ref, Port, Module, Design}
 use Rattle.hw_model.specs.Flat.{input_count, operand_for, port_ref}
 use Rattle.ir_store.specs.declared.design.Port as code
 use Rattle.ir_store.specs.Designs.{port_of}
-use Rattle.ir_store.proofs.IdLemmas.{below_unless}
+use Rattle.linked_lists.proofs.IdLemmas.{below_unless}
 use Rattle.port_checks.specs.ResetPorts.{is_reset_port}
 use Rattle.op_verifier.specs.ResetChecks.{is_no_input, joins_other, has_other_join}
 

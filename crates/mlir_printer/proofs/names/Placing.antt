@@ -6,7 +6,7 @@ use Rattle.hw_model.specs.Types.{Name}
 use Rattle.hw_model.specs.Design.{Port}
 use Rattle.ir_store.specs.OperationViews.{OpParts}
 use Rattle.ir_store.specs.BodyOps.{BodyOp, ids_in}
-use Rattle.ir_store.specs.Ids.{times}
+use Rattle.linked_lists.specs.Ids.{times}
 use Rattle.ir_store.specs.Live.{AreDistinct}
 use Rattle.ir_store.specs.Numbered.{position_of}
 use Rattle.mlir_printer.specs.Naming.{first_name, name_value_text, is_pack, name_count, port_name_hint, port_value, value_at, value_in}

@@ -1,5 +1,5 @@
 use Rattle.std.proofs.Common.{◌<◌, length, rules, sym}
-use Rattle.ir_store.proofs.IdLemmas.{put_at_set}
+use Rattle.linked_lists.proofs.IdLemmas.{put_at_set}
 use Rattle.ir_store.proofs.body.put_parts.Goals as goal
 
 pub returns-else-i-len-clause-items : goal.returns-else-i-len-clause-items

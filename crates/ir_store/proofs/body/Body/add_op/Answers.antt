@@ -1,10 +1,10 @@
 use Rattle.std.proofs.Common.{◌≡◌, ◌≤◌, map, length, arith, refl, ap}
 use Rattle.std.proofs.lemmas.List.{length-map}
-use Rattle.ir_store.specs.Ids.{put_at}
+use Rattle.linked_lists.specs.Ids.{put_at}
 use Rattle.ir_store.specs.BodyOps.{place_before}
 use Rattle.ir_store.specs.OperationViews.{parts_of, new_parts}
 use Rattle.ir_store.specs.Orders.{live_ids}
-use Rattle.ir_store.proofs.IdLemmas.{map-put_at, not_contained, insert_there, length-put_at}
+use Rattle.linked_lists.proofs.IdLemmas.{map-put_at, not_contained, insert_there, length-put_at}
 use Rattle.ir_store.proofs.BodyLemmas.{op_put, ids_seen, length_ids}
 use Rattle.ir_store.proofs.Ordering.{length-walk}
 use Rattle.ir_store.proofs.body.Body.add_op.Goals as goal

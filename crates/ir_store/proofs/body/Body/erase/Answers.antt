@@ -1,12 +1,12 @@
 use Rattle.std.proofs.Common.{◌≡◌, ◌≤◌, ◌-◌, [], map, length, set, refl, arith}
 use Rattle.std.specs.Prelude.{Some}
 use Rattle.std.proofs.lemmas.List.{map-set, length-set}
-use Rattle.ir_store.specs.Ids.{times}
+use Rattle.linked_lists.specs.Ids.{times}
 use Rattle.ir_store.specs.BodyOps.{place_before}
-use Rattle.ir_store.specs.Links.{walk}
+use Rattle.linked_lists.specs.Links.{walk}
 use Rattle.ir_store.specs.OperationViews.{parts_of}
 use Rattle.ir_store.specs.Orders.{live_ids}
-use Rattle.ir_store.proofs.IdLemmas.{times-append}
+use Rattle.linked_lists.proofs.IdLemmas.{times-append}
 use Rattle.ir_store.proofs.BodyLemmas.{op_gone, count_found, ids_seen}
 use Rattle.ir_store.proofs.body.Body.erase.Goals as goal
 

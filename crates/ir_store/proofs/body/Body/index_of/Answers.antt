@@ -1,7 +1,7 @@
 use Rattle.std.proofs.Common.{◌-◌, length}
-use Rattle.ir_store.specs.Links.{walk}
+use Rattle.linked_lists.specs.Links.{walk}
 use Rattle.ir_store.specs.Orders.{live_ids}
-use Rattle.ir_store.proofs.IdLemmas.{live_below}
+use Rattle.linked_lists.proofs.IdLemmas.{live_below}
 use Rattle.ir_store.proofs.body.Body.index_of.Goals as goal
 
 pub returns-clause-within : goal.returns-clause-within

@@ -1,7 +1,7 @@
 use Rattle.std.proofs.Common.{◌≡◌, Bool, true, false, map, not, refl, ap, sym, ◌∙◌}
 use Rattle.ir_store.specs.OperationViews.{parts_of}
 use Rattle.ir_store.specs.Orders.{live_ids}
-use Rattle.ir_store.specs.Links.{none}
+use Rattle.linked_lists.specs.Links.{none}
 use Rattle.ir_store.specs.Bodies.{ops_of}
 use Rattle.ir_store.specs.BodyOps.{is_named}
 use Rattle.ir_store.proofs.Ordering.{marked_live, live_marked}

@@ -2,16 +2,16 @@ use Rattle.std.proofs.Common.{◌≡◌, ◌≤◌, ◌<◌, ℕ, zero, suc, Boo
 use Rattle.std.specs.Prelude.{Option}
 use Rattle.ir_store.specs.declared.operation.UseId.{UseId}
 use Rattle.ir_store.specs.declared.operation.UsePlace.{UsePlace}
-use Rattle.ir_store.specs.Ids.{times}
+use Rattle.linked_lists.specs.Ids.{times}
 use Rattle.ir_store.specs.ChainedValues.{cells_of}
 use Rattle.ir_store.specs.UseChains.{use_id}
 use Rattle.ir_store.specs.Uses.{use_some, use_of, live_cells}
 use Rattle.ir_store.proofs.UseCells.{places_are}
-use Rattle.ir_store.specs.Links.{none, walk, is_live_at}
-use Rattle.ir_store.specs.Chains.{once_if}
+use Rattle.linked_lists.specs.Links.{none, walk, is_live_at}
+use Rattle.linked_lists.specs.Chains.{once_if}
 use Rattle.ir_store.specs.OperationViews.{parts_of}
 use Rattle.ir_store.specs.Orders.{live_ids}
-use Rattle.ir_store.proofs.IdLemmas.{times-append, times_contained, contained_times}
+use Rattle.linked_lists.proofs.IdLemmas.{times-append, times_contained, contained_times}
 use Rattle.ir_store.proofs.Ordering.{marked_live, live_marked}
 use Rattle.ir_store.proofs.UseCounts.{uses_count}
 use Rattle.ir_store.proofs.body.Body.uses.Goals as goal

@@ -1,6 +1,6 @@
 use Rattle.std.proofs.Common.{◌≡◌, [], length, get_or, refl, ap, ◌∙◌}
 use Rattle.std.specs.Prelude.{Contains}
-use Rattle.ir_store.specs.Chains.{cell_or_none}
+use Rattle.linked_lists.specs.Chains.{cell_or_none}
 use Rattle.ir_store.specs.ChainedValues.{head_of}
 use Rattle.ir_store.proofs.Seeking.{with_part, step, chain_most, next_with, each_once, if_some}
 use Rattle.ir_store.proofs.chained_values.ChainedValues.next.Goals as goal

@@ -1,9 +1,9 @@
 use Rattle.std.proofs.Common.{◌≡◌, ℕ, true, false, refl, ap, sym, ◌∙◌, arith}
 use Rattle.ir_store.specs.BodyOps.{same_value}
-use Rattle.ir_store.specs.Chains.{cell_or_none}
+use Rattle.linked_lists.specs.Chains.{cell_or_none}
 use Rattle.ir_store.specs.ChainedValues.{cells_of, has_value}
 use Rattle.ir_store.proofs.Replacing.{cell_written, none_left, same_kept, first_among, none_among, is_once, is_never, next_after}
-use Rattle.ir_store.proofs.IdLemmas.{times_contained}
+use Rattle.linked_lists.proofs.IdLemmas.{times_contained}
 use Rattle.ir_store.proofs.chained_values.ChainedValues.replace.Goals as goal
 
 pub returns-then-is_same-clause-items : goal.returns-then-is_same-clause-items

@@ -1,7 +1,7 @@
 use Rattle.std.proofs.Common.{◌≡◌, ℕ, map}
-use Rattle.ir_store.specs.Ids.{times}
+use Rattle.linked_lists.specs.Ids.{times}
 use Rattle.ir_store.specs.BodyOps.{replace_value}
-use Rattle.ir_store.specs.Chains.{cell_or_none, once_if}
+use Rattle.linked_lists.specs.Chains.{cell_or_none, once_if}
 use Rattle.ir_store.specs.ChainedValues.{cells_of, has_value}
 use Rattle.ir_store.proofs.Replacing.{value_count}
 use Rattle.ir_store.proofs.chained_values.ChainedValues.replace.Given as goal

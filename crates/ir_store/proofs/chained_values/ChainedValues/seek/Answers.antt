@@ -1,6 +1,6 @@
 use Rattle.std.proofs.Common.{◌≡◌, ℕ, false, true, [], ◌∷◌, ◌++◌, List, get_or, refl, ap, sym, ◌∙◌}
 use Rattle.std.specs.Prelude.{Contains}
-use Rattle.ir_store.specs.Chains.{cell_or_none}
+use Rattle.linked_lists.specs.Chains.{cell_or_none}
 use Rattle.ir_store.specs.ChainedValues.{has_value}
 use Rattle.ir_store.proofs.Seeking.{step, chain_most, found_first, if_some}
 use Rattle.ir_store.proofs.chained_values.ChainedValues.seek.Goals as goal

@@ -1,6 +1,6 @@
 use Rattle.std.proofs.Common.{◌≡◌, [], length, get_or}
 use Rattle.std.specs.Prelude.{Contains, IfSome}
-use Rattle.ir_store.specs.Chains.{cell_or_none}
+use Rattle.linked_lists.specs.Chains.{cell_or_none}
 use Rattle.ir_store.specs.ChainedValues.{cells_with, rest_at}
 use Rattle.ir_store.proofs.chained_values.ChainedValues.seek.Given as goal
 

@@ -2,10 +2,10 @@ use Rattle.std.proofs.Common.{◌≡◌, ◌<◌, ◌^◌, List, [], ◌∷◌, 
 use Rattle.std.proofs.lemmas.List.{get_or_default, length-set}
 use Rattle.ir_store.specs.declared.operation.Value.{Value}
 use Rattle.ir_store.specs.declared.operation.Value.TheVariants.{Undefined}
-use Rattle.ir_store.specs.Ids.{times}
-use Rattle.ir_store.specs.Chains.{cut}
+use Rattle.linked_lists.specs.Ids.{times}
+use Rattle.linked_lists.specs.Chains.{cut}
 use Rattle.ir_store.specs.ChainedValues.{head_of, has_value, cells_with}
-use Rattle.ir_store.proofs.IdLemmas.{contained_times}
+use Rattle.linked_lists.proofs.IdLemmas.{contained_times}
 use Rattle.ir_store.proofs.Replacing.{value_is, moved}
 use Rattle.ir_store.proofs.Seeking.{chain_most, each_once}
 use Rattle.ir_store.proofs.Indexing.{there_in, alone_after, indexed_set}

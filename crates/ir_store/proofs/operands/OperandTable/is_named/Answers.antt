@@ -1,12 +1,12 @@
 use Rattle.std.proofs.Common.{◌≡◌, ℕ, ◌≤◌, ◌++◌, ◌∷◌, List, true, false, length, cond, refl, ap, sym, ◌∙◌, arith}
 use Rattle.std.specs.Prelude.{Contains}
 use Rattle.ir_store.specs.declared.operation.Value.TheVariants.{Result}
-use Rattle.ir_store.specs.Ids.{times}
-use Rattle.ir_store.specs.Chains.{cell_or_none, has_head}
+use Rattle.linked_lists.specs.Ids.{times}
+use Rattle.linked_lists.specs.Chains.{cell_or_none, has_head}
 use Rattle.ir_store.specs.ChainedValues.{chain_near, head_at, head_of, rest_at}
 use Rattle.ir_store.specs.Uses.{names_at, any_names}
 use Rattle.ir_store.proofs.UseNames.{some_named, none_named, one_head}
-use Rattle.ir_store.proofs.Chaining.{once_at_most}
+use Rattle.linked_lists.proofs.Chaining.{once_at_most}
 use Rattle.ir_store.proofs.Seeking.{step, found_at, if_some}
 use Rattle.ir_store.proofs.operands.OperandTable.is_named.Goals as goal
 

@@ -1,9 +1,9 @@
 use Rattle.std.proofs.Common.{◌≤◌, ℕ, ◌∷◌, ap, sym, ◌∙◌, arith}
 use Rattle.std.specs.Prelude.{Contains}
-use Rattle.ir_store.specs.Ids.{times}
+use Rattle.linked_lists.specs.Ids.{times}
 use Rattle.ir_store.specs.ChainedValues.{cells_of, rest_at, has_value}
 use Rattle.ir_store.specs.Uses.{live_cells}
-use Rattle.ir_store.proofs.Chaining.{once_at_most}
+use Rattle.linked_lists.proofs.Chaining.{once_at_most}
 use Rattle.ir_store.proofs.Seeking.{step, if_some}
 use Rattle.ir_store.proofs.UseCells.{live_head}
 use Rattle.ir_store.proofs.operands.OperandTable.next_use.Goals as goal

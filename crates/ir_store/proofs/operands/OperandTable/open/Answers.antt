@@ -1,7 +1,7 @@
 use Rattle.std.proofs.Common.{◌≡◌, [], length, sym, ◌∙◌, ap, arith}
 use Rattle.ir_store.specs.Blocks.{OperandLists}
 use Rattle.ir_store.proofs.BlockLists.{lists_count}
-use Rattle.ir_store.proofs.IdLemmas.{put_at_set, below_unless}
+use Rattle.linked_lists.proofs.IdLemmas.{put_at_set, below_unless}
 use Rattle.ir_store.proofs.operands.OperandTable.open.Goals as goal
 
 pub returns-else-i-len-clause-lists : goal.returns-else-i-len-clause-lists

@@ -1,5 +1,5 @@
 use Rattle.std.proofs.Common.{[]}
-use Rattle.ir_store.proofs.IdLemmas.{set-put_at}
+use Rattle.linked_lists.proofs.IdLemmas.{set-put_at}
 use Rattle.ir_store.proofs.operands.OperandTable.put.Goals as goal
 
 pub returns-clause-lists : goal.returns-clause-lists

@@ -1,10 +1,10 @@
 use Rattle.std.proofs.Common.{◌≡◌, ◌≤◌, ℕ, true, false, cond, ◌∷◌, refl, ap, sym, ◌∙◌, arith}
 use Rattle.std.specs.Prelude.{Contains, is_some}
-use Rattle.ir_store.specs.Ids.{times}
-use Rattle.ir_store.specs.Chains.{cell_or_none}
+use Rattle.linked_lists.specs.Ids.{times}
+use Rattle.linked_lists.specs.Chains.{cell_or_none}
 use Rattle.ir_store.specs.ChainedValues.{cells_of, rest_at, has_value, chain_near}
 use Rattle.ir_store.specs.Uses.{use_of, live_cells}
-use Rattle.ir_store.proofs.Chaining.{once_at_most}
+use Rattle.linked_lists.proofs.Chaining.{once_at_most}
 use Rattle.ir_store.proofs.Seeking.{step, found_at, if_some, with_part}
 use Rattle.ir_store.proofs.Replacing.{value_is}
 use Rattle.ir_store.proofs.UseCells.{live_head}

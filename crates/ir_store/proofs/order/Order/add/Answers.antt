@@ -1,6 +1,6 @@
 use Rattle.std.proofs.Common.{length, refl, arith}
 use Rattle.ir_store.specs.BodyOps.{place_before}
-use Rattle.ir_store.specs.Links.{linked_in}
+use Rattle.linked_lists.specs.Links.{linked_in}
 use Rattle.ir_store.specs.Orders.{live_ids, free_ids}
 use Rattle.ir_store.proofs.OrderCalls.{is_added, none_free}
 use Rattle.ir_store.proofs.order.Order.add.Goals as goal

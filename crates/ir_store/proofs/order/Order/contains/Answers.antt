@@ -1,5 +1,5 @@
 use Rattle.std.proofs.Common.{sym, ◌∙◌}
-use Rattle.ir_store.specs.Links.{none}
+use Rattle.linked_lists.specs.Links.{none}
 use Rattle.ir_store.specs.Orders.{live_ids}
 use Rattle.ir_store.proofs.Ordering.{marked_live, live_marked}
 use Rattle.ir_store.proofs.order.Order.contains.Goals as goal

@@ -1,8 +1,8 @@
 use Rattle.std.proofs.Common.{refl, ◌∙◌}
-use Rattle.ir_store.specs.Links.{none}
+use Rattle.linked_lists.specs.Links.{none}
 use Rattle.ir_store.specs.Orders.{live_ids}
-use Rattle.ir_store.proofs.Linking.{place_front, place_back}
 use Rattle.ir_store.proofs.order.Order.neighbours.Goals as goal
+use Rattle.ir_store.proofs.PlacesBefore.{place_front, place_back}
 
 pub returns-in-Some-clause-prev : goal.returns-in-Some-clause-prev
 returns-in-Some-clause-prev c =

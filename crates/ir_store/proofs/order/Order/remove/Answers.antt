@@ -1,8 +1,8 @@
 use Rattle.std.proofs.Common.{◌≡◌, ◌+◌, ◌-◌, arith}
 use Rattle.ir_store.specs.Orders.{live_ids}
-use Rattle.ir_store.specs.Links.{walk}
+use Rattle.linked_lists.specs.Links.{walk}
 use Rattle.std.proofs.Common.{length}
-use Rattle.ir_store.proofs.IdLemmas.{contained_times, live_below}
+use Rattle.linked_lists.proofs.IdLemmas.{contained_times, live_below}
 use Rattle.ir_store.proofs.Ordering.{length-walk}
 use Rattle.ir_store.proofs.OrderCalls.{is_removed, times_length}
 use Rattle.ir_store.proofs.order.Order.remove.Goals as goal

@@ -1,11 +1,11 @@
 use Rattle.std.proofs.Common.{◌≡◌, ◌≤◌, ℕ, List, length, refl, ap, sym, ◌∙◌, arith}
 use Rattle.std.specs.Prelude.{Option, Some, None, Contains}
-use Rattle.ir_store.specs.Ids.{times}
-use Rattle.ir_store.specs.Chains.{times_at}
+use Rattle.linked_lists.specs.Ids.{times}
+use Rattle.linked_lists.specs.Chains.{times_at}
 use Rattle.ir_store.specs.ChainedValues.{cells_of, has_value, rest_at}
 use Rattle.ir_store.specs.Uses.{with_use, places_of}
-use Rattle.ir_store.proofs.Chaining.{once_at_most}
-use Rattle.ir_store.proofs.IdLemmas.{times_contained, contained_times}
+use Rattle.linked_lists.proofs.Chaining.{once_at_most}
+use Rattle.linked_lists.proofs.IdLemmas.{times_contained, contained_times}
 use Rattle.ir_store.proofs.Seeking.{step}
 use Rattle.ir_store.proofs.uses.Uses.pass.Goals as goal
 
