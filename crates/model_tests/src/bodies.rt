@@ -153,12 +153,12 @@ fn is_among(place: UsePlace, places: &[(u32, u32)]) -> bool {
 
 // Whether the value is used at just these places, in some order.
 fn is_used_at(body: &Body, value: Value, places: &[(u32, u32)]) -> bool {
-    let mut count = 0;
+    let mut count = 0usize;
     for place in body.uses(value) {
-        if count == places.len() || !is_among(place, places) {
+        if !is_among(place, places) {
             return false;
         }
-        count += 1;
+        count = count.saturating_add(1);
     }
     count == places.len()
 }

@@ -156,12 +156,12 @@ fn is_among(place: UsePlace, places: &[(u32, u32)]) -> bool {
 
 // whether a value is used at these operands of these operations alone
 fn is_used_at(body: &Body, operand: Operand, places: &[(u32, u32)]) -> bool {
-    let mut count = 0;
+    let mut count = 0usize;
     for place in body.uses(value_of(operand)) {
-        if count == places.len() || !is_among(place, places) {
+        if !is_among(place, places) {
             return false;
         }
-        count += 1;
+        count = count.saturating_add(1);
     }
     count == places.len()
 }
