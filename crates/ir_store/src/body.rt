@@ -250,8 +250,8 @@ impl Body {
         }
     }
 
-    /// Puts `op` before the operation `before`, or at the end, and gives its id. On an error the
-    /// operations stay.
+    /// Puts `op` before the operation `before`, or at the end, and gives its id. On an error, which comes where memory that
+    /// is needed is refused, the operations stay. Linear in its operands, and constant on average in the body.
     pub fn add_op(&mut self, before: Option<OpId>, op: NewOp) -> Result<OpId, AllocError>
         requires room { length (ids_of self.old) + 1 < 2 ^ 32 }
         requires live { IfSome before (λ b. Contains (ids_of self.old) b.index) }
@@ -274,7 +274,7 @@ impl Body {
         Ok(OpId { index: id })
     }
 
-    /// Takes an operation out. No operand may name one of its results.
+    /// Takes an operation out. No operand may name one of its results. Linear in its operands.
     pub fn erase(&mut self, op: OpId)
         requires live { Contains (ids_of self.old) op.index }
         requires unused { IsUnused op.index (ops_of self.old) }
@@ -288,8 +288,8 @@ impl Body {
         self.parts[index] = Parts::empty(alloc);
     }
 
-    /// Puts `value` in before operand `at` of `op`, or after the last. On an error the operations
-    /// stay.
+    /// Puts `value` in before operand `at` of `op`, or after the last. On an error, which comes where memory that is needed
+    /// is refused, the operations stay. Linear in the operands of `op`, and constant on average in the body.
     pub fn insert_operand(&mut self, op: OpId, at: u32, value: Value) -> Result<(), AllocError>
         requires live { Contains (ids_of self.old) op.index }
         requires place { HasPlace (ops_of self.old) op.index at }
@@ -304,7 +304,7 @@ impl Body {
         Ok(())
     }
 
-    /// Puts `value` in the place `at` of the operands of `op`.
+    /// Puts `value` in the place `at` of the operands of `op`, in constant time.
     pub fn set_operand(&mut self, op: OpId, at: u32, value: Value)
         requires live { Contains (ids_of self.old) op.index }
         requires place { HasOperand (ops_of self.old) op.index at }
@@ -315,7 +315,7 @@ impl Body {
         self.operands.set(index, at as usize, value);
     }
 
-    /// Takes operand `at` of `op` out.
+    /// Takes operand `at` of `op` out. Linear in the operands of `op`.
     pub fn drop_operand(&mut self, op: OpId, at: u32)
         requires live { Contains (ids_of self.old) op.index }
         requires place { HasOperand (ops_of self.old) op.index at }
@@ -326,7 +326,8 @@ impl Body {
         self.operands.remove(index, at as usize);
     }
 
-    /// Puts `to` in the place of each operand that is `from`.
+    /// Puts `to` in the place of each operand that is `from`. Linear in the chain of the head of `from`: its uses, and those
+    /// of other values with the same head.
     pub fn replace_all_uses(&mut self, from: Value, to: Value)
         ensures ops { ops_of self.new ≡ all_replaced from to (ops_of self.old) }
         ensures spare { (spare_ops self.new ≡ spare_ops self.old) × (spare_uses self.new ≡ spare_uses self.old) }
