@@ -5,12 +5,12 @@ use Rattle.std.proofs.lemmas.List.{length-set, length-map, get_or_default}
 use Rattle.std.proofs.lemmas.Bool.{eqb-true}
 use Rattle.linked_lists.specs.declared.links.Link.{Link}
 use Rattle.linked_lists.specs.Ids.{times}
-use Rattle.linked_lists.specs.Links.{none, new_link, next_at, prev_at, first_of, last_of, IsLinked, with_next, with_prev, linked_in, linked_out}
-use Rattle.linked_lists.specs.Chains.{AreChains, HasChains, IsAlone, has_head, once_if, with_front, with_head, cut, without, splice_chains, cell_or_none, cell_unless_none, walk_on, chain_in, chains_in}
+use Rattle.linked_lists.specs.Links.{none, new_link, next_at, prev_at, first_of, IsLinked, linked_in, linked_out}
+use Rattle.linked_lists.specs.Chains.{AreChains, HasChains, IsAlone, has_head, once_if, with_front, with_head, cut, without, cell_or_none, cell_unless_none, walk_on, chain_in, chains_in}
 use Rattle.linked_lists.proofs.IdLemmas.{contained_times, times-append, length-put_at}
 use Rattle.linked_lists.proofs.Linking.{linked_back, length-linked_in}
-use Rattle.linked_lists.proofs.Chaining.{eq_self, chain_bare, chained_more, chained_less, chained_splice}
-use Rattle.linked_lists.proofs.ChainLists.{within, has_chains, chain_at, one_changed, two_changed}
+use Rattle.linked_lists.proofs.Chaining.{eq_self, chain_bare, chained_more, chained_less}
+use Rattle.linked_lists.proofs.ChainLists.{within, has_chains, chain_at, one_changed}
 
 -- what is so of the chains after a call
 pub record AreSeen (links : List Link) (heads : List ℕ) (chains : List (List ℕ)) : Type 0 where
@@ -102,29 +102,6 @@ out_seen links ms heads s cell prev next first kept h c e_prev e_next e_kept e_f
     same : (t : ℕ) (b : Bool) → nat_eq s t ≡ b → cond b (cut cell (chain_in links heads t)) (chain_in links heads t) ≡ cond b (cut cell (chain_in links heads s)) (chain_in links heads t)
     same t true d = ap (λ u. cut cell (chain_in links heads u)) (sym (eqb-true s t d))
     same t false d = refl
-
--- ---- the cells of one head put before those of another
-
-pub splice_seen : (links ms : List Link) (heads : List ℕ) (s t last first next : ℕ) → HasChains links heads → s < length heads → t < length heads → (s ≡ t → ⊥) →
-    0 < length (get_or (chains_in links heads) s []) → last ≡ last_of none (get_or (chains_in links heads) s []) → next ≡ get_or heads t next → first ≡ get_or heads s first →
-    ms ≡ with_prev next last (with_next last next links) →
-    AreSeen ms (set (set heads t first) s none) (set (set (chains_in links heads) t (get_or (chains_in links heads) s [] ++ get_or (chains_in links heads) t [])) s [])
-splice_seen links ms heads s t last first next h s_in t_in other some e_last e_next e_first m =
-    let at_s = chain_at links heads s in
-    let at_t = chain_at links heads t in
-    let l : last ≡ last_of none (chain_in links heads s) = e_last ∙ ap (last_of none) at_s in
-    let n : next ≡ first_of (chain_in links heads t) none = e_next ∙ (get_or_default heads t next none t_in ∙ h.ok.first t) in
-    let f : first ≡ get_or heads s none = e_first ∙ get_or_default heads s first none s_in in
-    let links_are : ms ≡ with_prev (first_of (chain_in links heads t) none) (last_of none (chain_in links heads s)) (with_next (last_of none (chain_in links heads s)) (first_of (chain_in links heads t) none) links) = rw (← l, ← n) m in
-    let long : 0 < length (chain_in links heads s) = rw at_s at some in
-    let ok : AreChains ms (set (set heads t first) s none) (splice_chains s t (chain_in links heads)) (λ v. cond (has_head (h.head v) s) (Some t) (h.head v)) = rw (links_are, f) (chained_splice links heads (chain_in links heads) h.head h.ok s t other long s_in t_in) in
-    let size : length (set (set heads t first) s none) ≡ length heads = length-set (set heads t first) s none ∙ length-set heads t first in
-    record {
-      has = has_chains ms (set (set heads t first) s none) (splice_chains s t (chain_in links heads)) (λ v. cond (has_head (h.head v) s) (Some t) (h.head v)) ok;
-      seen =
-          two_changed links ms heads (set (set heads t first) s none) (splice_chains s t (chain_in links heads)) (λ v. cond (has_head (h.head v) s) (Some t) (h.head v)) ok size s t [] (chain_in links heads s ++ chain_in links heads t) s_in t_in (λ u. refl)
-          ∙ rw (at_s, at_t) refl;
-    }
 
 -- ---- cells that are read
 

@@ -110,20 +110,3 @@ module _ (links ms : List Link) (heads hs : List ℕ) (chain : ℕ → List ℕ)
       go : (t : ℕ) (b : Bool) → nat_eq s t ≡ b → s < length (chains_in links heads) → cond b xs (chain_in links heads t) ≡ get_or (set (chains_in links heads) s xs) t []
       go t true e k = rw (← eqb-true s t e) (sym (get_or-set_same (chains_in links heads) s xs [] k))
       go t false e k = sym (get_or-set_other (chains_in links heads) s t xs [] (λ d. eqb-false s t e (sym d)) ∙ chain_at links heads t)
-
-  pub two_changed : (s r : ℕ) (xs ys : List ℕ) → s < length heads → r < length heads → ((t : ℕ) → chain t ≡ cond (nat_eq s t) xs (cond (nat_eq r t) ys (chain_in links heads t))) →
-      chains_in ms hs ≡ set (set (chains_in links heads) r ys) s xs
-  two_changed s r xs ys there there_2 each =
-      let n : length (chains_in links heads) ≡ length heads = length-map heads (walk_on links (length links)) in
-      let m : length (set (chains_in links heads) r ys) ≡ length (chains_in links heads) = length-set (chains_in links heads) r ys in
-      all_chains (set (set (chains_in links heads) r ys) s xs) (omega (arith, length-set (set (chains_in links heads) r ys) s xs, m, n))
-      (λ t h. each t ∙ go t (nat_eq s t) (nat_eq r t) refl refl (omega (arith, n, m, there)) (omega (arith, n, there_2)))
-    where
-      go : (t : ℕ) (b c : Bool) → nat_eq s t ≡ b → nat_eq r t ≡ c → s < length (set (chains_in links heads) r ys) → r < length (chains_in links heads) →
-          cond b xs (cond c ys (chain_in links heads t)) ≡ get_or (set (set (chains_in links heads) r ys) s xs) t []
-      go t true c e f k l = rw (← eqb-true s t e) (sym (get_or-set_same (set (chains_in links heads) r ys) s xs [] k))
-      go t false true e f k l =
-          sym (get_or-set_other (set (chains_in links heads) r ys) s t xs [] (λ d. eqb-false s t e (sym d)) ∙ rw (← eqb-true r t f) (get_or-set_same (chains_in links heads) r ys [] l))
-      go t false false e f k l =
-          sym (get_or-set_other (set (chains_in links heads) r ys) s t xs [] (λ d. eqb-false s t e (sym d))
-          ∙ (get_or-set_other (chains_in links heads) r t ys [] (λ d. eqb-false r t f (sym d)) ∙ chain_at links heads t))

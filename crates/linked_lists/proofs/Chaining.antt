@@ -1,14 +1,14 @@
 -- Chains of cells: what putting one in and taking one out does to each of them.
 use Rattle.std.proofs.Common.{◌≡◌, ℕ, suc, ◌+◌, ◌<◌, ◌≤◌, Bool, true, false, cond, nat_eq, List, [], ◌∷◌, ◌++◌, length, get_or, set, refl, ap, sym, ◌∙◌, subst, arith}
 use Rattle.std.specs.Prelude.{Option, Some, None}
-use Rattle.std.proofs.lemmas.List.{get_or-set_same, get_or-set_other, length-set}
+use Rattle.std.proofs.lemmas.List.{get_or-set_same, get_or-set_other}
 use Rattle.std.proofs.lemmas.Bool.{eqb-true, eqb-false}
 use Rattle.linked_lists.specs.declared.links.Link.{Link}
 use Rattle.linked_lists.specs.Ids.{times, put_at}
 use Rattle.linked_lists.specs.Links.{none, no_link, new_link, free_link, link_at, next_at, prev_at, first_of, last_of, IsLinked, with_next, with_prev, linked_in, linked_out}
-use Rattle.linked_lists.specs.Chains.{AreChains, has_head, once_if, with_front, cut, without, with_head, splice_chains}
+use Rattle.linked_lists.specs.Chains.{AreChains, has_head, once_if, with_front, cut, without, with_head}
 use Rattle.linked_lists.proofs.IdLemmas.{times-append, get_or-put_at_other, length-put_at}
-use Rattle.linked_lists.proofs.Linking.{next_other, prev_other, first_there, last_there, linked_same, linked_back, linked_join, linked_more, linked_less, length-with_next, length-with_prev, new_end, new_start, length-linked_in, length-linked_out}
+use Rattle.linked_lists.proofs.Linking.{next_other, prev_other, first_there, last_there, linked_same, linked_back, linked_more, linked_less, length-linked_in, length-linked_out}
 
 pub once_at_most : (b : Bool) → once_if b ≤ 1
 once_at_most true = omega arith
@@ -283,110 +283,3 @@ module _ (links : List Link) (heads : List ℕ) (chain : ℕ → List ℕ) (head
     members = λ t v. less_members t v (nat_eq s t) (nat_eq cell v) refl refl;
     below = λ v h. less_below v (nat_eq cell v) refl (omega (arith, h, length-linked_out cell prev next none links));
   }
-
--- ---- the cells of one head are put before those of another
-
-module _ (links : List Link) (heads : List ℕ) (chain : ℕ → List ℕ) (head : ℕ → Option ℕ) (ok : AreChains links heads chain head) (s t : ℕ) (other : s ≡ t → ⊥) where
-  abbrev last : ℕ
-  last = last_of none (chain s)
-
-  abbrev after : ℕ
-  after = first_of (chain t) none
-
-  abbrev joined_links : List Link
-  joined_links = with_prev after last (with_next last after links)
-
-  last_here : 0 < length (chain s) → 0 < times last (chain s)
-  last_here h = go (chain s) h
-    where
-      go : (xs : List ℕ) → 0 < length xs → 0 < times (last_of none xs) xs
-      go [] h = absurd (omega (arith, h))
-      go (x ∷ xs) h = last_there x xs
-
-  -- the last of the first chain is in no other one
-  not_last : 0 < length (chain s) → (u v : ℕ) → (s ≡ u → ⊥) → 0 < times v (chain u) → v ≡ last → ⊥
-  not_last some u v n h = chains_apart links heads chain head ok u s v last (λ r. n (sym r)) h (last_here some)
-
-  not_after : (u v : ℕ) → (t ≡ u → ⊥) → 0 < times v (chain u) → v ≡ after → ⊥
-  not_after u v n h = first_apart_of links heads chain head ok t u v (chain t) refl n h
-
-  joined_linked : 0 < length (chain s) → IsLinked joined_links none (chain s ++ chain t) none
-  joined_linked some =
-      let l1 = with_next last after links in
-      let x1 : IsLinked l1 none (chain s) after = new_end links none (chain s) none after (chain_once links heads chain head ok s) (ok.linked s) in
-      let y1 : IsLinked l1 none (chain t) none = linked_same links l1 none (chain t) none (λ v h. next_other last v after links (not_last some t v other h)) (ok.linked t) in
-      let x2 : IsLinked joined_links none (chain s) after = linked_same l1 joined_links none (chain s) after (λ v h. prev_other after v last l1 (not_after s v (λ e. other (sym e)) h)) x1 in
-      let y2 : IsLinked joined_links last (chain t) none = new_start l1 none (chain t) none last (chain_once links heads chain head ok t) y1 in
-      linked_join joined_links none (chain s) (chain t) none x2 y2
-
-  spliced_linked : 0 < length (chain s) → (u : ℕ) (a b : Bool) → nat_eq s u ≡ a → nat_eq t u ≡ b → IsLinked joined_links none (cond a [] (cond b (chain s ++ chain t) (chain u))) none
-  spliced_linked some u true b e f = tt
-  spliced_linked some u false true e f = joined_linked some
-  spliced_linked some u false false e f =
-      let l1 = with_next last after links in
-      linked_same links joined_links none (chain u) none
-      (λ v h. prev_other after v last l1 (not_after u v (eqb-false t u f) h) ∙ next_other last v after links (not_last some u v (eqb-false s u e) h))
-      (ok.linked u)
-
-  spliced_first : 0 < length (chain s) → s < length heads → t < length heads → (u : ℕ) (a b : Bool) → nat_eq s u ≡ a → nat_eq t u ≡ b →
-      get_or (set (set heads t (get_or heads s none)) s none) u none ≡ first_of (cond a [] (cond b (chain s ++ chain t) (chain u))) none
-  spliced_first some s_in t_in u true b e f =
-      rw (← eqb-true s u e) (get_or-set_same (set heads t (get_or heads s none)) s none none (omega (arith, s_in, length-set heads t (get_or heads s none))))
-  spliced_first some s_in t_in u false true e f =
-      get_or-set_other (set heads t (get_or heads s none)) s u none none (λ d. eqb-false s u e (sym d))
-      ∙ (rw (← eqb-true t u f) (get_or-set_same heads t (get_or heads s none) none t_in) ∙ (ok.first s ∙ front (chain s) some))
-    where
-      front : (xs : List ℕ) → 0 < length xs → first_of xs none ≡ first_of (xs ++ chain t) none
-      front [] h = absurd (omega (arith, h))
-      front (x ∷ xs) h = refl
-  spliced_first some s_in t_in u false false e f =
-      get_or-set_other (set heads t (get_or heads s none)) s u none none (λ d. eqb-false s u e (sym d))
-      ∙ (get_or-set_other heads t u (get_or heads s none) none (λ d. eqb-false t u f (sym d)) ∙ ok.first u)
-
-  -- the heads of cells once those of the first are those of the other
-  abbrev head_moved : ℕ → Option ℕ
-  head_moved v = cond (has_head (head v) s) (Some t) (head v)
-
-  -- how often a cell is in either chain
-  either : (o : Option ℕ) → once_if (has_head o s) + once_if (has_head o t) ≡ once_if (has_head (cond (has_head o s) (Some t) o) t)
-  either None = refl
-  either (Some w) = go (nat_eq w s) refl
-    where
-      go : (b : Bool) → nat_eq w s ≡ b → once_if b + once_if (nat_eq w t) ≡ once_if (has_head (cond b (Some t) (Some w)) t)
-      go true e =
-          let n : nat_eq w t ≡ false = unlike w t (λ d. other (sym (eqb-true w s e) ∙ d)) in
-          rw (n, eq_self t) refl
-      go false e = omega arith
-
-  gone : (o : Option ℕ) → 0 ≡ once_if (has_head (cond (has_head o s) (Some t) o) s)
-  gone None = refl
-  gone (Some w) = go (nat_eq w s) refl
-    where
-      go : (b : Bool) → nat_eq w s ≡ b → 0 ≡ once_if (has_head (cond b (Some t) (Some w)) s)
-      go true e = rw (unlike t s (λ d. other (sym d))) refl
-      go false e = rw e refl
-
-  kept : (o : Option ℕ) (u : ℕ) → (s ≡ u → ⊥) → (t ≡ u → ⊥) → once_if (has_head o u) ≡ once_if (has_head (cond (has_head o s) (Some t) o) u)
-  kept None u n m = refl
-  kept (Some w) u n m = go (nat_eq w s) refl
-    where
-      go : (b : Bool) → nat_eq w s ≡ b → once_if (nat_eq w u) ≡ once_if (has_head (cond b (Some t) (Some w)) u)
-      go true e = rw (unlike t u m, unlike w u (λ d. n (sym (eqb-true w s e) ∙ d))) refl
-      go false e = refl
-
-  spliced_members : (u v : ℕ) (a b : Bool) → nat_eq s u ≡ a → nat_eq t u ≡ b → times v (cond a [] (cond b (chain s ++ chain t) (chain u))) ≡ once_if (has_head (head_moved v) u)
-  spliced_members u v true b e f = rw (← eqb-true s u e) (gone (head v))
-  spliced_members u v false true e f =
-      rw (← eqb-true t u f) (omega (arith, times-append v (chain s) (chain t), ok.members s v, ok.members t v, either (head v)))
-  spliced_members u v false false e f = ok.members u v ∙ kept (head v) u (eqb-false s u e) (eqb-false t u f)
-
-  pub chained_splice : 0 < length (chain s) → s < length heads → t < length heads → AreChains joined_links (set (set heads t (get_or heads s none)) s none) (splice_chains s t chain) head_moved
-  chained_splice some s_in t_in =
-      let size : length joined_links ≡ length links = length-with_prev after last (with_next last after links) ∙ length-with_next last after links in
-      record {
-        few = omega (arith, ok.few, size);
-        linked = λ u. spliced_linked some u (nat_eq s u) (nat_eq t u) refl refl;
-        first = λ u. spliced_first some s_in t_in u (nat_eq s u) (nat_eq t u) refl refl;
-        members = λ u v. spliced_members u v (nat_eq s u) (nat_eq t u) refl refl;
-        below = λ v h. let e : head v ≡ None = ok.below v (omega (arith, h, size)) in rw e refl;
-      }

@@ -39,10 +39,6 @@ without s cell chain t = cond (nat_eq s t) (cut cell (chain t)) (chain t)
 abbrev pub with_head : ℕ → Option ℕ → (ℕ → Option ℕ) → ℕ → Option ℕ
 with_head cell s head v = cond (nat_eq cell v) s (head v)
 
--- the chains, where the cells of one head stand before those of another
-abbrev pub splice_chains : ℕ → ℕ → (ℕ → List ℕ) → ℕ → List ℕ
-splice_chains from to chain s = cond (nat_eq from s) [] (cond (nat_eq to s) (chain from ++ chain to) (chain s))
-
 -- the cells from one on along the links, so many at most
 unfoldable pub walk_on : List Link → ℕ → ℕ → List ℕ
 walk_on links zero cell = []

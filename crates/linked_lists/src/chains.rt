@@ -2,9 +2,7 @@
 ghost use Rattle.std.specs.Prelude.{◌≡◌};
 ghost use Rattle.linked_lists.specs.Chains.{cell_unless_none};
 
-use crate::links::{
-    Link, NONE, link_in, link_out, next_of, prev_of, set_next, set_prev, unless_none,
-};
+use crate::links::{Link, NONE, link_in, link_out, next_of, prev_of, unless_none};
 use std::alloc::{AllocError, Global};
 use std::marker::Model;
 
@@ -33,7 +31,6 @@ impl Model for Chains {
 
 impl Chains {
     ghost use Rattle.std.specs.Prelude.{◌≡◌, ℕ, ◌<◌, ◌≤◌, ◌+◌, List, [], ◌∷◌, ◌++◌, max, min, length, replicate, slice_index_or, slice_set, Contains, IfOk};
-    ghost use Rattle.linked_lists.specs.Links.{none, last_of};
     ghost use Rattle.linked_lists.specs.Chains.{IsAlone, cut, cell_or_none};
 
     /// No heads and no cells. It takes no memory.
@@ -114,22 +111,6 @@ impl Chains {
         let next = next_of(self.links.as_slice(), cell);
         link_out(&mut self.links, cell, prev, next, NONE);
         self.heads[head] = unless_none(prev, self.heads[head], next);
-    }
-
-    /// Puts the cells of the head `from`, the last of which is `last`, before those of the head `to`, in constant time.
-    pub fn splice(&mut self, from: usize, to: usize, last: u32)
-        requires heads { (from < length self.old.chains) × (to < length self.old.chains) }
-        requires apart { from ≡ to → ⊥ }
-        requires last { (0 < length (slice_index_or self.old.chains from [])) × (last ≡ last_of none (slice_index_or self.old.chains from [])) }
-        ensures chains { self.new.chains ≡ slice_set (slice_set self.old.chains to (slice_index_or self.old.chains from [] ++ slice_index_or self.old.chains to [])) from [] }
-        ensures cells { self.new.cells ≡ self.old.cells }
-        ensures room { self.new.room ≡ self.old.room }
-    {
-        let next = self.heads[to];
-        set_next(&mut self.links, last, next);
-        set_prev(&mut self.links, next, last);
-        self.heads[to] = self.heads[from];
-        self.heads[from] = NONE;
     }
 }
 

@@ -47,7 +47,7 @@ pub fn is_live(links: &[Link], id: u32) -> bool
 }
 
 /// Puts `next` after an id, where it is one.
-pub fn set_next(links: &mut Vec<Link>, id: u32, next: u32)
+fn set_next(links: &mut Vec<Link>, id: u32, next: u32)
     ensures items { links.new.items ≡ with_next id next links.old.items }
     ensures len { vec_len links.new ≡ vec_len links.old }
     ensures capacity { vec_capacity links.new ≡ vec_capacity links.old }
@@ -58,7 +58,7 @@ pub fn set_next(links: &mut Vec<Link>, id: u32, next: u32)
 }
 
 /// Puts `prev` before an id, where it is one.
-pub fn set_prev(links: &mut Vec<Link>, id: u32, prev: u32)
+fn set_prev(links: &mut Vec<Link>, id: u32, prev: u32)
     ensures items { links.new.items ≡ with_prev id prev links.old.items }
     ensures len { vec_len links.new ≡ vec_len links.old }
     ensures capacity { vec_capacity links.new ≡ vec_capacity links.old }
