@@ -17,7 +17,7 @@ pub record ErasedFits (md : Module) (o : Op) (x : Ref) : Type 0 where
   pub known : is_nonzero_kind o.kind ≡ true → is_nonzero_ref md.body (Some x) ≡ true
   pub constant : is_constant o.kind ≡ true → is_constant_ref md.body x ≡ true
 
--- o may be put in at position i: o fits the body, and the output stays behind it
+-- o may be put in at position i: o fits the body, and the output stays after it
 pub record InsertedFits (md : Module) (i : ℕ) (o : Op) : Type 0 where
   pub before_end : i < length md.body
   pub fits : IsFitting md.ports md.body o

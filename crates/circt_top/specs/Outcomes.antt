@@ -33,7 +33,7 @@ abbrev pub fail_in_whole : Piece → OutcomeFail → OutcomeFail
 fail_in_whole p (Refused r) = Refused (in_whole p r)
 fail_in_whole p NoMemory = NoMemory
 
--- the piece is refused so, or memory was wanting
+-- the piece is refused so, or there was no memory
 abbrev pub IsFailOfPiece : Piece → OutcomeFail → Type 0
 IsFailOfPiece p (Refused r) = IsPieceRefused p r
 IsFailOfPiece p NoMemory = Unit {0}

@@ -61,7 +61,7 @@ const ROWS: [Row; 23] = [
         out: PRINTED_TWICE,
         err: "",
     },
-    // blanks may stand behind the dashes
+    // blanks may stand after the dashes
     Row {
         words: FLAG,
         input: "hw.module @A() {}\n// ----- \t\r\nhw.module @A() {}",

@@ -53,7 +53,7 @@ is_flagged id rows = is_true (first_of id rows)
 abbrev pub items_text : Text → Text
 items_text items = codes "builtin.module(" ++ (items ++ codes ")")
 
--- an offset in the list, which stands behind 15 bytes
+-- an offset in the list, which stands after 15 bytes
 abbrev pub in_items : PipelineFail → PipelineFail
 in_items (UnknownPass at) = UnknownPass (at - 15)
 in_items (WrongPlace at) = WrongPlace (at - 15)

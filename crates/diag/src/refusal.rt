@@ -5,7 +5,7 @@ ghost use Rattle.diag.specs.Place.{start_place, next_place, further};
 use crate::cause::Cause;
 use opcode::listed::Listed;
 
-/// A place in a text: its line, and its column in bytes, both from 1. Each stands still at the end
+/// A place in a text: its line, and its column in bytes, both from 1. Each saturates at the end
 /// of a u32, which a text of less than 2^32 bytes does not reach.
 #[derive(Clone, Copy, Debug, PartialEq, Eq)]
 pub struct Place {

@@ -42,7 +42,7 @@ load_text indent l bs = indent ++ (l.target ++ (codes " <= " ++ expr_text l.valu
 unfoldable pub if_text : Text → Expr → Text → Text
 if_text front e bs = front ++ (codes "if (" ++ expr_text e (41 ∷ 10 ∷ bs))
 
--- what stands behind the clock's name: a second event where there is one, and `)`
+-- what stands after the clock's name: a second event where there is one, and `)`
 unfoldable pub event_text : Block → Text → Text
 event_text (async_reset n l m) bs = codes " or posedge " ++ (n ++ (41 ∷ 10 ∷ bs))
 event_text _ bs = 41 ∷ 10 ∷ bs

@@ -1,7 +1,7 @@
 -- Counts of faults: when they rise, and that a call fails only where its own count rose.
 use Rattle.std.specs.Prelude.{ℕ, ◌+◌, ◌-◌, ◌^◌, ◌≤◌, min, Result, OnErr}
 
--- the count one higher; it stands still at the end of a u64
+-- the count one higher; it saturates at the end of a u64
 abbrev pub next_count : ℕ → ℕ
 next_count count = min (count + 1) (2 ^ 64 - 1)
 

@@ -37,7 +37,7 @@ pub trait Files {
     // The files, each a name and its bytes, where they are told. The first of a name counts.
     ghost files: { Self → Option (List (List ℕ × List ℕ)) };
 
-    // How many faults reads of a name met. No count ever falls; each stands still at the end of a u64.
+    // How many faults reads of a name met. No count ever falls; each saturates at the end of a u64.
     ghost read_faults: { Self → List ℕ → ℕ };
 
     // How many faults writes of a name met, in the same way.

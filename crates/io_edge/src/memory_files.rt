@@ -96,14 +96,14 @@ impl MemoryFiles {
         files
     }
 
-    /// How many reads failed. The count stands still at its type's end.
+    /// How many reads failed. The count saturates at its type's end.
     pub fn read_faults(&self) -> u64
         ensures { result ≡ self.now.read_faults }
     {
         self.read_faults
     }
 
-    /// How many writes failed. The count stands still at its type's end.
+    /// How many writes failed. The count saturates at its type's end.
     pub fn write_faults(&self) -> u64
         ensures { result ≡ self.now.write_faults }
     {

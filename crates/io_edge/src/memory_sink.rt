@@ -66,7 +66,7 @@ impl MemorySink {
         self.held.as_slice()
     }
 
-    /// How many puts failed. The count stands still at its type's end.
+    /// How many puts failed. The count saturates at its type's end.
     pub fn faults(&self) -> u64
         ensures { result ≡ self.now.faults }
     {

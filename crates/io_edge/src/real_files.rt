@@ -45,14 +45,14 @@ impl<'a, R: rt::Files + Input> RealFiles<'a, R> {
         }
     }
 
-    /// How many reads failed. The count stands still at its type's end.
+    /// How many reads failed. The count saturates at its type's end.
     pub fn read_faults(&self) -> u64
         ensures { result ≡ self.now.reads }
     {
         self.read_faults
     }
 
-    /// How many writes failed or took nothing. The count stands still at its type's end.
+    /// How many writes failed or took nothing. The count saturates at its type's end.
     pub fn write_faults(&self) -> u64
         ensures { result ≡ self.now.writes }
     {

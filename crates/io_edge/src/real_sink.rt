@@ -31,7 +31,7 @@ impl<W: Write + Drop> RealSink<W> {
         RealSink { writer, faults: 0 }
     }
 
-    /// How many writes failed or took nothing. The count stands still at its type's end.
+    /// How many writes failed or took nothing. The count saturates at its type's end.
     pub fn faults(&self) -> u64
         ensures { result ≡ self.now.faults }
     {

@@ -20,7 +20,7 @@ pub trait Sink {
     // The bytes that it was sent, where it tells them.
     ghost told: { Self → Option (List ℕ) };
 
-    // How many faults it met. The count never falls, and stands still at the end of a u64.
+    // How many faults it met. The count never falls, and saturates at the end of a u64.
     ghost faults: { Self → ℕ };
 
     // What one put may do: the sink before, the piece, whether all of it was taken, the sink after.

@@ -155,7 +155,7 @@ module _ (v to : Value) (xs : List Value) (cell : ℕ) (was : has_value v xs cel
           ap (λ b. cond b (x ∷ cells_with v (set xs cell to) (cut cell cells)) (cells_with v (set xs cell to) (cut cell cells))) (elsewhere x (eqb-false x cell t))
           ∙ (ap (λ zs. cond (has_value v xs x) (x ∷ zs) zs) (r n) ∙ keep (has_value v xs x) t)
 
-  -- in the chains where the cell is in another one, or in front of the same one
+  -- in the chains where the cell is in another one, or before the same one
   pub moved : (chains : List (List ℕ)) (s t : ℕ) → s < length chains → t < length chains → times cell (get_or chains s []) ≡ 1 →
       cells_with v (set xs cell to) (get_or (set (set chains s (cut cell (get_or chains s []))) t (cell ∷ get_or (set chains s (cut cell (get_or chains s []))) t [])) s []) ≡ cut cell (cells_with v xs (get_or chains s []))
   moved chains s t s_in t_in once = go (nat_eq s t) refl

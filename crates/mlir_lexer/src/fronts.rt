@@ -134,7 +134,7 @@ fn suffix_token(kind: TokenKind, behind: &[u8]) -> Front
     }
 }
 
-// A token that ends with the string of which `behind` follows the opening quote.
+// A token that ends with the string whose bytes after the opening quote are `behind`.
 fn string_token(kind: TokenKind, before: usize, behind: &[u8]) -> Front
     requires { before ≤ 1 }
     ensures { result ≡ string_token kind before (string_length behind.now) }

@@ -16,7 +16,7 @@ use ir_store::design::Design;
 use opcode::listed::Listed;
 use std::alloc::{AllocError, Global};
 
-/// Takes a design in canonical form of which nothing is refused. It is dropped where something is, and where memory is wanting.
+/// Takes a design in canonical form of which nothing is refused. It is dropped where something is, and when out of memory.
 /// What is read is in canonical form; who builds a design otherwise may ask `is_canonical` of `canonical_form`.
 pub fn verify(alloc: Global, design: Design) -> Result<Verified, VerifyFail>
     requires { IsCanonical (design_of design) }

@@ -78,6 +78,6 @@ abbrev pub port_count : Design → ℕ
 port_count d = total (map (λ (m : Module). length m.ports) d)
 
 -- whether a port is a reset port: by a chain of at most as many instances as the design has ports, since a shortest chain
--- has no port twice behind its first (modules may be within themselves here, so their number bounds no chain)
+-- has no port twice after its first (modules may be within themselves here, so their number bounds no chain)
 abbrev pub is_reset_port : Design → Module → ℕ → Bool
 is_reset_port d m j = is_reset_within (suc (port_count d)) d m j

@@ -125,7 +125,7 @@ fn push_operands(
     Ok(())
 }
 
-/// How many inputs stand before the port behind one, before which so many stand.
+/// How many inputs stand before the port after one, before which so many stand.
 fn inputs_after(port: &Port, inputs: usize) -> usize
     requires { inputs + 1 < 2 ^ 64 }
     ensures { result ≡ cond port.now.out inputs (inputs + 1) }

@@ -14,7 +14,7 @@ use std::alloc::{AllocError, Global};
 /// The ports of all modules of a design in one row.
 #[derive(Drop)]
 pub(crate) struct PortRow {
-    /// The number of the first port of each module, and behind these how many ports there are.
+    /// The number of the first port of each module, and after these how many ports there are.
     pub(crate) starts: Vec<u32>,
     /// Of each port those that instances join to it.
     pub(crate) joined: Vec<NodeList>,

@@ -14,7 +14,7 @@ use std::alloc::{AllocError, Global};
 /// that an instance joins to a reset port. Contracts see it by `AreResetPorts`.
 #[derive(Drop)]
 pub struct ResetPorts {
-    /// The number of the first port of each module, and behind these how many ports there are.
+    /// The number of the first port of each module, and after these how many ports there are.
     starts: Vec<u32>,
     /// Of each port whether it is a reset port.
     marks: Vec<bool>,

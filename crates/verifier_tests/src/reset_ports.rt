@@ -54,7 +54,7 @@ const OUT: HeaderPort = HeaderPort {
     ty: PortType::Int(1),
 };
 
-// A register that the second input resets, behind an output.
+// A register that the second input resets, after an output.
 const LOW: ModuleCase = ModuleCase {
     symbol: b"Low",
     ports: &[OUT, A, B],

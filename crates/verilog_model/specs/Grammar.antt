@@ -135,7 +135,7 @@ load_spelled l ps = word l.target ∷ arrow ∷ expr_spelled l.value (semicolon 
 abbrev pub if_spelled : Expr → Spelling → Spelling
 if_spelled e ps = word (codes "if") ∷ open_paren ∷ expr_spelled e (close_paren ∷ ps)
 
--- what stands behind the clock's name: the second event where there is one, and after `)` what the block does
+-- what stands after the clock's name: the second event where there is one, and after `)` what the block does
 abbrev pub block_spelled : Block → Spelling → Spelling
 block_spelled (load l) ps = close_paren ∷ load_spelled l ps
 block_spelled (if_load c l) ps = close_paren ∷ if_spelled c (load_spelled l ps)

@@ -35,7 +35,7 @@ async_added s v q clock next w r by out one c n g l is =
     ∙ ap (λ x. out ++ item_text (always (name_or_nothing (named_of v r.clock)) (written_async q (used_text s v r.next) (record { signal = name_or_nothing (named_of v by.signal); value = x }))) []) l
     ∙ ap (λ x. out ++ x) (async_same (value_expr s v) q (name_or_nothing (named_of v r.clock)) (named_of v) (value_literal s) r.next by [])
 
--- events, and a block behind them
+-- events, and a block after them
 pub events_added : (out one two clock signal body : Text) → one ≡ out ++ events_text clock signal → two ≡ one ++ body
     → two ≡ out ++ (codes "  always @(posedge " ++ (clock ++ (codes " or posedge " ++ (signal ++ (41 ∷ 10 ∷ body)))))
 unfolding events_text

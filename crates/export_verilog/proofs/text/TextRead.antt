@@ -133,7 +133,7 @@ either_read c l m rest condition first second =
     ∙ ap (if_spelled c) (six_read l (codes "    else" ++ (10 ∷ load_text (codes "      ") m rest)) first
     ∙ ap (λ ts. load_spelled l (word (codes "else") ∷ ts)) (six_read m rest second))
 
--- what stands behind the clock's name
+-- what stands after the clock's name
 block_read : (b : Block) (rest : Text) → IsSpellableBlock b → tokens (event_text b (block_text b rest)) ≡ block_spelled b (tokens rest)
 unfolding event_text block_text
 block_read (load l) rest is = ap (λ ts. mark 41 ∷ ts) (four_read l rest is)
@@ -148,7 +148,7 @@ block_read (async_reset n l m) rest is =
     ap (λ ts. word (codes "or") ∷ word (codes "posedge") ∷ ts) (word_read n (41 ∷ 10 ∷ block_text (async_reset n l m) rest) is.0 refl
     ∙ ap (λ ts. word n ∷ mark 41 ∷ ts) (either_read (name n) l m rest is.0 is.1.0 is.1.1))
 
--- no name goes on into what stands behind a clock's
+-- no name goes on into what stands after a clock's
 events_apart : (b : Block) (rest : Text) → GoesOn (event_text b rest)
 unfolding event_text
 events_apart (load l) rest = refl
