@@ -1,0 +1,25 @@
+-- Lemmas.
+pub mod Measures
+pub mod MadeKinds
+pub mod Constants
+pub mod Stands
+pub mod Operands
+pub mod NeutralSecond
+pub mod Choices
+pub mod AnyOperands
+pub mod WholeValues
+pub mod Unused
+pub mod VariadicCauses
+pub mod FewerOperands
+pub mod FewerRows
+pub mod Pairs
+pub mod NumberOps
+pub mod Numbered
+pub mod IntegerTypes
+pub mod NumberRows
+pub mod Evaluated
+pub mod Behind
+pub mod Parts
+pub mod JoinedParts
+pub mod ArrayParts
+pub mod Samples

@@ -1,0 +1,8 @@
+//! Folds of operations: what each row of their table makes of a body, and that a design keeps what it does.
+#![tactic(auto)]
+
+mod laws;
+
+pub use laws::{
+    operands_go, operands_stand, operations_become_constants, parts_stand, unused_operations_go,
+};
