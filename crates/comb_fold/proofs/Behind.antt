@@ -1,4 +1,4 @@
--- A value behind an operand that stands for the only result of an operation: what must be shown of it, and that it makes a
+-- An operand of the operation that made an operand, in the place of an only result: what must be shown of it, and that it makes a
 -- fold.
 use Rattle.std.proofs.Common.{◌≡◌, ℕ, zero, suc, ◌<◌, true, false, List, length, map, Option, Some, None, slice_get, sym, ap, subst, ◌∙◌, arith}
 use Rattle.wiring.specs.Options.{bind, omap}
