@@ -36,23 +36,18 @@ use Rattle.comb_fold.proofs.Stands.{Known, Held, held_width}
 
 -- ---- operands and types
 
--- two operands that meet a test, and the number
-record TestOfTwo (test : Ref → Ref → Bool) (m : ℕ) (rs : List Ref) (n : ℕ) : Type 0 where
-  first : Ref
-  second : Ref
-  operands : rs ≡ first ∷ second ∷ []
-  met : test first second ≡ true
-  number_is : m ≡ n
-
-two_are : (test : Ref → Ref → Bool) (m : ℕ) (rs : List Ref) (n : ℕ) → number_where test m rs ≡ Some n → TestOfTwo test m rs n
-two_are test m [] n is = cc
-two_are test m (x ∷ []) n is = cc
-two_are test m (x ∷ y ∷ []) n is = go (test x y) refl is
+-- a number that two operands give where they meet a test: what it makes of such two, it makes wherever it is given
+of_two_makes : (os : List Op) (kind : Kind) (test : Ref → Ref → Bool) (m : ℕ) (ts : List HwType) (rs : List Ref) (n : ℕ) (type_of : Ref → Option HwType) (t : HwType)
+    → ((x y : Ref) → test x y ≡ true → m ≡ n → Known os kind ts (x ∷ y ∷ []) type_of t → Makes os kind ts (x ∷ y ∷ []) n type_of t)
+    → number_where test m rs ≡ Some n → Known os kind ts rs type_of t → Makes os kind ts rs n type_of t
+of_two_makes os kind test m ts [] n type_of t each is known = cc
+of_two_makes os kind test m ts (x ∷ []) n type_of t each is known = cc
+of_two_makes os kind test m ts (x ∷ y ∷ []) n type_of t each is known = go (test x y) refl is
   where
-    go : (b : Bool) → test x y ≡ b → cond b (Some m) None ≡ Some n → TestOfTwo test m (x ∷ y ∷ []) n
-    go true met is = record { first = x; second = y; operands = refl; met = met; number_is = cc }
-    go false met is = cc
-two_are test m (x ∷ y ∷ z ∷ rs) n is = cc
+    go : (b : Bool) → test x y ≡ b → cond b (Some m) None ≡ Some n → Makes os kind ts (x ∷ y ∷ []) n type_of t
+    go true met e = let number_is : m ≡ n = cc in each x y met number_is known
+    go false met e = cc
+of_two_makes os kind test m ts (x ∷ y ∷ z ∷ rs) n type_of t each is known = cc
 
 -- the word of a value of that type is as wide
 integer_width : {os : List Op} {type_of : Ref → Option HwType} {τ : Ref → Word} {t : HwType} → (integer : IsIntegerType t) → Held os type_of τ → (r : Ref) → type_of r ≡ Some t
@@ -91,10 +86,7 @@ sub_self_makes = record { made = made; makes = makes }
 
     makes : (os : List Op) (kind : Kind) (ts : List HwType) (rs : List Ref) (n : ℕ) (type_of : Ref → Option HwType) (t : HwType)
         → sub_self os kind ts t rs ≡ Some n → Known os kind ts rs type_of t → Makes os kind ts rs n type_of t
-    makes os sub ts rs n type_of t is known =
-        let two = two_are same_ref 0 rs n is in
-        subst (λ q. Makes os sub ts q n type_of t) (sym two.operands)
-        (sub_makes os ts two.first two.second n type_of t two.met two.number_is (subst (λ q. Known os sub ts q type_of t) two.operands known))
+    makes os sub ts rs n type_of t is known = of_two_makes os sub same_ref 0 ts rs n type_of t (λ x y. sub_makes os ts x y n type_of t) is known
     makes os _ ts rs n type_of t is known = cc
 
 -- ---- an exclusive or of equals
@@ -128,10 +120,7 @@ xor_self_makes = record { made = made; makes = makes }
 
     makes : (os : List Op) (kind : Kind) (ts : List HwType) (rs : List Ref) (n : ℕ) (type_of : Ref → Option HwType) (t : HwType)
         → xor_self os kind ts t rs ≡ Some n → Known os kind ts rs type_of t → Makes os kind ts rs n type_of t
-    makes os (variadic xor) ts rs n type_of t is known =
-        let two = two_are same_ref 0 rs n is in
-        subst (λ q. Makes os (variadic xor) ts q n type_of t) (sym two.operands)
-        (xor_makes os ts two.first two.second n type_of t two.met two.number_is (subst (λ q. Known os (variadic xor) ts q type_of t) two.operands known))
+    makes os (variadic xor) ts rs n type_of t is known = of_two_makes os (variadic xor) same_ref 0 ts rs n type_of t (λ x y. xor_makes os ts x y n type_of t) is known
     makes os _ ts rs n type_of t is known = cc
 
 -- ---- shifted out
@@ -170,17 +159,12 @@ shift_out_makes = record { made = made; makes = makes }
     made os (shift s) ts t rs n is = refl
     made os _ ts t rs n is = cc
 
-    by_kind : (os : List Op) (s : Shift) (ts : List HwType) (rs : List Ref) (n : ℕ) (type_of : Ref → Option HwType) (t : HwType) → LeavesNothing s
-        → number_where (λ x y. is_constant_where shifts_out os y) 0 rs ≡ Some n → Known os (shift s) ts rs type_of t → Makes os (shift s) ts rs n type_of t
-    by_kind os s ts rs n type_of t nothing is known =
-        let two = two_are (λ x y. is_constant_where shifts_out os y) 0 rs n is in
-        subst (λ q. Makes os (shift s) ts q n type_of t) (sym two.operands)
-        (shift_makes os s ts two.first two.second n type_of t nothing two.met two.number_is (subst (λ q. Known os (shift s) ts q type_of t) two.operands known))
-
     makes : (os : List Op) (kind : Kind) (ts : List HwType) (rs : List Ref) (n : ℕ) (type_of : Ref → Option HwType) (t : HwType)
         → shift_out os kind ts t rs ≡ Some n → Known os kind ts rs type_of t → Makes os kind ts rs n type_of t
-    makes os (shift shl) ts rs n type_of t is known = by_kind os shl ts rs n type_of t shift_left_out is known
-    makes os (shift shru) ts rs n type_of t is known = by_kind os shru ts rs n type_of t shift_right_out is known
+    makes os (shift shl) ts rs n type_of t is known =
+        of_two_makes os (shift shl) (λ x y. is_constant_where shifts_out os y) 0 ts rs n type_of t (λ x y. shift_makes os shl ts x y n type_of t shift_left_out) is known
+    makes os (shift shru) ts rs n type_of t is known =
+        of_two_makes os (shift shru) (λ x y. is_constant_where shifts_out os y) 0 ts rs n type_of t (λ x y. shift_makes os shru ts x y n type_of t shift_right_out) is known
     makes os _ ts rs n type_of t is known = cc
 
 -- ---- rests by 1
@@ -219,17 +203,12 @@ rest_by_one_makes = record { made = made; makes = makes }
     made os (division v) ts t rs n is = refl
     made os _ ts t rs n is = cc
 
-    by_kind : (os : List Op) (v : Division) (ts : List HwType) (rs : List Ref) (n : ℕ) (type_of : Ref → Option HwType) (t : HwType) → LeavesNoRest v
-        → number_where (λ x y. is_constant_where is_one os y) 0 rs ≡ Some n → Known os (division v) ts rs type_of t → Makes os (division v) ts rs n type_of t
-    by_kind os v ts rs n type_of t nothing is known =
-        let two = two_are (λ x y. is_constant_where is_one os y) 0 rs n is in
-        subst (λ q. Makes os (division v) ts q n type_of t) (sym two.operands)
-        (rest_makes os v ts two.first two.second n type_of t nothing two.met two.number_is (subst (λ q. Known os (division v) ts q type_of t) two.operands known))
-
     makes : (os : List Op) (kind : Kind) (ts : List HwType) (rs : List Ref) (n : ℕ) (type_of : Ref → Option HwType) (t : HwType)
         → rest_by_one os kind ts t rs ≡ Some n → Known os kind ts rs type_of t → Makes os kind ts rs n type_of t
-    makes os (division modu) ts rs n type_of t is known = by_kind os modu ts rs n type_of t rest_words-one is known
-    makes os (division mods) ts rs n type_of t is known = by_kind os mods ts rs n type_of t signed_rest_words-one is known
+    makes os (division modu) ts rs n type_of t is known =
+        of_two_makes os (division modu) (λ x y. is_constant_where is_one os y) 0 ts rs n type_of t (λ x y. rest_makes os modu ts x y n type_of t rest_words-one) is known
+    makes os (division mods) ts rs n type_of t is known =
+        of_two_makes os (division mods) (λ x y. is_constant_where is_one os y) 0 ts rs n type_of t (λ x y. rest_makes os mods ts x y n type_of t signed_rest_words-one) is known
     makes os _ ts rs n type_of t is known = cc
 
 -- ---- comparisons of equals
@@ -278,7 +257,5 @@ icmp_self_makes = record { made = made; makes = makes }
     makes : (os : List Op) (kind : Kind) (ts : List HwType) (rs : List Ref) (n : ℕ) (type_of : Ref → Option HwType) (t : HwType)
         → icmp_self os kind ts t rs ≡ Some n → Known os kind ts rs type_of t → Makes os kind ts rs n type_of t
     makes os (icmp p) ts rs n type_of t is known =
-        let two = two_are same_ref (bit (holds_of_equals p)) rs n is in
-        subst (λ q. Makes os (icmp p) ts q n type_of t) (sym two.operands)
-        (icmp_makes os p ts two.first two.second n type_of t two.met two.number_is (subst (λ q. Known os (icmp p) ts q type_of t) two.operands known))
+        of_two_makes os (icmp p) same_ref (bit (holds_of_equals p)) ts rs n type_of t (λ x y. icmp_makes os p ts x y n type_of t) is known
     makes os _ ts rs n type_of t is known = cc
