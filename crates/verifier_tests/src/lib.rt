@@ -9,6 +9,8 @@ mod definitions;
 #[cfg(test)]
 mod designs;
 #[cfg(test)]
+mod one_operation;
+#[cfg(test)]
 mod reset_ports;
 #[cfg(test)]
 mod resets;
