@@ -1,8 +1,0 @@
-pub mod Fold
-pub mod Constants
-pub mod Standing
-pub mod Unused
-pub mod Numbers
-pub mod Evaluated
-pub mod Fewer
-pub mod Parts
