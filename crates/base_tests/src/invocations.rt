@@ -1,5 +1,5 @@
 //! What words of a command line say.
-use command_line::invocation::{LineFail, Work, read_line};
+use command_line::invocation::{Invocation, LineFail, Work, read_line};
 use command_line::usage::UsageKind;
 use pass_pipeline::pass::Pass;
 use pass_pipeline::pipeline::PipelineFail::{BadText, UnknownPass, WrongPlace};
@@ -35,42 +35,54 @@ fn usage_of(alloc: Global, line: &str, offered: &[Pass]) -> Result<Option<UsageK
     }
 }
 
+const WORDS: [(&str, Option<UsageKind>); 23] = [
+    ("", Some(UsageKind::Words)),
+    ("opt", None),
+    ("opt a.mlir b.mlir", Some(UsageKind::Words)),
+    ("opt -o", Some(UsageKind::Words)),
+    ("opt -o a -o b", Some(UsageKind::Words)),
+    ("opt --export-verilog", Some(UsageKind::Words)),
+    ("opt --canonicalise", Some(UsageKind::Words)),
+    ("opt --help", Some(UsageKind::Words)),
+    ("opt -h", Some(UsageKind::Words)),
+    ("--version", Some(UsageKind::Words)),
+    ("help", Some(UsageKind::Words)),
+    ("opt help", None),
+    ("opt --split-input-file a.mlir -o b", None),
+    ("opt --split-input-file=x", Some(UsageKind::Words)),
+    (
+        "translate --export-verilog --split-input-file",
+        Some(UsageKind::Words),
+    ),
+    ("translate", Some(UsageKind::NoTranslation)),
+    ("translate x.mlir", Some(UsageKind::NoTranslation)),
+    ("translate --export-verilog=x", Some(UsageKind::Words)),
+    (
+        "translate --export-verilog --export-verilog",
+        Some(UsageKind::Words),
+    ),
+    ("translate --export-verilog", None),
+    ("translate x.mlir --export-verilog -o y.v", None),
+    ("lec a.mlir", Some(UsageKind::Words)),
+    ("--export-verilog translate", Some(UsageKind::Words)),
+];
+
+// The first words that are a command, or wrong, in another way.
+fn first_other_words(
+    alloc: Global,
+    rows: &[(&'static str, Option<UsageKind>)],
+) -> Result<Option<&'static str>, AllocError> {
+    for (line, kind) in rows {
+        if usage_of(alloc, line, &ALL)? != *kind {
+            return Ok(Some(line));
+        }
+    }
+    Ok(None)
+}
+
 #[test]
 fn words_are_a_command_or_wrong(rt: HostRuntime) -> Result<(), Fail> {
-    let alloc = rt.alloc();
-    for (line, kind) in [
-        ("", Some(UsageKind::Words)),
-        ("opt", None),
-        ("opt a.mlir b.mlir", Some(UsageKind::Words)),
-        ("opt -o", Some(UsageKind::Words)),
-        ("opt -o a -o b", Some(UsageKind::Words)),
-        ("opt --export-verilog", Some(UsageKind::Words)),
-        ("opt --canonicalise", Some(UsageKind::Words)),
-        ("opt --help", Some(UsageKind::Words)),
-        ("opt -h", Some(UsageKind::Words)),
-        ("--version", Some(UsageKind::Words)),
-        ("help", Some(UsageKind::Words)),
-        ("opt help", None),
-        ("opt --split-input-file a.mlir -o b", None),
-        ("opt --split-input-file=x", Some(UsageKind::Words)),
-        (
-            "translate --export-verilog --split-input-file",
-            Some(UsageKind::Words),
-        ),
-        ("translate", Some(UsageKind::NoTranslation)),
-        ("translate x.mlir", Some(UsageKind::NoTranslation)),
-        ("translate --export-verilog=x", Some(UsageKind::Words)),
-        (
-            "translate --export-verilog --export-verilog",
-            Some(UsageKind::Words),
-        ),
-        ("translate --export-verilog", None),
-        ("translate x.mlir --export-verilog -o y.v", None),
-        ("lec a.mlir", Some(UsageKind::Words)),
-        ("--export-verilog translate", Some(UsageKind::Words)),
-    ] {
-        assert_eq!(rt; usage_of(alloc, line, &ALL)?, kind, "of {line}");
-    }
+    assert_eq!(rt; first_other_words(rt.alloc(), &WORDS)?, None);
     Ok(())
 }
 
@@ -156,14 +168,19 @@ const GIVEN: [Given; 14] = [
     },
 ];
 
+// The first words with passes that are wrong in another way.
+fn first_other(alloc: Global, rows: &[Given]) -> Result<Option<&'static str>, AllocError> {
+    for row in rows {
+        if usage_of(alloc, row.line, row.offered)? != row.kind {
+            return Ok(Some(row.line));
+        }
+    }
+    Ok(None)
+}
+
 #[test]
 fn passes_are_read_or_wrong(rt: HostRuntime) -> Result<(), Fail> {
-    let alloc = rt.alloc();
-    for row in &GIVEN {
-        let line = row.line;
-        let kind = usage_of(alloc, line, row.offered)?;
-        assert_eq!(rt; kind, row.kind, "of {line}");
-    }
+    assert_eq!(rt; first_other(rt.alloc(), &GIVEN)?, None);
     Ok(())
 }
 
@@ -186,30 +203,39 @@ fn has_passes(alloc: Global, line: &str, passes: &[Pass]) -> Result<bool, AllocE
     }
 }
 
+const ORDERS: [(&str, &[Pass]); 5] = [
+    ("opt", &[]),
+    (
+        "opt --passes=cse,canonicalize",
+        &[Pass::Cse, Pass::Canonicalize],
+    ),
+    (
+        "translate --passes=cse,cse --export-verilog",
+        &[Pass::Cse, Pass::Cse],
+    ),
+    ("opt --split-input-file --passes=cse", &[Pass::Cse]),
+    (
+        "opt --pass-pipeline=builtin.module(hw.module(cse),symbol-dce)",
+        &[Pass::Cse, Pass::SymbolDce],
+    ),
+];
+
+// The first words that do not ask for their passes.
+fn first_out_of_order(
+    alloc: Global,
+    rows: &[(&'static str, &[Pass])],
+) -> Result<Option<&'static str>, AllocError> {
+    for (line, passes) in rows {
+        if !has_passes(alloc, line, passes)? {
+            return Ok(Some(line));
+        }
+    }
+    Ok(None)
+}
+
 #[test]
 fn passes_are_in_order(rt: HostRuntime) -> Result<(), Fail> {
-    let alloc = rt.alloc();
-    for (line, passes) in [
-        ("opt", [].as_slice()),
-        (
-            "opt --passes=cse,canonicalize",
-            [Pass::Cse, Pass::Canonicalize].as_slice(),
-        ),
-        (
-            "translate --passes=cse,cse --export-verilog",
-            [Pass::Cse, Pass::Cse].as_slice(),
-        ),
-        (
-            "opt --split-input-file --passes=cse",
-            [Pass::Cse].as_slice(),
-        ),
-        (
-            "opt --pass-pipeline=builtin.module(hw.module(cse),symbol-dce)",
-            [Pass::Cse, Pass::SymbolDce].as_slice(),
-        ),
-    ] {
-        assert!(rt; has_passes(alloc, line, passes)?, "of {line}");
-    }
+    assert_eq!(rt; first_out_of_order(rt.alloc(), &ORDERS)?, None);
     Ok(())
 }
 
@@ -226,64 +252,126 @@ fn splits(alloc: Global, line: &str) -> Result<bool, AllocError> {
     }
 }
 
+const FLAGS: [(&str, bool); 5] = [
+    ("opt --split-input-file", true),
+    ("opt a -o b --split-input-file", true),
+    ("opt", false),
+    ("opt -- --split-input-file", false),
+    ("translate --export-verilog", false),
+];
+
+// The first words that ask for other work.
+fn first_other_work(
+    alloc: Global,
+    rows: &[(&'static str, bool)],
+) -> Result<Option<&'static str>, AllocError> {
+    for (line, wanted) in rows {
+        if splits(alloc, line)? != *wanted {
+            return Ok(Some(line));
+        }
+    }
+    Ok(None)
+}
+
 #[test]
 fn the_flag_asks_for_pieces(rt: HostRuntime) -> Result<(), Fail> {
-    let alloc = rt.alloc();
-    for (line, wanted) in [
-        ("opt --split-input-file", true),
-        ("opt a -o b --split-input-file", true),
-        ("opt", false),
-        ("opt -- --split-input-file", false),
-        ("translate --export-verilog", false),
-    ] {
-        assert_eq!(rt; splits(alloc, line)?, wanted, "of {line}");
-    }
+    assert_eq!(rt; first_other_work(rt.alloc(), &FLAGS)?, None);
     Ok(())
 }
 
-// Whether the words of a line are this command.
-fn is_command(
-    alloc: Global,
-    line: &str,
+/// Words, and the command that they are.
+struct Named {
+    line: &'static str,
     translates: bool,
-    input: &str,
-    output: Option<&str>,
-) -> Result<bool, AllocError> {
-    let words = words_of(alloc, line)?;
+    input: &'static str,
+    output: Option<&'static str>,
+}
+
+const NAMED: [Named; 7] = [
+    Named {
+        line: "opt",
+        translates: false,
+        input: "-",
+        output: None,
+    },
+    Named {
+        line: "opt a.mlir",
+        translates: false,
+        input: "a.mlir",
+        output: None,
+    },
+    Named {
+        line: "opt -o b.mlir",
+        translates: false,
+        input: "-",
+        output: Some("b.mlir"),
+    },
+    Named {
+        line: "opt -o=b.mlir a",
+        translates: false,
+        input: "a",
+        output: Some("b.mlir"),
+    },
+    Named {
+        line: "opt - -o -",
+        translates: false,
+        input: "-",
+        output: None,
+    },
+    Named {
+        line: "translate --export-verilog a -o b",
+        translates: true,
+        input: "a",
+        output: Some("b"),
+    },
+    Named {
+        line: "opt -- -o",
+        translates: false,
+        input: "-o",
+        output: None,
+    },
+];
+
+// Whether a work translates.
+fn is_translation(work: &Work) -> bool {
+    match work {
+        Work::Mlir(_) | Work::MlirPieces(_) => false,
+        Work::Verilog(_) => true,
+    }
+}
+
+// Whether an invocation has one input and an output of these names.
+fn has_names(invocation: &Invocation, input: &str, output: Option<&str>) -> bool {
+    let inputs = invocation.inputs.as_slice();
+    let name = invocation.output.as_ref().map(|name| name.as_str());
+    inputs.len() == 1 && (inputs[0].as_str() == input && name == output)
+}
+
+// Whether the words of a row are its command.
+fn is_command(alloc: Global, row: &Named) -> Result<bool, AllocError> {
+    let words = words_of(alloc, row.line)?;
     match read_line(alloc, words.as_slice(), &[]) {
-        Ok(invocation) => {
-            let is_work = match invocation.work {
-                Work::Mlir(_) | Work::MlirPieces(_) => !translates,
-                Work::Verilog(_) => translates,
-            };
-            let names = invocation.inputs.as_slice();
-            let is_input = names.len() == 1 && names[0].as_str() == input;
-            let is_output = match (&invocation.output, output) {
-                (Some(name), Some(wanted)) => name.as_str() == wanted,
-                (None, None) => true,
-                _ => false,
-            };
-            Ok(is_work && (is_input && is_output))
-        }
+        Ok(invocation) => Ok(
+            is_translation(&invocation.work) == row.translates
+                && has_names(&invocation, row.input, row.output),
+        ),
         Err(LineFail::Usage(_)) => Ok(false),
         Err(LineFail::NoMemory) => Err(AllocError),
     }
 }
 
+// The first words that are another command.
+fn first_other_command(alloc: Global, rows: &[Named]) -> Result<Option<&'static str>, AllocError> {
+    for row in rows {
+        if !is_command(alloc, row)? {
+            return Ok(Some(row.line));
+        }
+    }
+    Ok(None)
+}
+
 #[test]
 fn files_are_named(rt: HostRuntime) -> Result<(), Fail> {
-    let alloc = rt.alloc();
-    for (line, translates, input, output) in [
-        ("opt", false, "-", None),
-        ("opt a.mlir", false, "a.mlir", None),
-        ("opt -o b.mlir", false, "-", Some("b.mlir")),
-        ("opt -o=b.mlir a", false, "a", Some("b.mlir")),
-        ("opt - -o -", false, "-", None),
-        ("translate --export-verilog a -o b", true, "a", Some("b")),
-        ("opt -- -o", false, "-o", None),
-    ] {
-        let is_so = is_command(alloc, line, translates, input, output)?;
-        assert!(rt; is_so, "of {line}");
-    }
+    assert_eq!(rt; first_other_command(rt.alloc(), &NAMED)?, None);
     Ok(())
 }

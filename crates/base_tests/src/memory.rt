@@ -33,22 +33,61 @@ fn put_with_fault(
     Ok((sink.contents().len(), is_ok, sink.faults()))
 }
 
+/// A text of so many bytes, the put that fails, and how many bytes are held then.
+struct Put {
+    length: usize,
+    failing: u64,
+    held: usize,
+}
+
+const PUTS: [Put; 6] = [
+    Put {
+        length: 0,
+        failing: 0,
+        held: 0,
+    },
+    Put {
+        length: 1,
+        failing: 1,
+        held: 1,
+    },
+    Put {
+        length: 8192,
+        failing: 2,
+        held: 8192,
+    },
+    Put {
+        length: 8193,
+        failing: 2,
+        held: 8192,
+    },
+    Put {
+        length: 10_000,
+        failing: 1,
+        held: 4096,
+    },
+    Put {
+        length: 10_000,
+        failing: 0,
+        held: 0,
+    },
+];
+
+// The first text of which other bytes go out, by its length.
+fn first_other_put(alloc: Global, rows: &[Put]) -> Result<Option<usize>, AllocError> {
+    for row in rows {
+        let is_whole = row.held == row.length;
+        let wanted = (row.held, is_whole, u64::from(!is_whole));
+        if put_with_fault(alloc, row.length, row.failing)? != wanted {
+            return Ok(Some(row.length));
+        }
+    }
+    Ok(None)
+}
+
 #[test]
 fn a_text_goes_out_in_pieces_of_4096_bytes(rt: HostRuntime) -> Result<(), Fail> {
-    let alloc = rt.alloc();
-    for (length, failing, held) in [
-        (0, 0, 0),
-        (1, 1, 1),
-        (8192, 2, 8192),
-        (8193, 2, 8192),
-        (10_000, 1, 4096),
-        (10_000, 0, 0),
-    ] {
-        let is_whole = held == length;
-        let answer = put_with_fault(alloc, length, failing)?;
-        let wanted = (held, is_whole, u64::from(!is_whole));
-        assert_eq!(rt; answer, wanted, "of {length}");
-    }
+    assert_eq!(rt; first_other_put(rt.alloc(), &PUTS)?, None);
     Ok(())
 }
 

@@ -314,21 +314,32 @@ fn a_byte_may_not_stand_there(rt: HostRuntime) -> Result<(), Fail> {
     Ok(())
 }
 
+const OFFERED: [(&str, Option<PipelineFail>); 5] = [
+    ("builtin.module(cse)", None),
+    ("builtin.module(cse,symbol-dce)", Some(UnknownPass(19))),
+    ("symbol-dce", Some(UnknownPass(0))),
+    (
+        "builtin.module(hw.module(symbol-dce))",
+        Some(UnknownPass(25)),
+    ),
+    ("builtin.module(canonicalize)", Some(UnknownPass(15))),
+];
+
+// The first text that has another fault where `cse` alone is on offer.
+fn first_other_on_offer(
+    alloc: Global,
+    rows: &[(&'static str, Option<PipelineFail>)],
+) -> Result<Option<&'static str>, Fail> {
+    for (text, fault) in rows {
+        if fault_of(alloc, text, &[Cse], &[Cse])? != *fault {
+            return Ok(Some(text));
+        }
+    }
+    Ok(None)
+}
+
 #[test]
 fn a_pass_that_is_not_on_offer_is_unknown(rt: HostRuntime) -> Result<(), Fail> {
-    let alloc = rt.alloc();
-    for (text, fault) in [
-        ("builtin.module(cse)", None),
-        ("builtin.module(cse,symbol-dce)", Some(UnknownPass(19))),
-        ("symbol-dce", Some(UnknownPass(0))),
-        (
-            "builtin.module(hw.module(symbol-dce))",
-            Some(UnknownPass(25)),
-        ),
-        ("builtin.module(canonicalize)", Some(UnknownPass(15))),
-    ] {
-        let found = fault_of(alloc, text, &[Cse], &[Cse])?;
-        assert_eq!(rt; found, fault, "of {text}");
-    }
+    assert_eq!(rt; first_other_on_offer(rt.alloc(), &OFFERED)?, None);
     Ok(())
 }

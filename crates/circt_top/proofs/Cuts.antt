@@ -156,7 +156,3 @@ cut_end source start at pieces p h before bytes cut =
 -- nothing is cut as yet
 pub cut_start : (source : List ℕ) → IsCutTo source 0 0 []
 cut_start source = nothing_carried (pieces_of source)
-
-pub map_more : {A B : Type 0} (f : A → B) (xs : List A) (x : A) → map f (xs ++ x ∷ []) ≡ map f xs ++ f x ∷ []
-map_more f [] x = refl
-map_more f (y ∷ xs) x = ap (λ l. f y ∷ l) (map_more f xs x)

@@ -10,7 +10,8 @@ pub fresh_count : (ts ws : List Name) → length (fresh ts ws) ≡ length ws
 fresh_count ts [] = refl
 fresh_count ts (w ∷ ws) = ap suc (fresh_count (ts ++ free_name ts w ∷ []) ws)
 
-free_front : (ts us : List Name) (q : Name) → is_taken (ts ++ us) q ≡ false → is_taken ts q ≡ false
+-- what is free of both lists together is free of the first
+pub free_front : (ts us : List Name) (q : Name) → is_taken (ts ++ us) q ≡ false → is_taken ts q ≡ false
 free_front ts us q e = go (is_taken ts q) refl
   where
     go : (b : Bool) → is_taken ts q ≡ b → is_taken ts q ≡ false

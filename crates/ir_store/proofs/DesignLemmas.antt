@@ -83,7 +83,7 @@ module _ {K : Type 0} where
 
 -- ---- a symbol's place, and the module that it names
 
-same_name_back : (a b : Name) → same_name a b ≡ same_name b a
+pub same_name_back : (a b : Name) → same_name a b ≡ same_name b a
 same_name_back [] [] = refl
 same_name_back [] (y ∷ b) = refl
 same_name_back (x ∷ a) [] = refl

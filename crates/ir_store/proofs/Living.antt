@@ -8,7 +8,7 @@ use Rattle.ir_store.specs.declared.operation.Value.TheVariants.{Port, Result, Un
 use Rattle.linked_lists.specs.Ids.{times}
 use Rattle.ir_store.specs.BodyOps.{BodyOp, ids_in, put_before, taken_out, operands_at, all_replaced, replace_value, same_value, is_of, IsUnused}
 use Rattle.ir_store.specs.Live.{IsLive, HasLive, AreLive}
-use Rattle.linked_lists.proofs.IdLemmas.{contained_times, times-append}
+use Rattle.linked_lists.proofs.IdLemmas.{contained_times, times-append, times_contained}
 
 -- ---- all elements
 
@@ -62,15 +62,6 @@ same_map P f g e (x ∷ xs) h =
     rw (q, r) refl
 
 -- ---- ids
-
--- an id that stands once at least is there
-pub times_contained : (ids : List ℕ) (v : ℕ) → 0 < times v ids → Contains ids v
-times_contained [] v h = absurd (omega arith)
-times_contained (i ∷ ids) v h = go (nat_eq i v) refl h (times_contained ids v)
-  where
-    go : (b : Bool) → nat_eq i v ≡ b → 0 < cond b (suc (times v ids)) (times v ids) → (0 < times v ids → Contains ids v) → Contains (i ∷ ids) v
-    go true t h r = (zero, omega arith, eqb-true i v t)
-    go false t h r = let q = r h in (suc q.0, omega (arith, q.1), q.2)
 
 -- where each id stands at least as often, those that were there are there
 pub still_contained : (ids js : List ℕ) → ((v : ℕ) → times v ids ≤ times v js) → (v : ℕ) → Contains ids v → Contains js v

@@ -2,7 +2,7 @@
 use Rattle.std.proofs.Common.{◌≡◌, ℕ, zero, suc, ◌+◌, ◌-◌, ◌<◌, ◌≤◌, ◌^◌, Bool, true, false, cond, nat_eq, List, [], ◌∷◌, ◌++◌, length, refl, ap, sym, ◌∙◌, arith, length-append}
 use Rattle.std.specs.Prelude.{max, Contains}
 use Rattle.std.proofs.lemmas.List.{get_or-set_same, get_or-set_other}
-use Rattle.std.proofs.lemmas.Bool.{eqb-true, eqb-false}
+use Rattle.std.proofs.lemmas.Bool.{eqb-true, eqb-false, ne_eqb}
 use Rattle.linked_lists.specs.declared.links.Link.{Link}
 use Rattle.ir_store.specs.declared.order.Order.{Order}
 use Rattle.linked_lists.specs.Ids.{times, put_at}
@@ -210,13 +210,6 @@ pub record Added (ls ms : List Link) (xs ys : List ℕ) (live n id first last fr
 length_halves : (ls : List Link) (live first id : ℕ) (xs ys : List ℕ) → walk ls live first ≡ xs ++ ys → live + 1 ≡ length (xs ++ id ∷ ys)
 length_halves ls live first id xs ys h = omega (arith, length-walk ls live first, ap length h, length-append xs ys, length-append xs (id ∷ ys))
 
-not_eq : (x y : ℕ) → (x ≡ y → ⊥) → nat_eq x y ≡ false
-not_eq x y h = go (nat_eq x y) refl
-  where
-    go : (b : Bool) → nat_eq x y ≡ b → nat_eq x y ≡ false
-    go true t = absurd (h (eqb-true x y t))
-    go false t = t
-
 -- an id at the front of some stands there once more
 once_more : (x : ℕ) (ys : List ℕ) → times x (x ∷ ys) ≡ suc (times x ys)
 once_more x ys = rw (eq_self x) refl
@@ -270,7 +263,7 @@ added_new ls xs ys live first last id free m ok h size small new size_2 =
 
     below : (v : ℕ) → length (put_at id (new_link 0 0) ls) ≤ v → length (put_at id (new_link 0 0) ls) ≡ max (length ls) (id + 1) → times v ((xs ++ ys) ++ id ∷ []) ≡ 0
     below v t put =
-        let one : times v (id ∷ []) ≡ 0 = rw (not_eq id v (λ e. omega (arith, e, t, put))) refl in
+        let one : times v (id ∷ []) ≡ 0 = rw (ne_eqb id v (λ e. omega (arith, e, t, put))) refl in
         omega (arith, times-append v (xs ++ ys) (id ∷ []), one, ok.below v (omega (arith, t, put)), times-append v (xs ++ ys) [])
 
 -- it was free

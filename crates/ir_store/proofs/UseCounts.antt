@@ -3,7 +3,7 @@ use Rattle.std.proofs.Common.{◌≡◌, ℕ, zero, suc, ◌+◌, ◌<◌, ◌�
 use Rattle.std.specs.Prelude.{Option, Some, None, ◌&&◌}
 use Rattle.std.proofs.lemmas.Bool.{eqb-true, eqb-false}
 use Rattle.linked_lists.specs.declared.links.Link.{Link}
-use Rattle.ir_store.specs.declared.operands.Block.{Block}
+use Rattle.ir_store.specs.declared.blocks.Block.{Block}
 use Rattle.ir_store.specs.declared.operation.UsePlace.{UsePlace}
 use Rattle.ir_store.specs.declared.operation.Value.{Value}
 use Rattle.ir_store.specs.OperationViews.{OpParts}

@@ -2,7 +2,7 @@
 use Rattle.std.specs.Prelude.{◌≡◌, ℕ, ◌+◌, ◌-◌, ◌<◌, ◌≤◌, ◌&&◌, cond, nat_le, nat_lt, List, [], ◌∷◌, Option, Some, None, length, map, min, take, drop, slice_index_or}
 use Rattle.std.specs.Vec.{vec_capacity}
 use Rattle.ir_store.specs.declared.cells.Cells.{Cells}
-use Rattle.ir_store.specs.declared.operands.Block.{Block}
+use Rattle.ir_store.specs.declared.blocks.Block.{Block}
 use Rattle.ir_store.specs.declared.operation.Value.{Value}
 use Rattle.ir_store.specs.declared.operation.UsePlace.{UsePlace}
 use Rattle.linked_lists.specs.Links.{none}

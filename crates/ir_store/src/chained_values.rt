@@ -2,8 +2,7 @@
 ghost use Rattle.std.specs.Prelude.{◌≡◌, ◌<◌, ◌≤◌, ◌+◌, length};
 ghost use Rattle.ir_store.specs.ChainedValues.{value_number, head_of};
 
-use crate::operands::is_same;
-use crate::operation::Value;
+use crate::operation::{Value, is_same};
 use linked_lists::chains::Chains;
 use std::alloc::{AllocError, Global};
 use std::marker::Model;

@@ -5,6 +5,7 @@
 //! which an operand names an operation by its position.
 #![tactic(auto)]
 
+mod blocks;
 pub mod body;
 mod cells;
 mod chained_values;
@@ -12,6 +13,8 @@ pub mod design;
 pub mod dictionary;
 pub mod ids;
 mod laws;
+mod operand_lists;
+mod operand_uses;
 mod operands;
 pub mod operation;
 mod order;

@@ -1,5 +1,6 @@
 //! The parts of an operation.
 ghost use Rattle.std.specs.Prelude.{◌≡◌, map, length, IfOk};
+ghost use Rattle.ir_store.specs.BodyOps.{same_value, is_of};
 ghost use Rattle.ir_store.specs.OperationViews.{types_in, result_of, results_in, parts_of, new_parts};
 
 use crate::dictionary::Dictionary;
@@ -204,4 +205,34 @@ pub(crate) fn copied_parts(alloc: Global, parts: &[Parts]) -> Result<Vec<Parts>,
         copies.push(one.try_clone(alloc)?)?;
     }
     Ok(copies)
+}
+
+/// Whether two operands are the same.
+pub(crate) fn is_same(a: Value, b: Value) -> bool
+    ensures { result ≡ same_value a b }
+{
+    match a {
+        Value::Port(m) => match b {
+            Value::Port(n) => m == n,
+            Value::Result(..) | Value::Undefined => false,
+        },
+        Value::Result(id, m) => match b {
+            Value::Result(other, n) => id.index == other.index && m == n,
+            Value::Port(_) | Value::Undefined => false,
+        },
+        Value::Undefined => match b {
+            Value::Undefined => true,
+            Value::Port(_) | Value::Result(..) => false,
+        },
+    }
+}
+
+/// Whether the value is a result of the operation `op`.
+pub(crate) fn is_result_of(value: Value, op: OpId) -> bool
+    ensures { result ≡ is_of op.index value }
+{
+    match value {
+        Value::Result(id, _) => id.index == op.index,
+        Value::Port(_) | Value::Undefined => false,
+    }
 }

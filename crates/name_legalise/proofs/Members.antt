@@ -22,18 +22,11 @@ contains_name-is_taken q (t ∷ ts) = go (same_name t q) (contains_name-is_taken
   go true e = refl
   go false e = e
 
-pub neither_first : (a b : Bool) → (a || b) ≡ false → a ≡ false
-neither_first true b p = p
-neither_first false b p = refl
-
 pub neither_second : (a b : Bool) → (a || b) ≡ false → b ≡ false
 neither_second true b p = cc
 neither_second false b p = p
 
--- what is free of both lists together is free of each
-pub free_first : (ts us : List Name) (q : Name) → is_taken (ts ++ us) q ≡ false → is_taken ts q ≡ false
-free_first ts us q e = neither_first (is_taken ts q) (is_taken us q) (sym (is_taken-append ts us q) ∙ e)
-
+-- what is free of both lists together is free of the second
 pub free_second : (ts us : List Name) (q : Name) → is_taken (ts ++ us) q ≡ false → is_taken us q ≡ false
 free_second ts us q e = neither_second (is_taken ts q) (is_taken us q) (sym (is_taken-append ts us q) ∙ e)
 

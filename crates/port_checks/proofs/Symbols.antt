@@ -1,24 +1,16 @@
 -- The module of a symbol by its number.
-use Rattle.std.proofs.Common.{◌≡◌, ℕ, suc, Bool, true, false, cond, [], ◌∷◌, map, slice_get, Option, Some, None, option_map, refl, sym, ap, ◌∙◌}
-use Rattle.std.specs.Cmp.Lexicographic.{same_text}
+use Rattle.std.proofs.Common.{◌≡◌, ℕ, suc, Bool, true, false, cond, [], ◌∷◌, map, slice_get, Option, Some, None, option_map, refl, ap, ◌∙◌}
 use Rattle.wiring.specs.Options.{bind}
 use Rattle.wiring.proofs.Options.{bind_some}
 use Rattle.hw_model.specs.Types.{Name}
 use Rattle.hw_model.specs.Design.{Module, Design, same_name, find_module}
-use Rattle.hw_model.specs.Equality.{name_self}
 use Rattle.ir_store.specs.Symbols.{symbol_place}
-use Rattle.port_checks.proofs.Booleans.{same_tests}
-
-back : (a b : Name) → same_name a b ≡ true → same_name b a ≡ true
-back a b h = let e : a ≡ b = same_text a b (sym h) in ap (λ x. same_name x a) (sym e) ∙ name_self a
-
-pub both_ways : (a b : Name) → same_name a b ≡ same_name b a
-both_ways a b = same_tests (same_name a b) (same_name b a) (back a b) (back b a)
+use Rattle.ir_store.proofs.DesignLemmas.{same_name_back}
 
 pub module_place : (q : Name) (d : Design) → bind (symbol_place q (map (λ (m : Module). m.symbol) d)) (slice_get d) ≡ find_module d q
 module_place q [] = refl
 module_place q (m ∷ d) =
-    go (same_name q m.symbol) (module_place q d) ∙ ap (λ b. cond b (Some m) (find_module d q)) (both_ways q m.symbol)
+    go (same_name q m.symbol) (module_place q d) ∙ ap (λ b. cond b (Some m) (find_module d q)) (same_name_back q m.symbol)
   where
     behind : (p : Option ℕ) → bind (option_map suc p) (slice_get (m ∷ d)) ≡ bind p (slice_get d)
     behind None = refl

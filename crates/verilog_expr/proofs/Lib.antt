@@ -1,7 +1,6 @@
 pub mod Numerals
 pub mod Digits
 pub mod Adding
-pub mod Drops
 pub mod Marking
 pub mod PartsMarked
 pub mod HeightSteps

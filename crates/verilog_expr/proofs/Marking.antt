@@ -1,8 +1,9 @@
 -- Marks of values as uses are noted.
-use Rattle.std.proofs.Common.{◌≡◌, ℕ, zero, suc, ◌+◌, ◌<◌, ◌≤◌, min, Bool, true, false, cond, ◌&&◌, ◌||◌, nat_eq, nat_lt, List, [], ◌∷◌, ◌++◌, length, map, take, drop, set, replicate, get_or, slice_get, Some, refl, sym, ap, subst, ◌∙◌, arith, eq-eqb, ne_eqb}
-use Rattle.std.proofs.lemmas.Bool.{ltb-false, eqb-true, eqb-false}
+use Rattle.std.proofs.Common.{◌≡◌, ℕ, zero, suc, ◌+◌, ◌<◌, ◌≤◌, min, Bool, true, false, cond, ◌&&◌, ◌||◌, nat_eq, nat_lt, List, [], ◌∷◌, ◌++◌, length, map, take, drop, set, replicate, get_or, slice_get, Some, refl, sym, ap, subst, ◌∙◌, arith}
+use Rattle.std.proofs.lemmas.Bool.{ltb-false}
 use Rattle.std.proofs.lemmas.List.{drop_more, append-nil, take_all, drop_all}
 use Rattle.std.proofs.lemmas.Option.{slice_get_within, get_or_from_slice_get}
+use Rattle.wiring.proofs.Equal.{}
 use Rattle.hw_model.specs.Design.{Ref, Port, Op, is_instance, result_type}
 use Rattle.hw_model.specs.Design.Ref.{result}
 use Rattle.wiring.specs.Options.{bind}
@@ -12,7 +13,7 @@ use Rattle.verilog_expr.specs.Expressions.{value_width}
 use Rattle.verilog_expr.specs.Spilling.{one_if, places_in, use_count, cuts, joins, some_op}
 use Rattle.verilog_expr.specs.Marks.{no_mark, mark_at, note_use, one_use, after_operands, is_cut_by, after_ops}
 use Rattle.verilog_expr.specs.declared.marks.Mark.{Mark}
-use Rattle.verilog_expr.proofs.Drops.{split}
+use Rattle.wiring.proofs.Joined.{split_at}
 use Rattle.std.proofs.Math.Bool.{or-false}
 
 -- ---- places
@@ -22,19 +23,6 @@ and_true true = refl
 and_true false = refl
 
 -- ---- one mark is set
-
-zero_suc : (n : ℕ) → nat_eq 0 (suc n) ≡ false
-zero_suc n = ne_eqb 0 (suc n) (λ e. omega (arith, e))
-
-suc_zero : (n : ℕ) → nat_eq (suc n) 0 ≡ false
-suc_zero n = ne_eqb (suc n) 0 (λ e. omega (arith, e))
-
-suc_suc : (m n : ℕ) → nat_eq (suc m) (suc n) ≡ nat_eq m n
-suc_suc m n = go (nat_eq m n) refl
-  where
-    go : (b : Bool) → nat_eq m n ≡ b → nat_eq (suc m) (suc n) ≡ nat_eq m n
-    go true e = eq-eqb (suc m) (suc n) (ap suc (eqb-true m n e)) ∙ sym e
-    go false e = ne_eqb (suc m) (suc n) (λ s. omega (arith, s, eqb-false m n e)) ∙ sym e
 
 -- ---- operands
 
@@ -69,7 +57,7 @@ operand_first r cut joined x xs m = go (same_ref x r)
 pub operands_step : {A : Type 0} (r : Ref) (cut joined : Bool) (f : A → Ref) (xs : List A) (i : ℕ) (x : A) (m one whole : Mark) → i < length xs → x ≡ get_or xs i x
     → after_operands r cut joined (map f (drop i xs)) m ≡ whole → one ≡ one_use r cut joined (f x) m → after_operands r cut joined (map f (drop (i + 1) xs)) one ≡ whole
 operands_step r cut joined f xs i x m one whole lt at h p =
-    let d : drop i xs ≡ x ∷ drop (i + 1) xs = split xs i x lt at in
+    let d : drop i xs ≡ x ∷ drop (i + 1) xs = split_at xs i x lt at in
     ap (after_operands r cut joined (map f (drop (i + 1) xs))) p
     ∙ operand_first r cut joined (f x) (map f (drop (i + 1) xs)) m
     ∙ sym (ap (λ l. after_operands r cut joined (map f l) m) d)

@@ -11,7 +11,7 @@ use Rattle.verilog_expr.specs.Spilling.{is_pure, is_constant_kind, hint_of, use_
 use Rattle.verilog_expr.specs.Marks.{no_mark, after_ops}
 use Rattle.verilog_expr.specs.PartTables.{part_marked}
 use Rattle.verilog_expr.specs.declared.marks.Mark.{Mark}
-use Rattle.verilog_expr.proofs.Drops.{split}
+use Rattle.wiring.proofs.Joined.{split_at}
 
 two_capped : (n : ℕ) → nat_le 2 (min 2 (0 + n)) ≡ nat_le 2 n
 two_capped n = go (nat_le 2 n) refl (nat_le 2 (min 2 (0 + n))) refl
@@ -39,7 +39,7 @@ part_is ports os i o m at is =
 -- ---- hints
 
 hint_at : {A : Type 0} (f : A → Entry) (xs : List A) (i : ℕ) (x : A) → i < length xs → x ≡ get_or xs i x → map f (drop i xs) ≡ f x ∷ map f (drop (i + 1) xs)
-hint_at f xs i x lt at = ap (map f) (split xs i x lt at)
+hint_at f xs i x lt at = ap (map f) (split_at xs i x lt at)
 
 pub hint_step : {A : Type 0} (f : A → Entry) (key : Name) (xs : List A) (i : ℕ) (x : A) (whole : Name) → i < length xs → x ≡ get_or xs i x
     → text_at key (map f (drop i xs)) ≡ whole → same_name (f x).key key ≡ false → text_at key (map f (drop (i + 1) xs)) ≡ whole

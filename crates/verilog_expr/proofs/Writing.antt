@@ -1,7 +1,8 @@
 -- What is seen of the expression of a value, and how it is put into its place.
-use Rattle.std.proofs.Common.{◌≡◌, ℕ, zero, suc, ◌+◌, ◌-◌, ◌<◌, ◌≢◌, Bool, true, false, cond, ◌==◌, nat_le, nat_lt, List, [], ◌∷◌, ◌++◌, length, map, slice_get, Option, Some, None, is_some, codes, decimal, refl, sym, ap, subst, ◌∙◌, arith, append_assoc}
+use Rattle.std.proofs.Common.{◌≡◌, ℕ, zero, suc, ◌+◌, ◌-◌, ◌<◌, ◌≢◌, Bool, true, false, cond, ◌==◌, nat_le, nat_lt, List, [], ◌∷◌, ◌++◌, length, map, slice_get, Option, Some, None, is_some, codes, decimal, refl, sym, ap, subst, ◌∙◌, arith}
 use Rattle.std.proofs.lemmas.Bool.{ltb-true, ltb-false, leb-true, leb-false}
 use Rattle.std.proofs.lemmas.List.{append-nil, length-map}
+use Rattle.wiring.proofs.Joined.{three_added}
 use Rattle.wiring.specs.Options.{bind}
 use Rattle.hw_model.specs.Types.{Name, HwType, width}
 use Rattle.hw_model.specs.Design.{Ref, Port, Op, result_type}
@@ -132,9 +133,6 @@ selects low w (name n ∷ []) = go (w == 1)
 selects low w (_ ∷ []) = refl
 
 -- ---- places
-
-pub three : (out one two end a b c : List ℕ) → one ≡ out ++ a → two ≡ one ++ b → end ≡ two ++ c → end ≡ out ++ (a ++ (b ++ c))
-three out one two end a b c p q r = r ∙ ap (λ x. x ++ c) (q ∙ ap (λ x. x ++ b) p) ∙ append_assoc (out ++ a) b c ∙ append_assoc out a (b ++ c)
 
 bare_or_paren : (l : ℕ) (e : Expr) → open_text (cond (nat_lt (level e) l) Paren Bare) ++ (expr_text e [] ++ close_text (cond (nat_lt (level e) l) Paren Bare)) ≡ expr_text (parenthesize l e) []
 unfolding expr_text

@@ -1,6 +1,8 @@
 pub mod Options
 pub mod Members
 pub mod Lists
+pub mod Joined
+pub mod Equal
 pub mod Edits
 pub mod Totals
 pub mod Chains

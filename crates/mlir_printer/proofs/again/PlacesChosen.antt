@@ -9,6 +9,7 @@ use Rattle.mlir_operations.specs.ModuleText.{ModuleText}
 use Rattle.mlir_reader.specs.Resolving.{Meanings, with_definitions, operation_definitions, body_definitions, operation_at, operations_from, ends_with_output, has_outputs, left_out_output, with_output, port_meanings, meanings, module_of, design_of}
 use Rattle.mlir_operations.specs.Spelling.{Stands, IsPlaceOf, OperationPhrase, OperationsPhrase, ModulePhrase, ModulesPhrase, FilePhrase}
 use Rattle.mlir_reader.specs.Spelling.{Spells, SpellsPlacelessly}
+use Rattle.std.proofs.lemmas.List.{map_push}
 
 -- ---- places make no difference
 
@@ -33,10 +34,6 @@ same_operations m earlier i (o ∷ os) =
 same_end : (os : List OperationText) → ends_with_output (map unplaced os) ≡ ends_with_output os
 same_end [] = refl
 same_end (o ∷ os) = ap (λ b. cond (is_last o.name) true b) (same_end os)
-
-map_push : {A B : Type 0} (f : A → B) (xs : List A) (x : A) → map f (xs ++ x ∷ []) ≡ map f xs ++ f x ∷ []
-map_push f [] x = refl
-map_push f (y ∷ xs) x = ap (λ l. f y ∷ l) (map_push f xs x)
 
 -- a body that may leave its output out, without places
 abbrev completed_by : Bool → Bool → List Op → List Op

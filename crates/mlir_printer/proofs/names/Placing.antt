@@ -1,7 +1,8 @@
 -- Where names stand, and what values are called by them.
-use Rattle.std.proofs.Common.{◌≡◌, ℕ, zero, suc, ◌+◌, ◌<◌, ◌≤◌, Bool, true, false, cond, nat_eq, List, [], ◌∷◌, ◌++◌, length, drop, set, subst, refl, sym, ap, ◌∙◌, arith, eq-eqb, ne_eqb}
-use Rattle.std.proofs.lemmas.Bool.{ltb-true, eqb-true, eqb-false}
+use Rattle.std.proofs.Common.{◌≡◌, ℕ, zero, suc, ◌+◌, ◌<◌, ◌≤◌, Bool, true, false, cond, nat_eq, List, [], ◌∷◌, ◌++◌, length, drop, set, subst, refl, sym, ap, ◌∙◌, arith}
+use Rattle.std.proofs.lemmas.Bool.{ltb-true}
 use Rattle.std.specs.Prelude.{nat_lt, Some, None, slice_get}
+use Rattle.wiring.proofs.Equal.{zero_suc, suc_zero, suc_suc}
 use Rattle.hw_model.specs.Types.{Name}
 use Rattle.hw_model.specs.Design.{Port}
 use Rattle.ir_store.specs.OperationViews.{OpParts}
@@ -121,19 +122,6 @@ once_step o before after steps once v = go (nat_eq o.id v) ((subst (λ l. AreDis
     go false h = h
 
 -- ---- one place is put into a table
-
-zero_suc : (n : ℕ) → nat_eq 0 (suc n) ≡ false
-zero_suc n = ne_eqb 0 (suc n) (λ e. omega (arith, e))
-
-suc_zero : (n : ℕ) → nat_eq (suc n) 0 ≡ false
-suc_zero n = ne_eqb (suc n) 0 (λ e. omega (arith, e))
-
-suc_suc : (m n : ℕ) → nat_eq (suc m) (suc n) ≡ nat_eq m n
-suc_suc m n = go (nat_eq m n) refl
-  where
-    go : (b : Bool) → nat_eq m n ≡ b → nat_eq (suc m) (suc n) ≡ nat_eq m n
-    go true e = eq-eqb (suc m) (suc n) (ap suc (eqb-true m n e)) ∙ sym e
-    go false e = ne_eqb (suc m) (suc n) (λ s. omega (arith, s, eqb-false m n e)) ∙ sym e
 
 get_same : (places : List Slot) (j : ℕ) (p : Slot) → j < length places → (id : ℕ) → place_for (set places j p) id ≡ cond (nat_eq j id) p (place_for places id)
 get_same [] j p lt id = absurd (omega (arith, lt))

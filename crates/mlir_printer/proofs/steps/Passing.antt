@@ -1,6 +1,6 @@
 -- Steps of loops over the parts of an operation.
 use Rattle.std.proofs.Common.{◌≡◌, ℕ, zero, suc, ◌+◌, ◌<◌, ◌≤◌, List, [], ◌∷◌, ◌++◌, map, length, min, drop, get_or, refl, sym, ap, ◌∙◌, zero-add, arith}
-use Rattle.std.proofs.lemmas.List.{drop_more, append-nil, drop_all}
+use Rattle.std.proofs.lemmas.List.{append-nil, drop_all}
 use Rattle.hw_model.specs.Types.{Name, HwType}
 use Rattle.hw_model.specs.TypeViews.{type_of}
 use Rattle.assembly_format.specs.declared.elements.FormatElement.{FormatElement}
@@ -10,15 +10,13 @@ use Rattle.mlir_printer.specs.Views.{value_held, pending_of, inherent_of}
 use Rattle.mlir_printer.specs.declared.value_names.ValueNames.{ValueNames}
 use Rattle.mlir_printer.specs.declared.inherent_view.Pending.{Pending}
 use Rattle.std.proofs.Math.Seq.{drop-nil}
+use Rattle.wiring.proofs.Joined.{split_at}
 use Rattle.hw_model.specs.Design.{Port}
 use Rattle.mlir_printer.specs.Naming.{port_name_hint}
 use Rattle.mlir_printer.specs.Modules.{port_bytes}
 use Rattle.mlir_printer.specs.Texts.{port_shown, ports_shown}
 use Rattle.mlir_printer.proofs.steps.Steps.{added}
 use Rattle.mlir_printer.proofs.steps.Entries.{map_drop}
-
-split : {A : Type 0} (xs : List A) (i : ℕ) (x : A) → i < length xs → x ≡ get_or xs i x → drop i xs ≡ x ∷ drop (i + 1) xs
-split xs i x lt at = drop_more xs i x lt ∙ ap (λ y. y ∷ drop (i + 1) xs) (sym at)
 
 pub inputs_step : {V T : Type 0} (g : V → ValueText) (h : T → HwType) (ps : List Name) (os : List V) (ts : List T) (i : ℕ) (p : Name) (o : V) (t : T) (out one two whole : List ℕ)
     → i < length ps → i < length os → i < length ts → p ≡ get_or ps i p → o ≡ get_or os i o → t ≡ get_or ts i t
@@ -28,9 +26,9 @@ pub inputs_step : {V T : Type 0} (g : V → ValueText) (h : T → HwType) (ps : 
 inputs_step g h ps os ts i p o t out one two whole lp lo lt ap' ao at inv e1 e2 =
     let d : inputs_joined (drop i ps) (map g (drop i os)) (map h (drop i ts))
     ≡ record { port = p; operand = g o; type = h t } ∷ inputs_joined (drop (i + 1) ps) (map g (drop (i + 1) os)) (map h (drop (i + 1) ts)) =
-    ap (λ x. inputs_joined x (map g (drop i os)) (map h (drop i ts))) (split ps i p lp ap')
-    ∙ ap (λ x. inputs_joined (p ∷ drop (i + 1) ps) (map g x) (map h (drop i ts))) (split os i o lo ao)
-    ∙ ap (λ x. inputs_joined (p ∷ drop (i + 1) ps) (map g (o ∷ drop (i + 1) os)) (map h x)) (split ts i t lt at) in
+    ap (λ x. inputs_joined x (map g (drop i os)) (map h (drop i ts))) (split_at ps i p lp ap')
+    ∙ ap (λ x. inputs_joined (p ∷ drop (i + 1) ps) (map g x) (map h (drop i ts))) (split_at os i o lo ao)
+    ∙ ap (λ x. inputs_joined (p ∷ drop (i + 1) ps) (map g (o ∷ drop (i + 1) os)) (map h x)) (split_at ts i t lt at) in
     added out one two (comma_bytes i) (input_bytes (record { port = p; operand = g o; type = h t }))
     (items_from input_bytes (i + 1) (inputs_joined (drop (i + 1) ps) (map g (drop (i + 1) os)) (map h (drop (i + 1) ts)))) whole
     (sym (ap (λ l. out ++ items_from input_bytes i l) d) ∙ inv) e1 e2
@@ -42,7 +40,7 @@ pub outputs_step : {T : Type 0} (h : T → HwType) (ps : List Name) (ts : List T
     → two ++ items_from output_bytes (i + 1) (outputs_joined (drop (i + 1) ps) (map h (drop (i + 1) ts))) ≡ whole
 outputs_step h ps ts i p t out one two whole lp lt ap' at inv e1 e2 =
     let d : outputs_joined (drop i ps) (map h (drop i ts)) ≡ record { name = p; type = h t } ∷ outputs_joined (drop (i + 1) ps) (map h (drop (i + 1) ts)) =
-    ap (λ x. outputs_joined x (map h (drop i ts))) (split ps i p lp ap') ∙ ap (λ x. outputs_joined (p ∷ drop (i + 1) ps) (map h x)) (split ts i t lt at) in
+    ap (λ x. outputs_joined x (map h (drop i ts))) (split_at ps i p lp ap') ∙ ap (λ x. outputs_joined (p ∷ drop (i + 1) ps) (map h x)) (split_at ts i t lt at) in
     added out one two (comma_bytes i) (output_bytes (record { name = p; type = h t })) (items_from output_bytes (i + 1) (outputs_joined (drop (i + 1) ps) (map h (drop (i + 1) ts)))) whole
     (sym (ap (λ l. out ++ items_from output_bytes i l) d) ∙ inv) e1 e2
 
@@ -107,7 +105,7 @@ pub ports_step : {A : Type 0} (view : A → Port) (ns : List Name) (xs : List A)
     → two ++ items_from port_bytes (i + 1) (ports_shown (drop (first + k) ns) (map view (drop (i + 1) xs))) ≡ whole
 ports_step view ns xs i first k x out one two whole lt at count inv e1 e2 =
     let d : ports_shown (drop first ns) (map view (drop i xs)) ≡ port_shown (drop first ns) (view x) ∷ ports_shown (drop (first + k) ns) (map view (drop (i + 1) xs)) =
-    ap (λ l. ports_shown (drop first ns) (map view l)) (split xs i x lt at)
+    ap (λ l. ports_shown (drop first ns) (map view l)) (split_at xs i x lt at)
     ∙ ap (λ m. port_shown (drop first ns) (view x) ∷ ports_shown m (map view (drop (i + 1) xs))) (ap (λ j. drop j (drop first ns)) (sym count) ∙ drop_again k first ns) in
     added out one two (comma_bytes i) (port_bytes (port_shown (drop first ns) (view x))) (items_from port_bytes (i + 1) (ports_shown (drop (first + k) ns) (map view (drop (i + 1) xs)))) whole
     (sym (ap (λ l. out ++ items_from port_bytes i l) d) ∙ inv) e1 e2

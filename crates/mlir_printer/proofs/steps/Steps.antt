@@ -7,6 +7,7 @@ use Rattle.hw_model.specs.KindViews.{literals_of}
 use Rattle.hw_model.specs.Design.{Attribute}
 use Rattle.ir_store.specs.DictionaryViews.{attributes_of}
 use Rattle.std.specs.Prelude.{codes}
+use Rattle.wiring.proofs.Joined.{three_added}
 use Rattle.mlir_printer.specs.Commas.{comma_bytes, items_from}
 use Rattle.mlir_printer.specs.Strings.{name_bytes}
 use Rattle.mlir_printer.specs.Types.{type_bytes, fields_from}
@@ -70,11 +71,6 @@ pub literals_items : {A : Type 0} (g : A → Literal) (i : ℕ) (xs : List A)
 literals_items g i [] = refl
 literals_items g i (x ∷ xs) = ap (λ r. comma_bytes i ++ (literal_bytes (shown_literal (g x)) ++ r)) (literals_items g (i + 1) xs)
 
--- three parts added
-pub three : (out one two end a b c : List ℕ) → one ≡ out ++ a → two ≡ one ++ b → end ≡ two ++ c → end ≡ out ++ (a ++ (b ++ c))
-three out one two end a b c p q r =
-    r ∙ ap (λ x. x ++ c) (q ∙ ap (λ x. x ++ b) p) ∙ append_assoc (out ++ a) b c ∙ append_assoc out a (b ++ c)
-
 -- items, all of them added, as they are seen by a view
 pub items_all : {A B : Type 0} (f : B → List ℕ) (g : A → B) (m n : ℕ) (xs : List A) (i : ℕ) (out end : List ℕ) → length xs ≤ i
     → end ++ items_from (λ x. f (g x)) m (drop i xs) ≡ out ++ items_from (λ x. f (g x)) n xs → end ≡ out ++ items_from f n (map g xs)
@@ -85,7 +81,7 @@ items_all f g m n xs i out end le h =
 pub five : (out one two thr fou end a b c d e : List ℕ) → one ≡ out ++ a → two ≡ one ++ b → thr ≡ two ++ c → fou ≡ thr ++ d → end ≡ fou ++ e
     → end ≡ out ++ (a ++ (b ++ (c ++ (d ++ e))))
 five out one two thr fou end a b c d e p q r s t =
-    t ∙ ap (λ x. x ++ e) (s ∙ ap (λ x. x ++ d) (three out one two thr a b c p q r)) ∙ flat out a b c d e
+    t ∙ ap (λ x. x ++ e) (s ∙ ap (λ x. x ++ d) (three_added out one two thr a b c p q r)) ∙ flat out a b c d e
   where
     flat : (o v w x y z : List ℕ) → ((o ++ (v ++ (w ++ x))) ++ y) ++ z ≡ o ++ (v ++ (w ++ (x ++ (y ++ z))))
     flat o v w x y z = simp append_assoc
@@ -94,7 +90,7 @@ five out one two thr fou end a b c d e p q r s t =
 pub eight : (out one two thr fou fiv six sev end a b c d e f g h : List ℕ) → one ≡ out ++ a → two ≡ one ++ b → thr ≡ two ++ c → fou ≡ thr ++ d → fiv ≡ fou ++ e
     → six ≡ fiv ++ f → sev ≡ six ++ g → end ≡ sev ++ h → end ≡ out ++ (a ++ (b ++ (c ++ (d ++ (e ++ (f ++ (g ++ h)))))))
 eight out one two thr fou fiv six sev end a b c d e f g h p q r s t u v w =
-    three fiv six sev end f g h u v w ∙ ap (λ x. x ++ (f ++ (g ++ h))) (five out one two thr fou fiv a b c d e p q r s t) ∙ flat out a b c d e (f ++ (g ++ h))
+    three_added fiv six sev end f g h u v w ∙ ap (λ x. x ++ (f ++ (g ++ h))) (five out one two thr fou fiv a b c d e p q r s t) ∙ flat out a b c d e (f ++ (g ++ h))
   where
     flat : (o v w x y z r : List ℕ) → (o ++ (v ++ (w ++ (x ++ (y ++ z))))) ++ r ≡ o ++ (v ++ (w ++ (x ++ (y ++ (z ++ r)))))
     flat o v w x y z r = simp append_assoc

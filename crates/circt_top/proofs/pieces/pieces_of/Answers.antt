@@ -1,9 +1,10 @@
 -- A line more, which is a separator or not.
 use Rattle.std.proofs.Common.{◌≡◌, ◌+◌, ◌++◌, ◌∷◌, [], true, false, map, drop, sym, ◌∙◌, ap, arith}
+use Rattle.std.proofs.lemmas.List.{map_push}
 use Rattle.std.specs.Prelude.{slice_range}
 use Rattle.circt_top.specs.Pieces.{line_size, is_separator}
 use Rattle.circt_top.specs.PieceViews.{piece_of}
-use Rattle.circt_top.proofs.Cuts.{cut_start, cut_line, cut_separator, map_more}
+use Rattle.circt_top.proofs.Cuts.{cut_start, cut_line, cut_separator}
 use Rattle.circt_top.proofs.pieces.pieces_of.Goals as goal
 
 pub loop-at-init : goal.loop-at-init
@@ -16,7 +17,7 @@ loop-at-preserved-then-is_separator c =
     let separates : is_separator (slice_range c.args.source.now c.loop-at.at (c.loop-at.at + line_size (drop c.loop-at.at c.args.source.now))) ≡ true =
     ap (λ n. is_separator (slice_range c.args.source.now c.loop-at.at n)) (sym end) ∙ ap is_separator (sym c.part.ensures) ∙ sym c.is_separator.ensures ∙ c.if-is_separator.true in
     let items : map piece_of c.push.new.self.items ≡ map piece_of c.loop-at.pieces.items ++ piece_of c.piece_at.result ∷ [] =
-    ap (map piece_of) c.in_ok-push.ensures.items ∙ map_more piece_of c.loop-at.pieces.items c.piece_at.result in
+    ap (map piece_of) c.in_ok-push.ensures.items ∙ map_push piece_of c.loop-at.pieces.items c.piece_at.result in
     record {
       within = omega arith;
       short = c.line_end-end.ensures.within;

@@ -5,7 +5,8 @@ use Rattle.hw_model.proofs.FieldSums.{fields_open}
 use Rattle.mlir_printer.specs.Strings.{name_bytes}
 use Rattle.mlir_printer.specs.Types.{type_bytes, fields_from}
 use Rattle.mlir_printer.specs.Commas.{items_from}
-use Rattle.mlir_printer.proofs.steps.Steps.{three, items_end, fields_items}
+use Rattle.wiring.proofs.Joined.{three_added}
+use Rattle.mlir_printer.proofs.steps.Steps.{items_end, fields_items}
 use Rattle.mlir_printer.proofs.types.+types.Goals as goal
 
 pub push_fields-returns : goal.push_fields-returns
@@ -20,5 +21,5 @@ pub push_struct-returns : goal.push_struct-returns
 push_struct-returns t c =
     let e : fields_in c.args.list.now ≡ fields_of (map field_of c.deref.result.now) =
     fields_open c.args.list.now ∙ ap (λ xs. fields_of (map field_of xs)) (sym c.deref.ensures.value) in
-    three c.args.out.now c.push_bytes.new.self c.push_fields.new.out c.push_bytes-2.new.self (codes "!hw.struct<") (fields_from 0 (fields_in c.args.list.now)) (codes ">")
+    three_added c.args.out.now c.push_bytes.new.self c.push_fields.new.out c.push_bytes-2.new.self (codes "!hw.struct<") (fields_from 0 (fields_in c.args.list.now)) (codes ">")
     c.in_ok-push_bytes.ensures.ok (c.in_ok-push_fields.ensures ∙ ap (λ fs. c.push_bytes.new.self ++ fields_from 0 fs) (sym e)) c.in_ok-push_bytes-2.ensures.ok

@@ -6,7 +6,8 @@ use Rattle.verilog_expr.specs.Scopes.{scope_ports, scope_ops, scope_ref}
 use Rattle.verilog_expr.specs.Templates.{template_text}
 use Rattle.verilog_expr.specs.Named.{named_of}
 use Rattle.verilog_expr.specs.ExprNode.{expr_at, exprs_at, select_text, wrap_for, open_text, close_text}
-use Rattle.verilog_expr.proofs.Writing.{at_zero, at_name, name_text, own_text, selects, three, wrapped}
+use Rattle.wiring.proofs.Joined.{three_added}
+use Rattle.verilog_expr.proofs.Writing.{at_zero, at_name, name_text, own_text, selects, wrapped}
 use Rattle.verilog_expr.proofs.expr.+expr.Goals as goal
 
 pub push_bare-returns-then-depth-eq0 : goal.push_bare-returns-then-depth-eq0
@@ -40,7 +41,7 @@ push_value-returns t c =
     let same : c.wrap_for-wrap.result ≡ w =
     c.wrap_for-wrap.ensures ∙ ap (λ b. wrap_for c.args.unsigned c.args.level b c.info_at.result.level) c.info_at.ensures.signed
     ∙ ap (λ l. wrap_for c.args.unsigned c.args.level (is_signed e) l) c.info_at.ensures.level in
-    three c.args.out.now c.push_open.new.out c.push_bare.new.out c.push_close.new.out (open_text w) (expr_text e []) (close_text w)
+    three_added c.args.out.now c.push_open.new.out c.push_bare.new.out c.push_close.new.out (open_text w) (expr_text e []) (close_text w)
     (c.in_ok-push_open.ensures ∙ ap (λ x. c.args.out.now ++ open_text x) same) c.in_ok-push_bare.ensures
     (c.in_ok-push_close.ensures ∙ ap (λ x. c.push_bare.new.out ++ close_text x) same)
     ∙ ap (λ b. c.args.out.now ++ b) (wrapped c.args.unsigned c.args.level e c.requires)

@@ -1,5 +1,5 @@
 use Rattle.std.proofs.Common.{refl}
-use Rattle.ir_store.specs.declared.operands.Block.{Block}
+use Rattle.ir_store.specs.declared.blocks.Block.{Block}
 use Rattle.ir_store.specs.Blocks.{block_at}
 use Rattle.ir_store.proofs.BlockLists.{kept_without}
 use Rattle.ir_store.proofs.operands.OperandTable.lift.Goals as goal

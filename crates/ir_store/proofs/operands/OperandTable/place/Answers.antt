@@ -1,5 +1,5 @@
 use Rattle.std.proofs.Common.{◌≡◌, ◌+◌, ◌-◌, length, ap, refl, arith, length-append, length-set}
-use Rattle.ir_store.specs.declared.operands.Block.{Block}
+use Rattle.ir_store.specs.declared.blocks.Block.{Block}
 use Rattle.ir_store.specs.Blocks.{OperandLists, block_at}
 use Rattle.ir_store.proofs.BlockLists.{in_blocks, length_at, blocks_placed, list_placed}
 use Rattle.ir_store.proofs.operands.OperandTable.place.Goals as goal

@@ -2,7 +2,7 @@ use Rattle.std.proofs.Common.{◌≡◌, ◌+◌, ◌-◌, List, length, set, ta
 use Rattle.std.specs.Prelude.{insert}
 use Rattle.std.proofs.lemmas.List.Edits.{length-insert}
 use Rattle.ir_store.specs.declared.operation.Value.{Value}
-use Rattle.ir_store.specs.declared.operands.Block.{Block}
+use Rattle.ir_store.specs.declared.blocks.Block.{Block}
 use Rattle.ir_store.specs.Blocks.{OperandLists, block_at, lists_in}
 use Rattle.ir_store.proofs.BlockLists.{in_blocks, length_at, blocks_placed, list_placed}
 use Rattle.ir_store.proofs.operands.OperandTable.place_with.Goals as goal

@@ -1,5 +1,5 @@
 use Rattle.std.proofs.Common.{◌≡◌, ◌+◌, ◌-◌, ap, sym, refl, arith, length-set}
-use Rattle.ir_store.specs.declared.operands.Block.{Block}
+use Rattle.ir_store.specs.declared.blocks.Block.{Block}
 use Rattle.ir_store.specs.Blocks.{OperandLists, cell_room}
 use Rattle.ir_store.proofs.BlockLists.{block_is, in_blocks, block_le, blocks_shrunk, list_removed, length_at}
 use Rattle.ir_store.proofs.operands.OperandTable.remove.Goals as goal

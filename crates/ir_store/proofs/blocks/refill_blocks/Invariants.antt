@@ -1,7 +1,7 @@
 use Rattle.std.proofs.Common.{◌≡◌, ◌+◌, length}
 use Rattle.ir_store.specs.Blocks.{cell_room}
 use Rattle.ir_store.proofs.Refilling.{Refilled}
-use Rattle.ir_store.proofs.operands.refill_blocks.Given as goal
+use Rattle.ir_store.proofs.blocks.refill_blocks.Given as goal
 
 abbrev pub invariant-loop-i : goal.invariant-loop-i
 invariant-loop-i l =

@@ -1,9 +1,9 @@
 use Rattle.std.proofs.Common.{◌≡◌, length, ap, refl, ◌∙◌, arith, length-append}
-use Rattle.ir_store.specs.declared.operands.Block.{Block}
+use Rattle.ir_store.specs.declared.blocks.Block.{Block}
 use Rattle.ir_store.specs.Blocks.{block_at, block_list}
 use Rattle.ir_store.proofs.BlockLists.{block_length}
 use Rattle.ir_store.proofs.Refilling.{refilled_none, refilled_more, refilled_all, refilled_lists, refilled_room}
-use Rattle.ir_store.proofs.operands.refill_blocks.Goals as goal
+use Rattle.ir_store.proofs.blocks.refill_blocks.Goals as goal
 
 pub loop-i-init : goal.loop-i-init
 loop-i-init c = (refilled_none c.args.from.now c.args.blocks.now c.args.cells.now.values.items c.args.cells.now.owners.items c.requires.empty, omega (arith, ap length c.requires.empty))
