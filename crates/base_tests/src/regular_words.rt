@@ -2,6 +2,7 @@
 use crate::invocations::{ALL, words_of};
 use command_line::normalise::{WordsFail, normalise};
 use pass_pipeline::pass::Pass;
+use std::alloc::{AllocError, Global};
 use std::test::Fail;
 
 /// The words of a line, and the regular ones that they become.
