@@ -8,15 +8,16 @@ ghost use Rattle.std.specs.Hash as fed;
 ghost use Rattle.std.specs.Prelude.{nat_eq};
 ghost use Rattle.std.proofs.Common.{rules};
 
+use smallvec::SmallVec;
 use std::alloc::{AllocError, Global};
 use std::cmp::Ordering;
 use std::hash::{Hash, Hasher};
 use std::marker::Model;
 
-/// A text: bytes in order, which need not be UTF-8. Contracts see it as its list of bytes.
+/// A text: bytes in order, which need not be UTF-8. At most 22 of them take no memory. Contracts see it as its list of bytes.
 #[derive(Debug, Drop)]
 pub struct Text {
-    bytes: Vec<u8>,
+    bytes: SmallVec<u8, 22, Global>,
 }
 
 impl Model for Text {
@@ -33,38 +34,24 @@ impl Text {
         ensures { result ≡ [] }
     {
         Text {
-            bytes: Vec::new(alloc),
+            bytes: SmallVec::new(alloc),
         }
     }
 
-    /// A copy of `bytes`.
+    /// A copy of `bytes`. It takes memory only for more than 22.
     pub fn of(alloc: Global, bytes: &[u8]) -> Result<Text, AllocError>
         ensures { IfOk result (λ text. text ≡ bytes.now) }
     {
-        let bytes = Vec::from_slice(alloc, bytes)?;
+        let bytes = SmallVec::from_slice(alloc, bytes)?;
         Ok(Text { bytes })
     }
 
-    /// The empty text, with room for `room` bytes taken at once.
+    /// The empty text, with room for `room` bytes taken at once. It takes memory only for more than 22.
     pub fn with_room(alloc: Global, room: usize) -> Result<Text, AllocError>
         ensures { IfOk result (λ text. text ≡ []) }
     {
-        let bytes = Vec::with_capacity(alloc, room)?;
+        let bytes = SmallVec::with_capacity(alloc, room)?;
         Ok(Text { bytes })
-    }
-
-    /// The text of these bytes. It takes no memory.
-    pub fn from_vec(bytes: Vec<u8>) -> Text
-        ensures { result ≡ bytes.items }
-    {
-        Text { bytes }
-    }
-
-    /// The bytes of this text. It takes no memory.
-    pub fn into_vec(self) -> Vec<u8>
-        ensures { result.items ≡ self }
-    {
-        self.bytes
     }
 
     /// The bytes in order.
