@@ -17,7 +17,24 @@ fn texts_are_their_bytes(rt: HostRuntime) -> Result<(), Fail> {
     assert_eq!(rt; text.len(), 6);
     let same = text.try_clone(alloc)?;
     assert!(rt; same == text);
-    assert!(rt; Text::new(alloc) < Text::from_vec(text.into_vec()));
+    assert!(rt; Text::new(alloc) < text);
+    Ok(())
+}
+
+#[test]
+fn texts_grow_past_22_bytes(rt: HostRuntime) -> Result<(), Fail> {
+    let alloc = rt.alloc();
+    let mut text = Text::of(alloc, b"0123456789abcdef012345")?;
+    text.push(b'6')?;
+    text.push_bytes(b"789abcdef")?;
+    assert_eq!(rt;
+        text.as_bytes(),
+        b"0123456789abcdef0123456789abcdef".as_slice()
+    );
+    let short = Text::of(alloc, b"0123456789abcdef")?;
+    assert!(rt; short < text);
+    assert!(rt; text.try_clone(alloc)? == text);
+    assert!(rt; Text::with_room(alloc, 100)?.is_empty());
     Ok(())
 }
 

@@ -22,6 +22,8 @@ pub struct TakenNames {
     names: IndexSet<Vec<u8>>,
     // of each name how many of its suffixed names are known to be taken
     tried: Vec<usize>,
+    // the memory of names that are taken no more
+    spare: Vec<Vec<u8>>,
     ghost paired: { length tried.items ≡ length names.keys },
     ghost taken: { AreTried (map (λ (name : _). name.items) names.keys) tried.items },
 }
@@ -39,6 +41,32 @@ fn with_suffix(alloc: Global, wanted: &[u8], number: usize) -> Result<Vec<u8>, A
     Ok(name)
 }
 
+// Moves names out of a table to those whose memory is used again, as far as there is room for them.
+fn keep_memory(names: &mut IndexSet<Vec<u8>>, spare: &mut Vec<Vec<u8>>) {
+    while let Some(name) = names.pop() {
+        if spare.push(name).is_err() {
+            return;
+        }
+    }
+}
+
+// A name of these bytes, in memory that is used again where there is such.
+fn copied_name(
+    alloc: Global,
+    spare: &mut Vec<Vec<u8>>,
+    wanted: &[u8],
+) -> Result<Vec<u8>, AllocError>
+    ensures { IfOk result (λ name. name.items ≡ wanted.now) }
+{
+    let Some(used) = spare.pop() else {
+        return Vec::from_slice(alloc, wanted);
+    };
+    let mut name = used;
+    name.clear();
+    name.extend_from_slice(wanted)?;
+    Ok(name)
+}
+
 impl TakenNames {
     ghost use Rattle.std.specs.Prelude.{◌≡◌, ◌+◌, ◌<◌, ◌^◌, [], ◌∷◌, ◌++◌, length, Some, slice_get, true, false, not, cond, IfOk, OnOk, OnErr};
     ghost use Rattle.fresh_names.specs.Fresh.{free_from, free_name, is_taken, with_suffix};
@@ -52,6 +80,7 @@ impl TakenNames {
         TakenNames {
             names: IndexSet::new(alloc),
             tried: Vec::new(alloc),
+            spare: Vec::new(alloc),
         }
     }
 
@@ -62,6 +91,7 @@ impl TakenNames {
         if self.names.len() > MOST_KEPT {
             *self = TakenNames::new(*self.tried.allocator());
         } else {
+            keep_memory(&mut self.names, &mut self.spare);
             self.names.clear();
             self.tried.clear();
         }
@@ -146,7 +176,8 @@ impl TakenNames {
     {
         let index = self.names.len() as u32;
         let alloc = *self.tried.allocator();
-        if !self.add_free(Vec::from_slice(alloc, wanted)?)? {
+        let name = copied_name(alloc, &mut self.spare, wanted)?;
+        if !self.add_free(name)? {
             self.add_again(wanted)?;
         }
         Ok(NameId { index })
