@@ -5,7 +5,7 @@ use Rattle.hw_model.specs.Types.{Name}
 use Rattle.hw_model.specs.Design.{same_name, find_module}
 use Rattle.ir_store.specs.Symbols.{symbol_place}
 use Rattle.ir_store.specs.Designs.{StoredModule, numbered_module}
-use Rattle.port_checks.proofs.Symbols.{both_ways}
+use Rattle.ir_store.proofs.DesignLemmas.{same_name_back}
 
 -- whether a place is before a number
 abbrev pub is_before : Option ℕ → ℕ → Bool
@@ -21,7 +21,7 @@ named_before q zero (m ∷ ms) = sym (never_before (symbol_place q (map (λ (m :
     never_before : (p : Option ℕ) → is_before p 0 ≡ false
     never_before None = refl
     never_before (Some i) = le-ltb i 0 (omega arith)
-named_before q (suc n) (m ∷ ms) = rw (both_ways m.symbol q) (go (same_name q m.symbol) (named_before q n ms))
+named_before q (suc n) (m ∷ ms) = rw (same_name_back m.symbol q) (go (same_name q m.symbol) (named_before q n ms))
   where
     behind : (p : Option ℕ) → is_before (option_map suc p) (suc n) ≡ is_before p n
     behind None = refl

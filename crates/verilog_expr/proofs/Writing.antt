@@ -2,7 +2,6 @@
 use Rattle.std.proofs.Common.{◌≡◌, ℕ, zero, suc, ◌+◌, ◌-◌, ◌<◌, ◌≢◌, Bool, true, false, cond, ◌==◌, nat_le, nat_lt, List, [], ◌∷◌, ◌++◌, length, map, slice_get, Option, Some, None, is_some, codes, decimal, refl, sym, ap, subst, ◌∙◌, arith}
 use Rattle.std.proofs.lemmas.Bool.{ltb-true, ltb-false, leb-true, leb-false}
 use Rattle.std.proofs.lemmas.List.{append-nil, length-map}
-use Rattle.wiring.proofs.Joined.{three_added}
 use Rattle.wiring.specs.Options.{bind}
 use Rattle.hw_model.specs.Types.{Name, HwType, width}
 use Rattle.hw_model.specs.Design.{Ref, Port, Op, result_type}

@@ -4,14 +4,14 @@ use Rattle.std.proofs.lemmas.List.{append-nil, drop_all}
 use Rattle.hw_model.specs.Types.{Name}
 use Rattle.hw_model.specs.Kinds.{Instance}
 use Rattle.name_legalise.specs.Legal.{legal_name, legal_after}
-use Rattle.verilog_expr.proofs.Drops.{split}
+use Rattle.wiring.proofs.Joined.{split_at}
 use Rattle.export_verilog.specs.Identifiers.{result_name_hint}
 use Rattle.export_verilog.specs.Held.{result_name_hints}
 
 module _ (ts us ws wholeN : List Name) (list one wholeL : List (Option Name)) (k : ℕ) (w n : Name) (lt : k < length ws) (at : w ≡ get_or ws k w)
     (is : n ≡ legal_name ts w) (took : us ≡ ts ++ legal_name ts w ∷ []) where
   next : drop k ws ≡ w ∷ drop (k + 1) ws
-  next = split ws k w lt at
+  next = split_at ws k w lt at
 
   pub names_step : ts ++ legal_after ts (drop k ws) ≡ wholeN → us ++ legal_after us (drop (k + 1) ws) ≡ wholeN
   names_step inv =

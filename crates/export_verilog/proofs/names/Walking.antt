@@ -10,7 +10,7 @@ use Rattle.ir_store.specs.declared.body.Op as body
 use Rattle.name_legalise.specs.Legal.{legal_after}
 use Rattle.verilog_expr.specs.Scopes.{op_read}
 use Rattle.verilog_expr.specs.declared.scope.Scope.{Scope}
-use Rattle.verilog_expr.proofs.Drops.{split}
+use Rattle.wiring.proofs.Joined.{split_at}
 use Rattle.export_verilog.specs.Identifiers.{Emission, emission_of}
 use Rattle.export_verilog.specs.Identifiers.Emission.{inline, as_wire, as_reg, as_instance}
 use Rattle.export_verilog.specs.Held.{op_seen, name_hints_of, op_name_hints, results_of, op_results}
@@ -42,7 +42,7 @@ results_seen s o ts as_instance = go (instance_in (kind_of o.kind.now)) where
 module _ (ports : List Port) (os : List Op) (i : ℕ) (x : Op) (r : Emission) (ts us : List Name) (lt : i < length os) (at : slice_get os i ≡ Some x)
     (emission : r ≡ emission_of ports os i x) (took : us ≡ ts ++ legal_after ts (op_name_hints r x)) where
   next : drop i os ≡ x ∷ drop (i + 1) os
-  next = split os i x lt (sym (get_or_from_slice_get os i x x at))
+  next = split_at os i x lt (sym (get_or_from_slice_get os i x x at))
 
   taken : us ≡ ts ++ legal_after ts (op_name_hints (emission_of ports os i x) x)
   taken = took ∙ ap (λ q. ts ++ legal_after ts (op_name_hints q x)) emission

@@ -7,7 +7,7 @@ use Rattle.hw_model.specs.Design.{Ref, Port}
 use Rattle.verilog_model.specs.Tree.{Expr, Connection}
 use Rattle.verilog_model.specs.Tree.Expr.{name}
 use Rattle.verilog_expr.specs.Text.{expr_text}
-use Rattle.verilog_expr.proofs.Drops.{split}
+use Rattle.wiring.proofs.Joined.{split_at}
 use Rattle.export_verilog.specs.Exported.{expr_or_none, others}
 use Rattle.export_verilog.specs.Layout.{Text, connection_text}
 use Rattle.export_verilog.specs.Written.{line_end, some_left, connections_left, written_connection}
@@ -57,8 +57,8 @@ module _ {A B : Type 0} (view : A → Port) (vref : B → Ref) (ex : Ref → Exp
       ++ joined_left ns xs os (j + 1) (cond b (k + 1) k) (cond (not b) (u + 1) u)
   front ns xs os j k u n x true is count lt nat xat =
       let rest = connections_from ex given (k + 1) (drop (j + 1) ns) (map view (drop (j + 1) xs)) (map vref (drop u os)) in
-      ap (λ l. connections_left (connections_from ex given k l (map view (drop j xs)) (map vref (drop u os))) []) (split ns j n (omega (arith, count, lt)) nat)
-      ∙ ap (λ l. connections_left (connections_from ex given k (n ∷ drop (j + 1) ns) (map view l) (map vref (drop u os))) []) (split xs j x lt xat)
+      ap (λ l. connections_left (connections_from ex given k l (map view (drop j xs)) (map vref (drop u os))) []) (split_at ns j n (omega (arith, count, lt)) nat)
+      ∙ ap (λ l. connections_left (connections_from ex given k (n ∷ drop (j + 1) ns) (map view l) (map vref (drop u os))) []) (split_at xs j x lt xat)
       ∙ ap (λ b. connections_left (cond b (record { port = n; value = name (given k) } ∷ rest)
       (record { port = n; value = expr_or_none ex (map vref (drop u os)) } ∷ connections_from ex given k (drop (j + 1) ns) (map view (drop (j + 1) xs)) (others (map vref (drop u os))))) []) is
       ∙ connection_first (record { port = n; value = name (given k) }) rest []
@@ -67,8 +67,8 @@ module _ {A B : Type 0} (view : A → Port) (vref : B → Ref) (ex : Ref → Exp
       let rs = map vref (drop u os) in
       let rest = connections_from ex given k (drop (j + 1) ns) (map view (drop (j + 1) xs)) (others rs) in
       let c : Connection = record { port = n; value = expr_or_none ex rs } in
-      ap (λ l. connections_left (connections_from ex given k l (map view (drop j xs)) rs) []) (split ns j n (omega (arith, count, lt)) nat)
-      ∙ ap (λ l. connections_left (connections_from ex given k (n ∷ drop (j + 1) ns) (map view l) rs) []) (split xs j x lt xat)
+      ap (λ l. connections_left (connections_from ex given k l (map view (drop j xs)) rs) []) (split_at ns j n (omega (arith, count, lt)) nat)
+      ∙ ap (λ l. connections_left (connections_from ex given k (n ∷ drop (j + 1) ns) (map view l) rs) []) (split_at xs j x lt xat)
       ∙ ap (λ b. connections_left (cond b (record { port = n; value = name (given k) } ∷ connections_from ex given (k + 1) (drop (j + 1) ns) (map view (drop (j + 1) xs)) rs) (c ∷ rest)) []) is
       ∙ connection_first c rest []
       ∙ ap (λ b. connection_text c (line_end b) ++ connections_left rest []) (some_joined ns xs (j + 1) k (others rs) count)

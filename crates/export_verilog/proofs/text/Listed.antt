@@ -5,7 +5,7 @@ use Rattle.std.proofs.lemmas.List.{append-nil, drop_all}
 use Rattle.hw_model.specs.Types.{Name, width}
 use Rattle.hw_model.specs.Design.{Port}
 use Rattle.verilog_model.specs.Tree.{VPort, Connection}
-use Rattle.verilog_expr.proofs.Drops.{split}
+use Rattle.wiring.proofs.Joined.{split_at}
 use Rattle.export_verilog.specs.Layout.{Text, port_text, port_lines, ports_text, connection_text, connection_lines}
 use Rattle.export_verilog.specs.Written.{line_end, some_left, ports_left, connections_left, port_named, ports_named, AreNarrow}
 use Rattle.export_verilog.proofs.text.Rests.{port_rest, connection_rest}
@@ -22,7 +22,7 @@ pub gather_step : {A B : Type 0} (f : A → B) (F : List A → List B) (xs : Lis
     → out ++ F (drop i xs) ≡ whole → one ≡ out ++ f x ∷ [] → one ++ F (drop (i + 1) xs) ≡ whole
 gather_step f F xs i x out one whole more lt at inv e =
     ap (λ l. l ++ F (drop (i + 1) xs)) e ∙ append_assoc out (f x ∷ []) (F (drop (i + 1) xs))
-    ∙ ap (λ l. out ++ l) (sym (ap F (split xs i x lt at) ∙ more x (drop (i + 1) xs))) ∙ inv
+    ∙ ap (λ l. out ++ l) (sym (ap F (split_at xs i x lt at) ∙ more x (drop (i + 1) xs))) ∙ inv
 
 pub gather_end : {A B : Type 0} (F : List A → List B) (xs : List A) (i : ℕ) (out whole : List B) → F [] ≡ [] → length xs ≤ i
     → out ++ F (drop i xs) ≡ whole → out ≡ whole
@@ -58,7 +58,7 @@ pub ports_step : {A : Type 0} (view : A → Port) (ns : List Name) (xs : List A)
 ports_step view ns xs i n x left out one whole count lt nat xat is inv e =
     let rest = ports_named (drop (i + 1) ns) (map view (drop (i + 1) xs)) in
     let d : ports_named (drop i ns) (map view (drop i xs)) ≡ port_named n (view x) ∷ rest =
-    ap (λ l. ports_named l (map view (drop i xs))) (split ns i n (omega (arith, count, lt)) nat) ∙ ap (λ l. ports_named (n ∷ drop (i + 1) ns) (map view l)) (split xs i x lt xat) in
+    ap (λ l. ports_named l (map view (drop i xs))) (split_at ns i n (omega (arith, count, lt)) nat) ∙ ap (λ l. ports_named (n ∷ drop (i + 1) ns) (map view l)) (split_at xs i x lt xat) in
     let some : left ≡ some_left rest = is ∙ sym (some_ports view ns xs (i + 1) count) in
     ap (λ l. l ++ ports_left rest []) (e ∙ ap (λ b. out ++ port_text (port_named n (view x)) (line_end b)) some)
     ∙ append_assoc out (port_text (port_named n (view x)) (line_end (some_left rest))) (ports_left rest [])

@@ -6,7 +6,7 @@ use Rattle.std.proofs.lemmas.Option.{get_or_from_slice_get}
 use Rattle.hw_model.specs.Types.{Name}
 use Rattle.hw_model.specs.Design.{Port, Module, Design}
 use Rattle.verilog_model.specs.Tree.{VPort, Item, VModule, Tree}
-use Rattle.verilog_expr.proofs.Drops.{split}
+use Rattle.wiring.proofs.Joined.{split_at}
 use Rattle.export_verilog.specs.Identifiers.{identifier_text, name_or_nothing}
 use Rattle.export_verilog.specs.Identifiers.Identifier.{port_identifier}
 use Rattle.export_verilog.specs.Exported.{vports, vmodule}
@@ -100,7 +100,7 @@ module_step view xs i follows out one two whole lt is inv p q =
     ap (λ t. t ++ rest) (q x.0 x.1 ∙ ap (λ t. t ++ module_text (view x.0) []) (p ∙ ap (λ b. out ++ cond b (codes "\n") []) is))
     ∙ append_assoc (out ++ gap) (module_text (view x.0) []) rest ∙ append_assoc out gap (module_text (view x.0) [] ++ rest)
     ∙ ap (λ t. out ++ t)
-    (sym (ap (λ l. modules_left i (map view l)) (split xs i x.0 lt (sym (get_or_from_slice_get xs i x.0 x.0 x.1))) ∙ left_first i (view x.0) (map view (drop (i + 1) xs)))) ∙ inv
+    (sym (ap (λ l. modules_left i (map view l)) (split_at xs i x.0 lt (sym (get_or_from_slice_get xs i x.0 x.0 x.1))) ∙ left_first i (view x.0) (map view (drop (i + 1) xs)))) ∙ inv
 
 pub modules_end : {A : Type 0} (view : A → VModule) (xs : List A) (i : ℕ) (out whole : Text) → length xs ≤ i
     → out ++ modules_left i (map view (drop i xs)) ≡ whole → out ≡ whole
