@@ -22,9 +22,19 @@ pub(crate) struct BodyView<'b> {
 impl<'b> BodyView<'b> {
     ghost use Rattle.op_verifier.specs.BodyViews.{ops_viewed};
 
-    /// The view of a module's ports and body.
-    pub(crate) fn new(
+    /// The view of no ports and no operations. It takes no memory.
+    pub(crate) fn empty(alloc: Global) -> BodyView<'b> {
+        BodyView {
+            ports: &[],
+            entries: Vec::new(alloc),
+            positions: Vec::new(alloc),
+        }
+    }
+
+    /// The view of a module's ports and body. The memory of `room` is used again.
+    pub(crate) fn again(
         alloc: Global,
+        room: BodyView<'b>,
         ports: &'b [Port],
         body: &'b Body,
     ) -> Result<BodyView<'b>, AllocError>
@@ -32,8 +42,13 @@ impl<'b> BodyView<'b> {
         ensures ports { IfOk result (λ v. v.ports.now ≡ ports.now) }
         ensures settled { IfOk result (λ v. AreSettled v.entries.items) }
     {
-        let entries = Entry::all(alloc, body)?;
-        let positions = positions(alloc, &entries)?;
+        let BodyView {
+            ports: _,
+            entries,
+            positions: table,
+        } = room;
+        let entries = Entry::all(alloc, entries, body)?;
+        let positions = positions(table, &entries)?;
         Ok(BodyView {
             ports,
             entries,
@@ -42,11 +57,12 @@ impl<'b> BodyView<'b> {
     }
 }
 
-/// The position of each id's operation, by the number of the id.
-fn positions(alloc: Global, entries: &[Entry<'_>]) -> Result<Vec<usize>, AllocError>
+/// The position of each id's operation, by the number of the id, in the memory of `room`.
+fn positions(room: Vec<usize>, entries: &[Entry<'_>]) -> Result<Vec<usize>, AllocError>
     ensures { IfOk result (λ table. IsTable table.items (ids_in (map op_in entries.now))) }
 {
-    let mut table = Vec::new(alloc);
+    let mut table = room;
+    table.clear();
     let mut place = entries.len();
     while place > 0 {
         place -= 1;

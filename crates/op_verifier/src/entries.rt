@@ -1,5 +1,5 @@
 //! The operations of a body as checks go over them: each with its id and the types that it settles for its results.
-ghost use Rattle.std.specs.Prelude.{◌≡◌, map, length, IfOk};
+ghost use Rattle.std.specs.Prelude.{◌≡◌, [], map, length, IfOk};
 ghost use Rattle.ir_store.specs.Bodies.{ops_of, read_op};
 
 use crate::settled_types::Settled;
@@ -27,12 +27,26 @@ impl<'b> Entry<'b> {
         Ok(Entry { id, op, settled })
     }
 
-    /// The entries of a body's operations, in text order.
-    pub(crate) fn all(alloc: Global, body: &'b Body) -> Result<Vec<Entry<'b>>, AllocError>
+    /// No entries, in the memory of `room`, with room for so many.
+    fn none(room: Vec<Entry<'b>>, count: usize) -> Result<Vec<Entry<'b>>, AllocError>
+        ensures items { IfOk result (λ es. es.items ≡ []) }
+    {
+        let mut entries = room;
+        entries.clear();
+        entries.reserve(count)?;
+        Ok(entries)
+    }
+
+    /// The entries of a body's operations, in text order, in the memory of `room`.
+    pub(crate) fn all(
+        alloc: Global,
+        room: Vec<Entry<'b>>,
+        body: &'b Body,
+    ) -> Result<Vec<Entry<'b>>, AllocError>
         ensures ops { IfOk result (λ es. map op_in es.items ≡ ops_of body.now) }
         ensures settled { IfOk result (λ es. map types_beside es.items ≡ map settled_for (ops_of body.now)) }
     {
-        let mut entries = Vec::with_capacity(alloc, body.op_count())?;
+        let mut entries = Entry::none(room, body.op_count())?;
         for id in body.ops() {
             entries.push(Entry::new(alloc, id, body.op(id))?)?;
         }

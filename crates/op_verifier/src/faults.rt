@@ -1,10 +1,11 @@
 //! The first refusal of a design, but for those that look at the design as a whole.
 ghost use Rattle.std.specs.Prelude.{◌≡◌, IfOk};
+ghost use Rattle.ir_store.specs.Bodies.{ops_of};
 ghost use Rattle.ir_store.specs.Designs.{design_of, module_of, numbered_module};
 ghost use Rattle.ir_store.specs.OperationViews.{place_of};
 ghost use Rattle.port_checks.specs.Marked.{AreResetPorts};
 ghost use Rattle.op_verifier.specs.Entries.{AreSettled};
-ghost use Rattle.op_verifier.specs.BodyViews.{ports_viewed, body_viewed};
+ghost use Rattle.op_verifier.specs.BodyViews.{ops_viewed, ports_viewed, body_viewed};
 ghost use Rattle.op_verifier.specs.Faults.{refused_at, body_fault, module_fault, first_fault};
 
 use crate::body_view::BodyView;
@@ -22,8 +23,11 @@ pub fn first_fault(alloc: Global, design: &Design) -> Result<Option<Refusal>, Al
     ensures { IfOk result (λ fault. fault ≡ first_fault (design_of design.now)) }
 {
     let resets = ResetPorts::of(alloc, design)?;
+    let mut view = BodyView::empty(alloc);
     for number in 0..design.module_count() {
-        match module_fault(alloc, design, &resets, number, design.module(number))? {
+        let module = design.module(number);
+        view = BodyView::again(alloc, view, &module.ports.ports, &module.body)?;
+        match module_fault(alloc, design, &resets, number, module, &view)? {
             Some(refusal) => return Ok(Some(refusal)),
             None => {}
         }
@@ -31,26 +35,29 @@ pub fn first_fault(alloc: Global, design: &Design) -> Result<Option<Refusal>, Al
     Ok(None)
 }
 
-/// The first refusal of a module's header and operations.
+/// The first refusal of a module's header and operations, of which there is a view.
 fn module_fault(
     alloc: Global,
     design: &Design,
     resets: &ResetPorts,
     number: u32,
     module: &Module,
+    view: &BodyView<'_>,
 ) -> Result<Option<Refusal>, AllocError>
-    requires { AreResetPorts (design_of design.now) resets.now }
+    requires resets { AreResetPorts (design_of design.now) resets.now }
+    requires ops { ops_viewed view.now ≡ ops_of «module».now.body }
+    requires ports { view.now.ports.now ≡ «module».now.ports.ports.items }
+    requires settled { AreSettled view.now.entries.items }
     ensures { IfOk result (λ fault. fault ≡ module_fault (design_of design.now) number (numbered_module (module_of «module».now))) }
 {
-    let view = BodyView::new(alloc, &module.ports.ports, &module.body)?;
     if let Some(cause) = ports_cause(view.ports) {
         return Ok(Some(refused_at(module.place, Listed::HwModule, cause)));
     }
     let symbol = module.symbol.as_bytes();
-    if let Some(cause) = names_cause(alloc, design, number, symbol, &view)? {
+    if let Some(cause) = names_cause(alloc, design, number, symbol, view)? {
         return Ok(Some(refused_at(module.place, Listed::HwModule, cause)));
     }
-    body_fault(alloc, design, resets, &view)
+    body_fault(alloc, design, resets, view)
 }
 
 /// The first refusal of an operation of a body.
