@@ -56,15 +56,15 @@ IsReduction change = (os : List Op) (v : Variadic) (rs rs' : List Ref) → chang
 
 -- ---- what an operation of any number of operands writes
 
-written : (v : Variadic) (n : ℕ) → 1 ≤ n → n ≡ operands_written (variadic v) n
+pub written : (v : Variadic) (n : ℕ) → 1 ≤ n → n ≡ operands_written (variadic v) n
 unfolding operands_written
 written v n some = omega arith
 
-types_written : (v : Variadic) (n m : ℕ) → type_count (variadic v) n ≡ type_count (variadic v) m
+pub types_written : (v : Variadic) (n m : ℕ) → type_count (variadic v) n ≡ type_count (variadic v) m
 unfolding type_count
 types_written v n m = refl
 
-results_given : (v : Variadic) (ts : List HwType) (n m : ℕ) → result_types (variadic v) ts n ≡ result_types (variadic v) ts m
+pub results_given : (v : Variadic) (ts : List HwType) (n m : ℕ) → result_types (variadic v) ts n ≡ result_types (variadic v) ts m
 unfolding type_of_result result_types
 results_given v ts n m = refl
 

@@ -130,7 +130,7 @@ integer_among (u ∷ us) v form (inl same) = same ∙ of_first u (neither (not (
     of_first (struct fs) h = cc
 
 -- the types of joined operands are those that are written
-joined_types : (os : List Op) (us : List HwType) (rs : List Ref) (type_of : Ref → Option HwType) (u : HwType) → Known os concat us rs type_of u → map type_of rs ≡ known_types us
+pub joined_types : (os : List Op) (us : List HwType) (rs : List Ref) (type_of : Ref → Option HwType) (u : HwType) → Known os concat us rs type_of u → map type_of rs ≡ known_types us
 unfolding has_other_operand type_count
 joined_types os us rs type_of u known =
     let own = known.fits in

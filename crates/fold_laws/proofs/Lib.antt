@@ -23,3 +23,11 @@ pub mod Parts
 pub mod JoinedParts
 pub mod ArrayParts
 pub mod Samples
+pub mod Splices
+pub mod NestedUses
+pub mod NestedValues
+pub mod Nested
+pub mod NestedOperands
+pub mod NewOps
+pub mod NestedConcats
+pub mod NestedSamples

@@ -13,19 +13,19 @@ kind_counts : (kind : Kind) (n : ℕ) → 1 ≤ kind_measure kind n
 kind_counts (constant z) n = omega arith
 kind_counts _ n = omega arith
 
-measure-retarget : (f : Ref → Ref) (os : List Op) → measure (map (retarget f) os) ≡ measure os
+pub measure-retarget : (f : Ref → Ref) (os : List Op) → measure (map (retarget f) os) ≡ measure os
 measure-retarget f [] = refl
 measure-retarget f (o ∷ os) =
     let first : kind_measure o.kind (length (map f o.operands)) ≡ kind_measure o.kind (length o.operands) = ap (kind_measure o.kind) (length-map o.operands f) in
     let rest : measure (map (retarget f) os) ≡ measure os = measure-retarget f os in
     omega arith
 
-measure-remove : (os : List Op) (i : ℕ) (o : Op) → slice_get os i ≡ Some o → op_measure o + measure (remove os i) ≡ measure os
+pub measure-remove : (os : List Op) (i : ℕ) (o : Op) → slice_get os i ≡ Some o → op_measure o + measure (remove os i) ≡ measure os
 measure-remove [] i o is = cc
 measure-remove (y ∷ ys) zero o is = let same : o ≡ y = cc in ap (λ z. op_measure z + measure ys) same
 measure-remove (y ∷ ys) (suc i) o is = let rest : op_measure o + measure (remove ys i) ≡ measure ys = measure-remove ys i o is in omega arith
 
-measure-set : (os : List Op) (i : ℕ) (o o' : Op) → slice_get os i ≡ Some o → op_measure o + measure (set os i o') ≡ op_measure o' + measure os
+pub measure-set : (os : List Op) (i : ℕ) (o o' : Op) → slice_get os i ≡ Some o → op_measure o + measure (set os i o') ≡ op_measure o' + measure os
 measure-set [] i o o' is = cc
 measure-set (y ∷ ys) zero o o' is =
     let same : o ≡ y = cc in

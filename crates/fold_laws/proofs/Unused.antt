@@ -56,7 +56,7 @@ module _ (d : Design) (fit : IsFit d) (k : ℕ) (md : Module) (at : slice_get d 
     unnamed = none_used i md.body none;
   }
 
-  unused_taken : IsFold d k md (erase_op i undefined md.body)
+  pub unused_taken : IsFold d k md (erase_op i undefined md.body)
   unused_taken = record {
     steady = steady_with_body d k md (erase_op i undefined md.body) at (erase_dead_op_preserves d k md i o fit.valid at unused)
         (fit_without_dead d k md i o fit at unused) (shape_erase md.body i o undefined there (pure_plain o.kind pure));

@@ -7,3 +7,4 @@ pub mod Numbers
 pub mod Evaluated
 pub mod Fewer
 pub mod Parts
+pub mod Nested

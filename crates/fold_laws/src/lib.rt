@@ -4,5 +4,6 @@
 mod laws;
 
 pub use laws::{
-    operands_go, operands_stand, operations_become_constants, parts_stand, unused_operations_go,
+    nested_operations_join, operands_go, operands_stand, operations_become_constants, parts_stand,
+    unused_operations_go,
 };

@@ -1,0 +1,9 @@
+use Rattle.fold_laws.proofs.NestedConcats.{nested_concat_is_fold}
+use Rattle.fold_laws.proofs.NestedOperands.{nested_operand_is_fold}
+use Rattle.fold_laws.proofs.laws.nested_operations_join.Goals as goal
+
+pub returns-clause-nested_operand : goal.returns-clause-nested_operand
+returns-clause-nested_operand c = nested_operand_is_fold
+
+pub returns-clause-nested_concat : goal.returns-clause-nested_concat
+returns-clause-nested_concat c = nested_concat_is_fold
