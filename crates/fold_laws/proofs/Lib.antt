@@ -29,5 +29,6 @@ pub mod NestedValues
 pub mod Nested
 pub mod NestedOperands
 pub mod NewOps
+pub mod NestedExtracts
 pub mod NestedConcats
 pub mod NestedSamples

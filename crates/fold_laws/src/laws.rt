@@ -4,7 +4,7 @@ ghost use Rattle.fold_laws.specs.Evaluated.{fold_evaluated};
 ghost use Rattle.fold_laws.specs.Fewer.{fold_add_zero, fold_or_zero, fold_xor_zero, fold_and_ones, fold_mul_one, fold_repeated, fold_xor_pair};
 ghost use Rattle.fold_laws.specs.Edits.{fold_by};
 ghost use Rattle.fold_laws.specs.Fold.{FoldLaw};
-ghost use Rattle.fold_laws.specs.Nested.{fold_nested_operand, fold_nested_concat};
+ghost use Rattle.fold_laws.specs.Nested.{fold_nested_operand, fold_extract_extract, fold_nested_concat};
 ghost use Rattle.fold_laws.specs.Numbers.{fold_sub_self, fold_xor_self, fold_shift_out, fold_mod_one, fold_icmp_self};
 ghost use Rattle.fold_laws.specs.Parts.{fold_struct_part, fold_extract_part, fold_array_part};
 ghost use Rattle.fold_laws.specs.Standing.{fold_single_operand, fold_and_zero, fold_or_ones, fold_mul_zero, fold_sub_zero, fold_shift_zero, fold_div_one, fold_mux_constant, fold_mux_same, fold_mux_bool, fold_full_extract, fold_trivial_concat, fold_trivial_replicate, fold_trivial_bitcast};
@@ -68,5 +68,6 @@ pub fn parts_stand()
 /// no other use, that it is a fold.
 pub fn nested_operations_join()
     ensures nested_operand { FoldLaw (fold_by fold_nested_operand) }
+    ensures extract_extract { FoldLaw (fold_by fold_extract_extract) }
     ensures nested_concat { FoldLaw (fold_by fold_nested_concat) }
 {}
