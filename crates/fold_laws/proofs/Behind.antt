@@ -1,6 +1,6 @@
 -- An operand of the operation that made an operand, in the place of an only result: what must be shown of it, and that it makes a
 -- fold.
-use Rattle.std.proofs.Common.{◌≡◌, ℕ, zero, suc, ◌<◌, true, false, List, length, map, Option, Some, None, slice_get, sym, ap, subst, ◌∙◌, arith}
+use Rattle.std.proofs.Common.{◌≡◌, ℕ, zero, suc, ◌<◌, true, false, List, [], ◌∷◌, length, map, Option, Some, None, slice_get, sym, ap, subst, ◌∙◌, inl, arith}
 use Rattle.wiring.specs.Options.{bind, omap}
 use Rattle.wiring.specs.Wiring.{In}
 use Rattle.wiring.proofs.Options.{bind_some, omap_some}
@@ -25,10 +25,13 @@ use Rattle.accepted_edits.specs.Keeps.{IsFit}
 use Rattle.accepted_edits.proofs.TakenOut.{fit_erased}
 use Rattle.pass_manager.proofs.Shapes.{shape_erase}
 use Rattle.pass_manager.proofs.Steady.{steady_with_body}
+use Rattle.fold_laws.specs.Edits.{Edit, edited_by, fold_by}
+use Rattle.fold_laws.specs.Edits.Edit.{erased}
 use Rattle.fold_laws.specs.Fold.{IsFold, FoldLaw}
 use Rattle.fold_laws.specs.Standing.{Stand, by_stand}
 use Rattle.fold_laws.proofs.MadeKinds.{is_made, made_plain, made_no_constant, made_no_number}
 use Rattle.fold_laws.proofs.Measures.{measure_taken_out}
+use Rattle.fold_laws.proofs.Rows.{RowLaw, row_is_fold}
 use Rattle.fold_laws.proofs.Stands.{Known, Held, op_found, op_plain, op_typed, op_has_one, op_known, op_held}
 
 -- ---- what must be shown
@@ -118,16 +121,16 @@ module _ (d : Design) (fit : IsFit d) (k : ℕ) (md : Module) (at : slice_get d 
       steady = steady_with_body d k md (erase_op i x md.body) at (erase_op_preserves d k md i o t x fit.valid at change)
           (fit_erased d k md i o t x fit at change fits) (shape_erase md.body i o x there (op_plain d fit k md at i o there made));
       lighter = out_is_lighter d k md i o x at there;
-      smaller = measure_taken_out md.body i o x there;
+      smaller = inl (measure_taken_out md.body i o x there);
     }
 
 -- ---- the law
 
-pub behind_is_fold : (stand : Stand) → IsBehind stand → FoldLaw (by_stand stand)
-behind_is_fold stand shown d k md i os fit at is =
-    let found = bind_some (slice_get md.body i) (λ (o : Op). omap (λ (x : Ref). erase_op i x md.body) (stand md.body o.kind o.types o.operands)) is in
-    let taken = omap_some (λ (x : Ref). erase_op i x md.body) (stand md.body found.0.kind found.0.types found.0.operands) found.2 in
-    subst (IsFold d k md) taken.2 (of_op found.0 found.1 taken.0 taken.1)
+behind_row : (stand : Stand) → IsBehind stand → RowLaw (by_stand stand)
+behind_row stand shown d k md i es fit at is =
+    let found = bind_some (slice_get md.body i) (λ (o : Op). omap (λ (x : Ref). erased i x ∷ []) (stand md.body o.kind o.types o.operands)) is in
+    let taken = omap_some (λ (x : Ref). erased i x ∷ []) (stand md.body found.0.kind found.0.types found.0.operands) found.2 in
+    subst (λ (qs : List Edit). IsFold d k md (edited_by qs md.body)) taken.2 (of_op found.0 found.1 taken.0 taken.1)
   where
     of_op : (o : Op) → slice_get md.body i ≡ Some o → (x : Ref) → stand md.body o.kind o.types o.operands ≡ Some x → IsFold d k md (erase_op i x md.body)
     of_op o there x chosen =
@@ -141,3 +144,6 @@ behind_is_fold stand shown d k md i os fit at is =
         (shown.stands md.body o.kind o.types o.operands x (type_in md.ports md.body) (type_or_none (type_of_result o.kind o.types (length o.operands)))
         (type_or_none (type_of_result maker.op.kind maker.op.types (length maker.op.operands))) chosen
         (op_known d fit k md at i o there made) maker_typed (op_known d fit k md at maker.position maker.op maker.there maker.made))
+
+pub behind_is_fold : (stand : Stand) → IsBehind stand → FoldLaw (fold_by (by_stand stand))
+behind_is_fold stand shown = row_is_fold (by_stand stand) (behind_row stand shown)

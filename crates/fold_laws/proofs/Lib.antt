@@ -1,5 +1,7 @@
 -- Lemmas.
 pub mod Measures
+pub mod Descent
+pub mod Rows
 pub mod MadeKinds
 pub mod Constants
 pub mod Stands

@@ -1,5 +1,5 @@
 -- A number that an operation always gives: what must be shown of it, and that the constant in its place makes a fold.
-use Rattle.std.proofs.Common.{◌≡◌, ℕ, zero, suc, ◌^◌, ◌<◌, ◌≤◌, true, false, List, length, map, set, Option, Some, None, slice_get, refl, sym, ap, subst, ◌∙◌, arith}
+use Rattle.std.proofs.Common.{◌≡◌, ℕ, zero, suc, ◌^◌, ◌<◌, ◌≤◌, true, false, List, [], ◌∷◌, length, map, set, Option, Some, None, slice_get, refl, sym, ap, subst, ◌∙◌, inl, arith}
 use Rattle.wiring.specs.Options.{bind}
 use Rattle.wiring.proofs.Options.{bind_some, omap_some}
 use Rattle.bits_core.specs.Word.{Word, bits}
@@ -24,11 +24,14 @@ use Rattle.accepted_edits.specs.Keeps.{IsFitting, IsFit}
 use Rattle.accepted_edits.proofs.ChangedInPlace.{fit_in_place}
 use Rattle.pass_manager.proofs.Shapes.{shape_set}
 use Rattle.pass_manager.proofs.Steady.{steady_with_body}
+use Rattle.fold_laws.specs.Edits.{Edit, edited_by, fold_by}
+use Rattle.fold_laws.specs.Edits.Edit.{replaced}
 use Rattle.fold_laws.specs.Fold.{kind_measure, IsFold, FoldLaw}
 use Rattle.fold_laws.specs.Numbers.{Numbering, number_op, with_number, by_number}
 use Rattle.fold_laws.proofs.MadeKinds.{is_made, made_no_number}
 use Rattle.fold_laws.proofs.Measures.{measure_changed}
 use Rattle.fold_laws.proofs.NumberOps.{number_fits}
+use Rattle.fold_laws.proofs.Rows.{RowLaw, row_is_fold}
 use Rattle.fold_laws.proofs.Stands.{Known, Held, op_plain, op_typed, op_has_one, op_known, op_held}
 
 -- ---- what must be shown
@@ -95,21 +98,24 @@ module _ (d : Design) (fit : IsFit d) (k : ℕ) (md : Module) (at : slice_get d 
         (fit_in_place d k md i o (number_op n t o.place) fit at change fits)
         (shape_set md.body i o (number_op n t o.place) there (op_plain d fit k md at i o there made) refl);
     lighter = place_is_lighter d k md i o (number_op n t o.place) at there (λ inner. makes.weighs inner);
-    smaller = measure_changed md.body i o (number_op n t o.place) there (more_than_constant o.kind (length o.operands) made);
+    smaller = inl (measure_changed md.body i o (number_op n t o.place) there (more_than_constant o.kind (length o.operands) made));
   }
 
 -- ---- the law
 
-pub number_is_fold : (numbering : Numbering) → IsNumbering numbering → FoldLaw (by_number numbering)
-number_is_fold numbering shown d k md i os fit at is =
+number_row : (numbering : Numbering) → IsNumbering numbering → RowLaw (by_number numbering)
+number_row numbering shown d k md i es fit at is =
     let found = bind_some (slice_get md.body i) (λ (o : Op). bind (result_type o 0) (with_number numbering md.body i o)) is in
     let typed = bind_some (result_type found.0 0) (with_number numbering md.body i found.0) found.2 in
-    let given = omap_some (λ (n : ℕ). set md.body i (number_op n typed.0 found.0.place)) (numbering md.body found.0.kind found.0.types typed.0 found.0.operands) typed.2 in
+    let given = omap_some (λ (n : ℕ). replaced i (number_op n typed.0 found.0.place) ∷ []) (numbering md.body found.0.kind found.0.types typed.0 found.0.operands) typed.2 in
     let made = shown.made md.body found.0.kind found.0.types typed.0 found.0.operands given.0 given.1 in
     let settled : Some (type_or_none (type_of_result found.0.kind found.0.types (length found.0.operands))) ≡ Some typed.0 =
     sym (op_typed d fit k md at i found.0 found.1 made) ∙ typed.1 in
     let same : type_or_none (type_of_result found.0.kind found.0.types (length found.0.operands)) ≡ typed.0 = cc in
-    subst (IsFold d k md) given.2
+    subst (λ (qs : List Edit). IsFold d k md (edited_by qs md.body)) given.2
     (number_put d fit k md at i found.0 found.1 made typed.0 typed.1 given.0
     (shown.makes md.body found.0.kind found.0.types found.0.operands given.0 (type_in md.ports md.body) typed.0 given.1
     (subst (Known md.body found.0.kind found.0.types found.0.operands (type_in md.ports md.body)) same (op_known d fit k md at i found.0 found.1 made))))
+
+pub number_is_fold : (numbering : Numbering) → IsNumbering numbering → FoldLaw (fold_by (by_number numbering))
+number_is_fold numbering shown = row_is_fold (by_number numbering) (number_row numbering shown)

@@ -15,9 +15,10 @@ use Rattle.hw_model.specs.Kinds.Kind.{variadic, sub, division, shift, icmp, extr
 use Rattle.hw_model.specs.Design.{Ref, Op, nowhere_place}
 use Rattle.hw_model.specs.Design.Ref.{port, result}
 use Rattle.hw_model.proofs.Samples.{operation, module_of}
+use Rattle.fold_laws.specs.Edits.{Row, fold_by}
 use Rattle.fold_laws.specs.Evaluated.{fold_evaluated}
 use Rattle.fold_laws.specs.Fewer.{fold_add_zero, fold_or_zero, fold_xor_zero, fold_and_ones, fold_mul_one, fold_repeated, fold_xor_pair}
-use Rattle.fold_laws.specs.Fold.{Fold, measure}
+use Rattle.fold_laws.specs.Fold.{measure}
 use Rattle.fold_laws.specs.Numbers.{number_op, fold_sub_self, fold_xor_self, fold_shift_out, fold_mod_one, fold_icmp_self}
 use Rattle.fold_laws.specs.Parts.{fold_struct_part, fold_extract_part, fold_array_part}
 use Rattle.fold_laws.specs.Standing.{fold_single_operand, fold_and_zero, fold_or_ones, fold_mul_zero, fold_sub_zero, fold_shift_zero, fold_div_one, fold_mux_constant, fold_mux_same, fold_mux_bool, fold_full_extract, fold_trivial_concat, fold_trivial_replicate, fold_trivial_bitcast}
@@ -25,40 +26,40 @@ use Rattle.fold_laws.specs.Unused.{fold_unused}
 
 -- ---- bodies of two constants, an operation at position 2 and an output
 
-abbrev bytes : List HwType
+abbrev pub bytes : List HwType
 bytes = int 8 ∷ []
 
-abbrev byte_of : ℕ → Op
+abbrev pub byte_of : ℕ → Op
 byte_of n = operation (constant (pos n)) [] bytes bytes
 
-abbrev bit_of : ℕ → Op
+abbrev pub bit_of : ℕ → Op
 bit_of n = operation (constant (pos n)) [] (int 1 ∷ []) (int 1 ∷ [])
 
-abbrev output_of : Ref → Op
+abbrev pub output_of : Ref → Op
 output_of r = operation output (r ∷ []) bytes []
 
-abbrev body_with : Op → Op → Op → Ref → List Op
+abbrev pub body_with : Op → Op → Op → Ref → List Op
 body_with c e o r = c ∷ e ∷ o ∷ output_of r ∷ []
 
 -- what a row makes of the operation at position 2
-abbrev row_of : Fold → Op → Op → Op → Option (List Op)
-row_of row c e o = row (module_of (codes "M") [] (body_with c e o (result 2 0))) 2
+abbrev pub row_of : Row → Op → Op → Op → Option (List Op)
+row_of row c e o = fold_by row (module_of (codes "M") [] (body_with c e o (result 2 0))) 2
 
 -- what is left where a value stands for its result
 abbrev left_of : Op → Op → Ref → Option (List Op)
 left_of c e r = Some (c ∷ e ∷ output_of r ∷ [])
 
-abbrev a : Ref
+abbrev pub a : Ref
 a = port 0
 
-abbrev b : Ref
+abbrev pub b : Ref
 b = port 1
 
 -- the results of the two constants
-abbrev k : Ref
+abbrev pub k : Ref
 k = result 0 0
 
-abbrev m : Ref
+abbrev pub m : Ref
 m = result 1 0
 
 -- ---- the measure: 1 for each constant, 8 for two operands, 5 for the output
@@ -68,14 +69,14 @@ measure_of_body = refl
 
 -- ---- an operation without uses
 
-unused_gone : fold_unused (module_of (codes "M") [] (body_with (byte_of 0) (byte_of 1) (operation sub (a ∷ k ∷ []) bytes bytes) b)) 2
+unused_gone : fold_by fold_unused (module_of (codes "M") [] (body_with (byte_of 0) (byte_of 1) (operation sub (a ∷ k ∷ []) bytes bytes) b)) 2
     ≡ Some (byte_of 0 ∷ byte_of 1 ∷ output_of b ∷ [])
 unused_gone = refl
 
 used_stays : row_of fold_unused (byte_of 0) (byte_of 1) (operation sub (a ∷ k ∷ []) bytes bytes) ≡ None
 used_stays = refl
 
-unused_wire_stays : fold_unused (module_of (codes "M") [] (body_with (byte_of 0) (byte_of 1) (operation wire (a ∷ []) bytes bytes) b)) 2 ≡ None
+unused_wire_stays : fold_by fold_unused (module_of (codes "M") [] (body_with (byte_of 0) (byte_of 1) (operation wire (a ∷ []) bytes bytes) b)) 2 ≡ None
 unused_wire_stays = refl
 
 -- ---- one operand, and operands that decide
@@ -241,7 +242,7 @@ other_operand = refl
 -- ---- operands that go
 
 -- what is left where the operation has other operands
-abbrev operands_left : Op → Op → Kind → List Ref → Option (List Op)
+abbrev pub operands_left : Op → Op → Kind → List Ref → Option (List Op)
 operands_left c e kind rs = Some (c ∷ e ∷ operation kind rs bytes bytes ∷ output_of (result 2 0) ∷ [])
 
 add_zero : row_of fold_add_zero (byte_of 0) (byte_of 1) (operation (variadic add) (a ∷ k ∷ b ∷ k ∷ []) bytes bytes)

@@ -1,5 +1,5 @@
 -- A value that stands for the only result of an operation: what must be shown of it, and that it makes a fold.
-use Rattle.std.proofs.Common.{◌≡◌, ℕ, suc, ◌<◌, true, false, List, [], ◌∷◌, length, map, Option, Some, None, slice_get, refl, sym, ap, subst, ◌∙◌, arith}
+use Rattle.std.proofs.Common.{◌≡◌, ℕ, suc, ◌<◌, true, false, List, [], ◌∷◌, length, map, Option, Some, None, slice_get, refl, sym, ap, subst, ◌∙◌, inl, arith}
 use Rattle.std.specs.Prelude.{is_some}
 use Rattle.std.specs.List.{list_any}
 use Rattle.wiring.specs.Options.{omap}
@@ -37,11 +37,14 @@ use Rattle.accepted_edits.proofs.TakenOut.{fit_erased}
 use Rattle.pass_manager.proofs.Shapes.{shape_erase}
 use Rattle.pass_manager.proofs.Steady.{steady_with_body}
 use Rattle.fold_laws.specs.Constants.{constant_at}
+use Rattle.fold_laws.specs.Edits.{Edit, edited_by, fold_by}
+use Rattle.fold_laws.specs.Edits.Edit.{erased}
 use Rattle.fold_laws.specs.Fold.{IsFold, FoldLaw}
 use Rattle.fold_laws.specs.Standing.{Stand, by_stand}
 use Rattle.fold_laws.proofs.Constants.{constant_typed, constant_held}
 use Rattle.fold_laws.proofs.MadeKinds.{is_made, made_plain, made_no_constant, made_no_number, made_one_result}
 use Rattle.fold_laws.proofs.Measures.{measure_taken_out}
+use Rattle.fold_laws.proofs.Rows.{RowLaw, row_is_fold}
 
 -- ---- what is known
 
@@ -154,18 +157,21 @@ module _ (d : Design) (fit : IsFit d) (k : ℕ) (md : Module) (at : slice_get d 
       steady = steady_with_body d k md (erase_op i x md.body) at (erase_op_preserves d k md i o result_of x fit.valid at change)
           (fit_erased d k md i o result_of x fit at change fits) (shape_erase md.body i o x there op_plain);
       lighter = out_is_lighter d k md i o x at there;
-      smaller = measure_taken_out md.body i o x there;
+      smaller = inl (measure_taken_out md.body i o x there);
     }
 
 -- ---- the law
 
-pub stand_is_fold : (stand : Stand) → IsStand stand → FoldLaw (by_stand stand)
-stand_is_fold stand shown d k md i os fit at is =
-    let found = bind_some (slice_get md.body i) (λ (o : Op). omap (λ (x : Ref). erase_op i x md.body) (stand md.body o.kind o.types o.operands)) is in
-    let taken = omap_some (λ (x : Ref). erase_op i x md.body) (stand md.body found.0.kind found.0.types found.0.operands) found.2 in
+stand_row : (stand : Stand) → IsStand stand → RowLaw (by_stand stand)
+stand_row stand shown d k md i es fit at is =
+    let found = bind_some (slice_get md.body i) (λ (o : Op). omap (λ (x : Ref). erased i x ∷ []) (stand md.body o.kind o.types o.operands)) is in
+    let taken = omap_some (λ (x : Ref). erased i x ∷ []) (stand md.body found.0.kind found.0.types found.0.operands) found.2 in
     let made = shown.made md.body found.0.kind found.0.types found.0.operands taken.0 taken.1 in
-    subst (IsFold d k md) taken.2
+    subst (λ (qs : List Edit). IsFold d k md (edited_by qs md.body)) taken.2
     (operand_taken d fit k md at i found.0 found.1 made taken.0
     (shown.stands md.body found.0.kind found.0.types found.0.operands taken.0 (type_in md.ports md.body)
     (type_or_none (type_of_result found.0.kind found.0.types (length found.0.operands))) taken.1
     (op_known d fit k md at i found.0 found.1 made)))
+
+pub stand_is_fold : (stand : Stand) → IsStand stand → FoldLaw (fold_by (by_stand stand))
+stand_is_fold stand shown = row_is_fold (by_stand stand) (stand_row stand shown)

@@ -17,10 +17,13 @@ use Rattle.accepted_edits.proofs.Accepted.{fit_found}
 use Rattle.accepted_edits.proofs.TakenOut.{fit_without_dead}
 use Rattle.pass_manager.proofs.Shapes.{shape_erase}
 use Rattle.pass_manager.proofs.Steady.{steady_with_body}
+use Rattle.fold_laws.specs.Edits.{Edit, edited_by, fold_by}
+use Rattle.fold_laws.specs.Edits.Edit.{erased}
 use Rattle.fold_laws.specs.Fold.{IsFold, FoldLaw}
 use Rattle.fold_laws.specs.Unused.{is_pure, is_result_of, is_used, fold_unused}
 use Rattle.fold_laws.proofs.MadeKinds.{anchors_kind}
 use Rattle.fold_laws.proofs.Measures.{measure_taken_out}
+use Rattle.fold_laws.proofs.Rows.{RowLaw, row_is_fold}
 
 pure_plain : (kind : Kind) → is_pure kind ≡ true → anchors_kind kind ≡ false
 pure_plain (instance i) is = cc
@@ -61,22 +64,25 @@ module _ (d : Design) (fit : IsFit d) (k : ℕ) (md : Module) (at : slice_get d 
     steady = steady_with_body d k md (erase_op i undefined md.body) at (erase_dead_op_preserves d k md i o fit.valid at unused)
         (fit_without_dead d k md i o fit at unused) (shape_erase md.body i o undefined there (pure_plain o.kind pure));
     lighter = out_is_lighter d k md i o undefined at there;
-    smaller = measure_taken_out md.body i o undefined there;
+    smaller = inl (measure_taken_out md.body i o undefined there);
   }
 
-pub unused_is_fold : FoldLaw fold_unused
-unused_is_fold d k md i os fit at is =
-    let found = bind_some (slice_get md.body i) (λ (o : Op). cond (is_pure o.kind && not (is_used i md.body)) (Some (erase_op i undefined md.body)) None) is in
+unused_row : RowLaw fold_unused
+unused_row d k md i es fit at is =
+    let found = bind_some (slice_get md.body i) (λ (o : Op). cond (is_pure o.kind && not (is_used i md.body)) (Some (erased i undefined ∷ [])) None) is in
     go found.0 found.1 (is_pure found.0.kind && not (is_used i md.body)) refl found.2
   where
     go : (o : Op) → slice_get md.body i ≡ Some o → (b : Bool) → (is_pure o.kind && not (is_used i md.body)) ≡ b
-        → cond b (Some (erase_op i undefined md.body)) None ≡ Some os → IsFold d k md os
+        → cond b (Some (erased i undefined ∷ [])) None ≡ Some es → IsFold d k md (edited_by es md.body)
     go o there true both made =
         let parts = both_of (is_pure o.kind) (not (is_used i md.body)) both in
-        let same : erase_op i undefined md.body ≡ os = cc in
-        subst (IsFold d k md) same (unused_taken d fit k md at i o there parts.0 (unnamed (is_used i md.body) parts.1))
+        let same : erased i undefined ∷ [] ≡ es = cc in
+        subst (λ (qs : List Edit). IsFold d k md (edited_by qs md.body)) same (unused_taken d fit k md at i o there parts.0 (unnamed (is_used i md.body) parts.1))
       where
         unnamed : (b : Bool) → not b ≡ true → b ≡ false
         unnamed false h = refl
         unnamed true h = cc
     go o there false both made = cc
+
+pub unused_is_fold : FoldLaw (fold_by fold_unused)
+unused_is_fold = row_is_fold fold_unused unused_row

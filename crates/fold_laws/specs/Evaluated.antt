@@ -8,7 +8,7 @@ use Rattle.hw_model.specs.Kinds.Kind.{variadic, sub, division, shift, icmp, pari
 use Rattle.hw_model.specs.Design.{Ref, Op}
 use Rattle.hw_model.specs.Value.{op_value}
 use Rattle.fold_laws.specs.Constants.{constant_at}
-use Rattle.fold_laws.specs.Fold.{Fold}
+use Rattle.fold_laws.specs.Edits.{Row}
 use Rattle.fold_laws.specs.Numbers.{Numbering, by_number}
 
 -- whether a kind is of the comb dialect
@@ -35,5 +35,5 @@ abbrev pub value_of_constants : Numbering
 value_of_constants os kind ts t rs = cond (is_comb kind) (omap (λ (ws : List Word). number (op_value kind ts t 0 ws)) (constants_at os rs)) None
 
 -- an operation on integers whose operands all are constants becomes the constant of its value
-abbrev pub fold_evaluated : Fold
+abbrev pub fold_evaluated : Row
 fold_evaluated = by_number value_of_constants

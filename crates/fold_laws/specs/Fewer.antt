@@ -1,6 +1,6 @@
 -- Folds by which an operation of any number of operands loses operands that decide nothing (CIRCT, Comb dialect: folds of
 -- its operations).
-use Rattle.std.specs.Prelude.{ℕ, Bool, cond, List, [], ◌∷◌, set, Option, Some, None, slice_get}
+use Rattle.std.specs.Prelude.{ℕ, Bool, cond, List, [], ◌∷◌, Option, Some, None, slice_get}
 use Rattle.wiring.specs.Options.{bind, omap}
 use Rattle.hw_model.specs.Kinds.{Kind, Variadic}
 use Rattle.hw_model.specs.Kinds.Variadic.{add, mul, and, or, xor}
@@ -8,7 +8,8 @@ use Rattle.hw_model.specs.Kinds.Kind.{variadic}
 use Rattle.hw_model.specs.Design.{Ref, Op}
 use Rattle.ir_store.specs.Positions.{same_ref}
 use Rattle.fold_laws.specs.Constants.{is_constant_where, is_zero, is_one, is_ones}
-use Rattle.fold_laws.specs.Fold.{Fold}
+use Rattle.fold_laws.specs.Edits.{Edit, Row}
+use Rattle.fold_laws.specs.Edits.Edit.{changed}
 
 -- ---- operations with other operands
 
@@ -17,13 +18,13 @@ abbrev pub Operands : Type 0
 Operands = List Op → Variadic → List Ref → Option (List Ref)
 
 -- o at position i with the operands of the change
-abbrev pub with_fewer : Operands → List Op → ℕ → Op → Kind → Option (List Op)
-with_fewer change os i o (variadic v) = omap (λ (rs : List Ref). set os i (record o { operands = rs })) (change os v o.operands)
+abbrev pub with_fewer : Operands → List Op → ℕ → Op → Kind → Option (List Edit)
+with_fewer change os i o (variadic v) = omap (λ (rs : List Ref). changed i (record o { operands = rs }) ∷ []) (change os v o.operands)
 with_fewer change os i o _ = None
 
--- the fold by which an operation of any number of operands has those of the change
-abbrev pub by_operands : Operands → Fold
-by_operands change md i = bind (slice_get md.body i) (λ (o : Op). with_fewer change md.body i o o.kind)
+-- the row by which an operation of any number of operands has those of the change
+abbrev pub by_operands : Operands → Row
+by_operands change os i = bind (slice_get os i) (λ (o : Op). with_fewer change os i o o.kind)
 
 -- ---- lists
 
@@ -99,29 +100,29 @@ xor_pair os _ rs = None
 -- ---- the rows
 
 -- add of two operands or more drops its first operand 0
-abbrev pub fold_add_zero : Fold
+abbrev pub fold_add_zero : Row
 fold_add_zero = by_operands add_zero
 
 -- or of two operands or more drops its first operand 0
-abbrev pub fold_or_zero : Fold
+abbrev pub fold_or_zero : Row
 fold_or_zero = by_operands or_zero
 
 -- xor of two operands or more drops its first operand 0
-abbrev pub fold_xor_zero : Fold
+abbrev pub fold_xor_zero : Row
 fold_xor_zero = by_operands xor_zero
 
 -- and of two operands or more drops its first operand of ones
-abbrev pub fold_and_ones : Fold
+abbrev pub fold_and_ones : Row
 fold_and_ones = by_operands and_ones
 
 -- mul of two operands or more drops its first operand 1
-abbrev pub fold_mul_one : Fold
+abbrev pub fold_mul_one : Row
 fold_mul_one = by_operands mul_one
 
 -- and, or drops an operand that stands earlier too
-abbrev pub fold_repeated : Fold
+abbrev pub fold_repeated : Row
 fold_repeated = by_operands repeated_operand
 
 -- xor of three operands or more drops two equal ones
-abbrev pub fold_xor_pair : Fold
+abbrev pub fold_xor_pair : Row
 fold_xor_pair = by_operands xor_pair

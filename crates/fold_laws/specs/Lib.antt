@@ -1,6 +1,6 @@
+pub mod Constants
 pub mod Fold
 pub mod Edits
-pub mod Constants
 pub mod Standing
 pub mod Unused
 pub mod Numbers

@@ -1,5 +1,5 @@
 -- Folds by which an operation becomes a constant (CIRCT, Comb dialect: folds of its operations).
-use Rattle.std.specs.Prelude.{ℕ, pos, Bool, true, false, cond, List, [], ◌∷◌, set, Option, Some, None, slice_get}
+use Rattle.std.specs.Prelude.{ℕ, pos, Bool, true, false, cond, List, [], ◌∷◌, Option, Some, None, slice_get}
 use Rattle.wiring.specs.Options.{bind, omap}
 use Rattle.bits_core.specs.Word.{bit}
 use Rattle.hw_model.specs.Types.{HwType}
@@ -12,7 +12,8 @@ use Rattle.hw_model.specs.Kinds.Kind.{variadic, sub, division, shift, icmp, cons
 use Rattle.hw_model.specs.Design.{Place, Ref, Op, result_type}
 use Rattle.ir_store.specs.Positions.{same_ref}
 use Rattle.fold_laws.specs.Constants.{is_constant_where, is_one, shifts_out}
-use Rattle.fold_laws.specs.Fold.{Fold}
+use Rattle.fold_laws.specs.Edits.{Edit, Row}
+use Rattle.fold_laws.specs.Edits.Edit.{replaced}
 
 -- ---- constants that stand in the place of operations
 
@@ -36,12 +37,12 @@ abbrev pub Numbering : Type 0
 Numbering = List Op → Kind → List HwType → HwType → List Ref → Option ℕ
 
 -- the operation o with a result of type t becomes the constant
-abbrev pub with_number : Numbering → List Op → ℕ → Op → HwType → Option (List Op)
-with_number numbering os i o t = omap (λ (n : ℕ). set os i (number_op n t o.place)) (numbering os o.kind o.types t o.operands)
+abbrev pub with_number : Numbering → List Op → ℕ → Op → HwType → Option (List Edit)
+with_number numbering os i o t = omap (λ (n : ℕ). replaced i (number_op n t o.place) ∷ []) (numbering os o.kind o.types t o.operands)
 
--- the fold by which it does
-abbrev pub by_number : Numbering → Fold
-by_number numbering md i = bind (slice_get md.body i) (λ (o : Op). bind (result_type o 0) (with_number numbering md.body i o))
+-- the row by which it does
+abbrev pub by_number : Numbering → Row
+by_number numbering os i = bind (slice_get os i) (λ (o : Op). bind (result_type o 0) (with_number numbering os i o))
 
 -- ---- operands
 
@@ -99,21 +100,21 @@ icmp_self os _ ts t rs = None
 -- ---- the rows
 
 -- sub x, x becomes 0
-abbrev pub fold_sub_self : Fold
+abbrev pub fold_sub_self : Row
 fold_sub_self = by_number sub_self
 
 -- xor x, x becomes 0
-abbrev pub fold_xor_self : Fold
+abbrev pub fold_xor_self : Row
 fold_xor_self = by_number xor_self
 
 -- shl, shru by a constant of the width or more becomes 0
-abbrev pub fold_shift_out : Fold
+abbrev pub fold_shift_out : Row
 fold_shift_out = by_number shift_out
 
 -- modu, mods by 1 becomes 0
-abbrev pub fold_mod_one : Fold
+abbrev pub fold_mod_one : Row
 fold_mod_one = by_number rest_by_one
 
 -- icmp x, x becomes true for eq, ceq, weq, sle, sge, ule, uge, false for other predicates
-abbrev pub fold_icmp_self : Fold
+abbrev pub fold_icmp_self : Row
 fold_icmp_self = by_number icmp_self

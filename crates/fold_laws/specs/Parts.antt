@@ -13,7 +13,7 @@ use Rattle.hw_model.specs.Design.{Ref, Op, same_name}
 use Rattle.hw_model.specs.Design.Ref.{result}
 use Rattle.hw_model.specs.Value.{fields, nth_type}
 use Rattle.fold_laws.specs.Constants.{constant_at}
-use Rattle.fold_laws.specs.Fold.{Fold}
+use Rattle.fold_laws.specs.Edits.{Row}
 use Rattle.fold_laws.specs.Standing.{Stand, by_stand}
 
 -- the operation of which a value is the first result
@@ -43,7 +43,7 @@ struct_part os (on_struct (struct_extract name)) ts rs = field_of_made os (field
 struct_part os _ ts rs = None
 
 -- struct_extract of struct_create becomes the operand
-abbrev pub fold_struct_part : Fold
+abbrev pub fold_struct_part : Row
 fold_struct_part = by_stand struct_part
 
 -- ---- bits of what was joined
@@ -70,7 +70,7 @@ extract_part os (extract low) ts rs = covered_of_made os low (width (nth_type ts
 extract_part os _ ts rs = None
 
 -- an extract that covers exactly one operand of a concat becomes that operand
-abbrev pub fold_extract_part : Fold
+abbrev pub fold_extract_part : Row
 fold_extract_part = by_stand extract_part
 
 -- ---- elements of an array that was made of elements
@@ -96,5 +96,5 @@ array_part os (on_array array_get) ts rs = element_of_made os rs
 array_part os _ ts rs = None
 
 -- array_get of array_create at a constant within the array becomes the operand
-abbrev pub fold_array_part : Fold
+abbrev pub fold_array_part : Row
 fold_array_part = by_stand array_part

@@ -11,9 +11,9 @@ use Rattle.hw_model.specs.Kinds.Kind.{variadic, sub, division, shift, extract, c
 use Rattle.hw_model.specs.Design.{Ref, Op}
 use Rattle.hw_model.specs.Value.{is_high}
 use Rattle.ir_store.specs.Positions.{same_ref}
-use Rattle.hw_edits.specs.Laws.{erase_op}
 use Rattle.fold_laws.specs.Constants.{constant_at, is_constant_where, is_zero, is_one, is_ones, is_true, is_false}
-use Rattle.fold_laws.specs.Fold.{Fold}
+use Rattle.fold_laws.specs.Edits.{Edit, Row}
+use Rattle.fold_laws.specs.Edits.Edit.{erased}
 
 -- ---- values that stand for results
 
@@ -22,9 +22,9 @@ use Rattle.fold_laws.specs.Fold.{Fold}
 abbrev pub Stand : Type 0
 Stand = List Op → Kind → List HwType → List Ref → Option Ref
 
--- the fold by which the value stands for the result, and the operation goes
-abbrev pub by_stand : Stand → Fold
-by_stand stand md i = bind (slice_get md.body i) (λ (o : Op). omap (λ (x : Ref). erase_op i x md.body) (stand md.body o.kind o.types o.operands))
+-- the row by which the value stands for the result, and the operation goes
+abbrev pub by_stand : Stand → Row
+by_stand stand os i = bind (slice_get os i) (λ (o : Op). omap (λ (x : Ref). erased i x ∷ []) (stand os o.kind o.types o.operands))
 
 -- ---- operands
 
@@ -138,57 +138,57 @@ trivial_bitcast os _ ts rs = None
 -- ---- the rows
 
 -- add, mul, and, or, xor of one operand becomes that operand
-abbrev pub fold_single_operand : Fold
+abbrev pub fold_single_operand : Row
 fold_single_operand = by_stand single_operand
 
 -- and with an operand 0 becomes that operand
-abbrev pub fold_and_zero : Fold
+abbrev pub fold_and_zero : Row
 fold_and_zero = by_stand absorbing_and
 
 -- or with an operand of ones becomes that operand
-abbrev pub fold_or_ones : Fold
+abbrev pub fold_or_ones : Row
 fold_or_ones = by_stand absorbing_or
 
 -- mul with an operand 0 becomes that operand
-abbrev pub fold_mul_zero : Fold
+abbrev pub fold_mul_zero : Row
 fold_mul_zero = by_stand absorbing_mul
 
 -- sub x, 0 becomes x
-abbrev pub fold_sub_zero : Fold
+abbrev pub fold_sub_zero : Row
 fold_sub_zero = by_stand sub_zero
 
 -- shl, shru, shrs of x by 0 becomes x
-abbrev pub fold_shift_zero : Fold
+abbrev pub fold_shift_zero : Row
 fold_shift_zero = by_stand shift_zero
 
 -- divu, divs of x by 1 becomes x
-abbrev pub fold_div_one : Fold
+abbrev pub fold_div_one : Row
 fold_div_one = by_stand div_one
 
 -- mux with a constant condition becomes the chosen operand
-abbrev pub fold_mux_constant : Fold
+abbrev pub fold_mux_constant : Row
 fold_mux_constant = by_stand mux_constant
 
 -- mux c, x, x becomes x
-abbrev pub fold_mux_same : Fold
+abbrev pub fold_mux_same : Row
 fold_mux_same = by_stand mux_same
 
 -- mux c, true, false becomes c
-abbrev pub fold_mux_bool : Fold
+abbrev pub fold_mux_bool : Row
 fold_mux_bool = by_stand mux_bool
 
 -- an extract of the whole width of x becomes x
-abbrev pub fold_full_extract : Fold
+abbrev pub fold_full_extract : Row
 fold_full_extract = by_stand full_extract
 
 -- concat of one operand becomes that operand
-abbrev pub fold_trivial_concat : Fold
+abbrev pub fold_trivial_concat : Row
 fold_trivial_concat = by_stand trivial_concat
 
 -- replicate of x to its own width becomes x
-abbrev pub fold_trivial_replicate : Fold
+abbrev pub fold_trivial_replicate : Row
 fold_trivial_replicate = by_stand trivial_replicate
 
 -- bitcast of x to its own type becomes x
-abbrev pub fold_trivial_bitcast : Fold
+abbrev pub fold_trivial_bitcast : Row
 fold_trivial_bitcast = by_stand trivial_bitcast

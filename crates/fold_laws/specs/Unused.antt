@@ -6,8 +6,8 @@ use Rattle.hw_model.specs.Kinds.{Kind}
 use Rattle.hw_model.specs.Kinds.Kind.{wire, instance, output, register, async_firreg}
 use Rattle.hw_model.specs.Design.{Ref, Op}
 use Rattle.hw_model.specs.Design.Ref.{port, result, undefined}
-use Rattle.hw_edits.specs.Laws.{erase_op}
-use Rattle.fold_laws.specs.Fold.{Fold}
+use Rattle.fold_laws.specs.Edits.{Edit, Row}
+use Rattle.fold_laws.specs.Edits.Edit.{erased}
 
 -- whether an operation only computes its results: all but registers, wires, instances and outputs do
 abbrev pub is_pure : Kind → Bool
@@ -30,6 +30,5 @@ is_used i [] = false
 is_used i (o ∷ os) = list_any (is_result_of i) o.operands || is_used i os
 
 -- a pure operation without uses goes
-abbrev pub fold_unused : Fold
-fold_unused md i =
-    bind (slice_get md.body i) (λ (o : Op). cond (is_pure o.kind && not (is_used i md.body)) (Some (erase_op i undefined md.body)) None)
+abbrev pub fold_unused : Row
+fold_unused os i = bind (slice_get os i) (λ (o : Op). cond (is_pure o.kind && not (is_used i os)) (Some (erased i undefined ∷ [])) None)
