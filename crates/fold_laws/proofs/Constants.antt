@@ -1,6 +1,7 @@
 -- Values that are constants: their types, and that every map under which the body holds has their words.
-use Rattle.std.proofs.Common.{◌≡◌, ℕ, zero, suc, ◌+◌, ◌^◌, ℤ, Bool, true, false, List, length, map, Option, Some, None, slice_get, refl, sym, ap, ◌∙◌}
+use Rattle.std.proofs.Common.{◌≡◌, ℕ, zero, suc, ◌+◌, ◌^◌, ◌≤◌, ℤ, Bool, true, false, List, length, map, Option, Some, None, slice_get, refl, sym, ap, ◌∙◌, arith}
 use Rattle.wiring.specs.Options.{bind}
+use Rattle.wiring.specs.Wiring.{greatest}
 use Rattle.bits_core.specs.Word.{Word, number, bits, bits_of_ℤ, zeros, ones}
 use Rattle.bits_core.proofs.Complement.{length-bits_of_ℤ}
 use Rattle.bits_core.proofs.Extension.{zeros_from_number, ones_from_number}
@@ -15,6 +16,7 @@ use Rattle.hw_model.specs.Design.Ref.{port, result, undefined}
 use Rattle.hw_model.specs.Value.{op_value}
 use Rattle.hw_model.specs.Sound.{type_in}
 use Rattle.hw_edits.specs.Edit.{result_word, word_of, HoldsBut}
+use Rattle.hw_edits.specs.Falls.{LocalHeight}
 use Rattle.hw_edits.proofs.ChangeInPlace.{plain_word}
 use Rattle.fold_laws.specs.Constants.{constant_word, first_result_word, constant_at, meets, is_zero, is_one, is_ones}
 use Rattle.fold_laws.proofs.MadeKinds.{is_made, anchors_kind}
@@ -75,6 +77,21 @@ constant_held os τ i o there made holds (result j zero) w is = go (slice_get os
             let kind : o.kind ≡ constant here.number_of = sym (ap (λ (y : Op). y.kind) one) ∙ here.kind_is in
             let clash : true ≡ false = sym made ∙ ap is_made kind in
             cc
+
+-- a constant is no lower than 1
+pub constant_high : (os : List Op) (h : Ref → ℕ) → LocalHeight os h → (r : Ref) (w : Word) → constant_at os r ≡ Some w → 1 ≤ h r
+constant_high os h local (port j) w is = cc
+constant_high os h local undefined w is = cc
+constant_high os h local (result j (suc k)) w is = cc
+constant_high os h local (result j zero) w is = go (slice_get os j) refl is
+  where
+    go : (x : Option Op) → slice_get os j ≡ x → first_result_word x ≡ Some w → 1 ≤ h (result j 0)
+    go None at is = cc
+    go (Some c) at is =
+        let here = integer_of c.kind (result_type c 0) w is in
+        let high : h (result j 0) ≡ suc (greatest (map h c.operands)) =
+        local.made j 0 c (int here.bits_of) at (ap anchors_kind here.kind_is) here.type_is in
+        omega arith
 
 -- ---- tests
 

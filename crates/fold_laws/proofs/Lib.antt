@@ -14,6 +14,12 @@ pub mod Unused
 pub mod VariadicCauses
 pub mod FewerOperands
 pub mod FewerRows
+pub mod VariadicValues
+pub mod ConstantLast
+pub mod PutIn
+pub mod TwoConstants
+pub mod Table
+pub mod AllRows
 pub mod Pairs
 pub mod NumberOps
 pub mod Numbered
@@ -34,3 +40,4 @@ pub mod NewOps
 pub mod NestedExtracts
 pub mod NestedConcats
 pub mod NestedSamples
+pub mod ConstantSamples

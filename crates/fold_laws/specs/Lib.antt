@@ -8,3 +8,5 @@ pub mod Evaluated
 pub mod Fewer
 pub mod Parts
 pub mod Nested
+pub mod ConstantOperands
+pub mod Table

@@ -1,14 +1,15 @@
 //! The laws of folds, each a clause of a function that does nothing.
 
+ghost use Rattle.fold_laws.specs.ConstantOperands.{fold_two_constants, fold_constant_last};
 ghost use Rattle.fold_laws.specs.Edits.{fold_by};
 ghost use Rattle.fold_laws.specs.Evaluated.{fold_evaluated};
 ghost use Rattle.fold_laws.specs.Fewer.{fold_add_zero, fold_or_zero, fold_xor_zero, fold_and_ones, fold_mul_one, fold_repeated, fold_xor_pair};
-ghost use Rattle.fold_laws.specs.Edits.{fold_by};
 ghost use Rattle.fold_laws.specs.Fold.{FoldLaw};
 ghost use Rattle.fold_laws.specs.Nested.{fold_nested_operand, fold_extract_extract, fold_nested_concat};
 ghost use Rattle.fold_laws.specs.Numbers.{fold_sub_self, fold_xor_self, fold_shift_out, fold_mod_one, fold_icmp_self};
 ghost use Rattle.fold_laws.specs.Parts.{fold_struct_part, fold_extract_part, fold_array_part};
 ghost use Rattle.fold_laws.specs.Standing.{fold_single_operand, fold_and_zero, fold_or_ones, fold_mul_zero, fold_sub_zero, fold_shift_zero, fold_div_one, fold_mux_constant, fold_mux_same, fold_mux_bool, fold_full_extract, fold_trivial_concat, fold_trivial_replicate, fold_trivial_bitcast};
+ghost use Rattle.fold_laws.specs.Table.{first_row, rows, AllFold};
 ghost use Rattle.fold_laws.specs.Unused.{fold_unused};
 
 /// Does nothing. Its clause says that it is a fold where an operation without uses goes.
@@ -71,4 +72,17 @@ pub fn nested_operations_join()
     ensures nested_operand { FoldLaw (fold_by fold_nested_operand) }
     ensures extract_extract { FoldLaw (fold_by fold_extract_extract) }
     ensures nested_concat { FoldLaw (fold_by fold_nested_concat) }
+{}
+
+/// Does nothing. Its clauses say of each row that changes constants among the operands of an operation of any number of them
+/// that it is a fold.
+pub fn constants_join_and_go_last()
+    ensures two_constants { FoldLaw (fold_by fold_two_constants) }
+    ensures constant_last { FoldLaw (fold_by fold_constant_last) }
+{}
+
+/// Does nothing. Its clauses say of each row of the table that it is a fold, and of the first one that matches.
+pub fn each_row_folds()
+    ensures each { AllFold rows }
+    ensures first { FoldLaw (fold_by (first_row rows)) }
 {}
