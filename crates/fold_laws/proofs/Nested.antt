@@ -21,7 +21,7 @@ use Rattle.hw_edits.specs.Follows.{Wide}
 use Rattle.hw_edits.specs.Laws.{erase_op, with_body, without, InPlace}
 use Rattle.hw_edits.proofs.ChangeInPlace.{plain_word, replace_op_preserves}
 use Rattle.hw_edits.proofs.Uses.{operand_lower}
-use Rattle.hw_edits.proofs.Weights.{weight_with_body, weight_taken_out, weight_changed}
+use Rattle.hw_edits.proofs.Weights.{weight_with_body, weight_taken_out}
 use Rattle.accepted_edits.specs.Forms.{InPlaceFits}
 use Rattle.accepted_edits.specs.Keeps.{IsFit}
 use Rattle.accepted_edits.proofs.ChangedInPlace.{fit_in_place}
@@ -67,6 +67,21 @@ pub record IsNest (md : Module) (i : ℕ) (o : Op) (n j : ℕ) (c : Op) : Type 0
   pub other : j ≡ i → ⊥
   pub named : slice_get o.operands n ≡ Some (result j 0)
   pub once : use_count j md.body ≡ 1
+
+-- ---- weights
+
+-- what a body weighs after an operation is changed
+weight-set : (inner : Name → ℕ) (os : List Op) (i : ℕ) (o o' : Op) → slice_get os i ≡ Some o
+    → kind_weight inner o.kind o.types (length o.operands) + body_weight inner (set os i o') ≡ kind_weight inner o'.kind o'.types (length o'.operands) + body_weight inner os
+weight-set inner [] i o o' is = cc
+weight-set inner (y ∷ ys) zero o o' is =
+    let same : kind_weight inner o.kind o.types (length o.operands) ≡ kind_weight inner y.kind y.types (length y.operands) =
+    (let one : o ≡ y = cc in ap (λ (z : Op). kind_weight inner z.kind z.types (length z.operands)) one) in
+    omega arith
+weight-set inner (y ∷ ys) (suc i) o o' is =
+    let rest : kind_weight inner o.kind o.types (length o.operands) + body_weight inner (set ys i o') ≡ kind_weight inner o'.kind o'.types (length o'.operands) + body_weight inner ys =
+    weight-set inner ys i o o' is in
+    omega arith
 
 -- ---- an operation of a fit design
 
@@ -178,7 +193,7 @@ module _ (d : Design) (fit : IsFit d) (k : ℕ) (md : Module) (at : slice_get d 
       let out : kind_weight inner c.kind c.types (length c.operands) + body_weight inner (erase_op j undefined (set md.body i o')) ≡ body_weight inner (set md.body i o') =
       weight_taken_out inner (set md.body i o') j c undefined inside_between in
       let changed : kind_weight inner o.kind o.types (length o.operands) + body_weight inner (set md.body i o')
-      ≡ kind_weight inner o'.kind o'.types (length o'.operands) + body_weight inner md.body = weight_changed inner md.body i o o' nest.there in
+      ≡ kind_weight inner o'.kind o'.types (length o'.operands) + body_weight inner md.body = weight-set inner md.body i o o' nest.there in
       let less : kind_weight inner o'.kind o'.types (length o'.operands)
       ≤ kind_weight inner o.kind o.types (length o.operands) + kind_weight inner c.kind c.types (length c.operands) = takes.lighter inner in
       omega arith

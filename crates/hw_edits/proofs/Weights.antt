@@ -53,11 +53,6 @@ weight_taken_out inner os i o x is =
     let sum : kind_weight inner o.kind o.types (length o.operands) + body_weight inner (remove os i) ≡ body_weight inner os = weight-remove inner os i o is in
     omega arith
 
--- a body weighs more or less by as much as an operation that is changed
-pub weight_changed : (inner : Name → ℕ) (os : List Op) (i : ℕ) (o o' : Op) → slice_get os i ≡ Some o
-    → kind_weight inner o.kind o.types (length o.operands) + body_weight inner (set os i o') ≡ kind_weight inner o'.kind o'.types (length o'.operands) + body_weight inner os
-weight_changed inner os i o o' is = weight-set inner os i o o' is
-
 -- taking an operation out makes no module heavier
 pub out_is_lighter : (d : Design) (m : ℕ) (md : Module) (i : ℕ) (o : Op) (x : Ref) → slice_get d m ≡ Some md → slice_get md.body i ≡ Some o
     → (s : Name) → weight (with_body d m md (erase_op i x md.body)) s ≤ weight d s
