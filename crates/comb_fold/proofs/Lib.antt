@@ -1,0 +1,8 @@
+-- Lemmas.
+pub mod Positions
+pub mod Erasing
+pub mod Replacing
+pub mod OperandChanges
+pub mod Naming
+pub mod FitOps
+pub mod FitRows

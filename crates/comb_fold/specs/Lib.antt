@@ -1,0 +1,5 @@
+pub mod Views
+pub mod Replaceable
+pub mod Readable
+pub mod FitBodies
+pub mod Rows
