@@ -1,5 +1,5 @@
 -- An operation that is taken out, once another value stands for its first result.
-use Rattle.std.proofs.Common.{◌≡◌, ℕ, zero, suc, Bool, true, false, cond, nat_eq, ◌&&◌, List, [], ◌∷◌, map, Option, Some, None, refl, sym, ap, ap₂, ◌∙◌, arith}
+use Rattle.std.proofs.Common.{◌≡◌, ℕ, zero, suc, Bool, true, false, cond, nat_eq, ◌&&◌, List, [], ◌∷◌, map, Option, Some, None, refl, sym, ap, ap₂, ◌∙◌}
 use Rattle.std.specs.Prelude.{Contains, remove}
 use Rattle.std.proofs.lemmas.Bool.{eqb-true, eqb-false}
 use Rattle.hw_model.specs.Design.{Op, Ref}
@@ -10,7 +10,7 @@ use Rattle.ir_store.specs.declared.operation.Value.TheVariants.{Result}
 use Rattle.ir_store.specs.BodyOps.{BodyOp, ids_in, taken_out, all_replaced, IsUnused}
 use Rattle.ir_store.specs.Live.{AreLive}
 use Rattle.ir_store.specs.Numbered.{position_of, ref_by, ops_by_position}
-use Rattle.ir_store.specs.Positions.{retarget, position_after_erase, result_at, pulled_ref, without_op, same_ref, replaced_ref}
+use Rattle.ir_store.specs.Positions.{retarget, result_at, pulled_ref, without_op, replaced_ref}
 use Rattle.ir_store.proofs.Living.{ids-all_replaced}
 use Rattle.ir_store.proofs.Numbering.{numbered-taken_out, numbered-all_replaced}
 use Rattle.hw_edits.specs.Laws.{down, ref_after_erase, without, erase_op}

@@ -1,5 +1,5 @@
 -- What is known of the operations of the body of a module of a fit design.
-use Rattle.std.proofs.Common.{◌≡◌, ℕ, zero, suc, ◌<◌, ℤ, true, false, List, [], ◌∷◌, map, length, Option, Some, None, slice_get, refl, sym, ap, subst, ◌∙◌, arith}
+use Rattle.std.proofs.Common.{◌≡◌, ℕ, suc, ◌<◌, ℤ, true, false, List, [], ◌∷◌, map, length, Option, Some, None, slice_get, refl, sym, ap, subst, ◌∙◌, arith}
 use Rattle.std.specs.Prelude.{is_some, nat_lt, ◌==◌}
 use Rattle.std.specs.List.{list_any}
 use Rattle.std.proofs.lemmas.Bool.{ltb-false}
@@ -26,7 +26,7 @@ use Rattle.op_checks.specs.TypeChecks.{is_outside}
 use Rattle.op_checks.proofs.Widths.{neither}
 use Rattle.op_verifier.proofs.NoCauseAlone.{no_cause_alone}
 use Rattle.mlir_printer.specs.Printable.{IsPrintableOp, settled_result}
-use Rattle.ir_store.specs.BodyOps.{BodyOp, ids_in, op_at, all_replaced, IsUnused}
+use Rattle.ir_store.specs.BodyOps.{BodyOp, ids_in, all_replaced, IsUnused}
 use Rattle.ir_store.specs.Live.{IsLive, HasLive, AreLive}
 use Rattle.ir_store.specs.Numbered.{position_of, ref_by, op_by, ops_by_position}
 use Rattle.accepted_edits.specs.Keeps.{IsPrintableBody, IsFit}

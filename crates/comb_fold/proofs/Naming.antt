@@ -2,9 +2,7 @@
 use Rattle.std.proofs.Common.{◌≡◌, ℕ, zero, suc, Bool, true, false, cond, nat_eq, ◌&&◌, List, map, refl, sym, ap, ◌∙◌, eq-eqb}
 use Rattle.std.specs.Prelude.{All}
 use Rattle.std.proofs.lemmas.Bool.{eqb-true}
-use Rattle.wiring.specs.Wiring.{In}
 use Rattle.wiring.proofs.Members.{In-map, All-from_members}
-use Rattle.hw_model.specs.Design.{Op, Ref}
 use Rattle.hw_model.specs.Design.Ref.{result}
 use Rattle.ir_store.specs.declared.operation.OpId.{OpId}
 use Rattle.ir_store.specs.declared.operation.Value.{Value}

@@ -1,5 +1,5 @@
 -- A constant before another operand may be moved to the end: the value stays, and fewer constants stand before other operands.
-use Rattle.std.proofs.Common.{◌≡◌, ℕ, zero, suc, ◌+◌, ◌<◌, ◌≤◌, Bool, true, false, cond, not, ◌&&◌, ◌||◌, List, [], ◌∷◌, ◌++◌, length, map, set, Option, Some, None, slice_get, refl, sym, ap, ap₂, subst, ◌∙◌, inl, inr, arith, length-append}
+use Rattle.std.proofs.Common.{◌≡◌, ℕ, zero, suc, ◌+◌, ◌<◌, ◌≤◌, Bool, true, false, cond, not, ◌&&◌, ◌||◌, List, [], ◌∷◌, ◌++◌, length, map, set, Some, slice_get, refl, sym, ap, ap₂, subst, ◌∙◌, inl, inr, arith, length-append}
 use Rattle.std.specs.Prelude.{is_some}
 use Rattle.std.proofs.lemmas.List.{map-append}
 use mathlib.Core.Path.{fun_ext}
@@ -9,15 +9,15 @@ use Rattle.wiring.proofs.Members.{In-append_cases}
 use Rattle.wiring.proofs.Options.{omap_some}
 use Rattle.bits_core.specs.Word.{Word}
 use Rattle.hw_model.specs.Equality.{both_of}
-use Rattle.hw_model.specs.Kinds.{Kind, Variadic}
+use Rattle.hw_model.specs.Kinds.{Variadic}
 use Rattle.hw_model.specs.Kinds.Kind.{variadic}
-use Rattle.hw_model.specs.Design.{Ref, Port, Op}
+use Rattle.hw_model.specs.Design.{Ref, Op}
 use Rattle.hw_model.specs.Design.Ref.{port, result, undefined}
 use Rattle.hw_model.specs.Value.{variadic_value}
-use Rattle.fold_laws.specs.Constants.{first_result_word, constant_at}
+use Rattle.fold_laws.specs.Constants.{first_result_word}
 use Rattle.fold_laws.specs.ConstantOperands.{has_other, with_first_last, constant_last}
 use Rattle.fold_laws.specs.Fold.{kind_measure, op_measure, measure, is_constant_in, count_others, pairs_before, kind_misplaced, misplaced_by, misplaced, IsSmaller}
-use Rattle.fold_laws.proofs.FewerOperands.{KeepsValue, like_itself, OperandsLaw}
+use Rattle.fold_laws.proofs.FewerOperands.{like_itself, OperandsLaw}
 use Rattle.fold_laws.proofs.Measures.{measure-set}
 use Rattle.fold_laws.proofs.VariadicValues.{value_more, value_moved}
 

@@ -5,10 +5,10 @@ use Rattle.hw_model.specs.Kinds.Variadic.{add, mul, and, or, xor}
 use Rattle.hw_model.specs.Kinds.{Variadic}
 use Rattle.hw_model.specs.Kinds.Kind.{variadic, sub}
 use Rattle.hw_model.specs.Design.{Ref, Op, nowhere_place}
-use Rattle.hw_model.specs.Design.Ref.{port, result}
+use Rattle.hw_model.specs.Design.Ref.{result}
 use Rattle.hw_model.proofs.Samples.{operation}
 use Rattle.fold_laws.specs.ConstantOperands.{fold_two_constants, fold_constant_last}
-use Rattle.fold_laws.specs.Fold.{measure, misplaced}
+use Rattle.fold_laws.specs.Fold.{misplaced}
 use Rattle.fold_laws.specs.Numbers.{number_op}
 use Rattle.fold_laws.specs.Table.{rows, first_row}
 use Rattle.fold_laws.proofs.Samples.{bytes, byte_of, output_of, body_with, row_of, a, b, k, m, operands_left}

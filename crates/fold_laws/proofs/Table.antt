@@ -1,8 +1,6 @@
 -- The first of rows that matches makes folds where each of them does.
-use Rattle.std.proofs.Common.{◌≡◌, ℕ, List, [], ◌∷◌, Option, Some, None, slice_get, refl, ap, ◌∙◌}
+use Rattle.std.proofs.Common.{◌≡◌, List, [], ◌∷◌, Option, Some, None, refl, ap, ◌∙◌}
 use Rattle.wiring.specs.Options.{omap}
-use Rattle.hw_model.specs.Design.{Op, Module, Design}
-use Rattle.accepted_edits.specs.Keeps.{IsFit}
 use Rattle.fold_laws.specs.Edits.{Edit, edited_by, Row, fold_by}
 use Rattle.fold_laws.specs.Fold.{IsFold, FoldLaw}
 use Rattle.fold_laws.specs.Table.{or_edits, first_row, AllFold}

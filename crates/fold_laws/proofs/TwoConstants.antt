@@ -22,14 +22,12 @@ use Rattle.hw_model.specs.Value.{variadic_value}
 use Rattle.hw_model.specs.Weight.{kind_weight, body_weight, weight}
 use Rattle.ir_store.specs.ResultTypes.{result_type as type_of_result}
 use Rattle.canonical_form.specs.ResultTypes.{type_or_none}
-use Rattle.op_checks.specs.CountChecks.{operands_written, type_count}
+use Rattle.op_checks.specs.CountChecks.{type_count}
 use Rattle.op_checks.specs.OperandChecks.{has_other_form}
 use Rattle.hw_edits.specs.Edit.{retarget}
-use Rattle.hw_edits.specs.Falls.{LocalHeight}
 use Rattle.hw_edits.specs.Laws.{up_ref, insert_op, with_body, Inserted}
 use Rattle.hw_edits.proofs.Inserted.{insert_op_preserves}
 use Rattle.hw_edits.proofs.Weights.{weight_with_body}
-use Rattle.accepted_edits.specs.Forms.{InsertedFits}
 use Rattle.accepted_edits.specs.Keeps.{IsFitting, IsFit}
 use Rattle.accepted_edits.proofs.PutIn.{fit_inserted}
 use Rattle.pass_manager.specs.Steady.{IsSteady}
@@ -39,7 +37,7 @@ use Rattle.fold_laws.specs.ConstantOperands.{with_word, constants_among, joined_
 use Rattle.fold_laws.specs.Constants.{first_result_word, constant_word, constant_at}
 use Rattle.fold_laws.specs.Edits.{Edit, edited_by, fold_by}
 use Rattle.fold_laws.specs.Edits.Edit.{changed, put_in}
-use Rattle.fold_laws.specs.Fold.{kind_measure, op_measure, measure, is_constant_in, IsSmaller, IsFold, FoldLaw}
+use Rattle.fold_laws.specs.Fold.{kind_measure, measure, is_constant_in, IsSmaller, IsFold, FoldLaw}
 use Rattle.fold_laws.specs.Numbers.{number_op}
 use Rattle.fold_laws.proofs.Constants.{constant_typed, constant_high}
 use Rattle.fold_laws.proofs.FewerOperands.{IsLike, like_itself, KeepsValue, operands_steady}

@@ -2,7 +2,7 @@
 -- update in place, create).
 use Rattle.std.specs.Prelude.{ℕ, List, [], ◌∷◌, set, Option}
 use Rattle.wiring.specs.Options.{omap}
-use Rattle.hw_model.specs.Design.{Ref, Op, Module}
+use Rattle.hw_model.specs.Design.{Ref, Op}
 use Rattle.hw_edits.specs.Laws.{erase_op, insert_op}
 use Rattle.fold_laws.specs.Fold.{Fold}
 

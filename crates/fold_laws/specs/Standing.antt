@@ -12,7 +12,7 @@ use Rattle.hw_model.specs.Design.{Ref, Op}
 use Rattle.hw_model.specs.Value.{is_high}
 use Rattle.ir_store.specs.Positions.{same_ref}
 use Rattle.fold_laws.specs.Constants.{constant_at, is_constant_where, is_zero, is_one, is_ones, is_true, is_false}
-use Rattle.fold_laws.specs.Edits.{Edit, Row}
+use Rattle.fold_laws.specs.Edits.{Row}
 use Rattle.fold_laws.specs.Edits.Edit.{erased}
 
 -- ---- values that stand for results

@@ -6,7 +6,7 @@ use Rattle.hw_model.specs.Kinds.{Kind}
 use Rattle.hw_model.specs.Kinds.Kind.{wire, instance, output, register, async_firreg}
 use Rattle.hw_model.specs.Design.{Ref, Op}
 use Rattle.hw_model.specs.Design.Ref.{port, result, undefined}
-use Rattle.fold_laws.specs.Edits.{Edit, Row}
+use Rattle.fold_laws.specs.Edits.{Row}
 use Rattle.fold_laws.specs.Edits.Edit.{erased}
 
 -- whether an operation only computes its results: all but registers, wires, instances and outputs do
