@@ -48,9 +48,10 @@ made_part_is_fold =
 -- ---- the rows of the table from one on, the last ones first
 
 parts_fold : AllFold (drop 26 rows)
-parts_fold =
-    (stand_is_fold full_extract full_extract_stands,
-    (extract_extract_is_fold, (behind_is_fold extract_part extract_part_behind, (nested_concat_is_fold, (trivial_is_fold, (made_part_is_fold, tt))))))
+parts_fold = (
+  stand_is_fold full_extract full_extract_stands,
+  (extract_extract_is_fold, (behind_is_fold extract_part extract_part_behind, (nested_concat_is_fold, (trivial_is_fold, (made_part_is_fold, tt))))),
+)
 
 choices_fold : AllFold (drop 23 rows)
 choices_fold = (stand_is_fold mux_constant mux_constant_stands, (stand_is_fold mux_same mux_same_stands, (stand_is_fold mux_bool mux_bool_stands, parts_fold)))

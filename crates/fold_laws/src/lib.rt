@@ -4,6 +4,6 @@
 mod laws;
 
 pub use laws::{
-    constants_join_and_go_last, each_row_folds, nested_operations_join, operands_go, operands_stand,
-    operations_become_constants, parts_stand, unused_operations_go,
+    constants_join_and_go_last, each_row_folds, nested_operations_join, operands_go,
+    operands_stand, operations_become_constants, parts_stand, unused_operations_go,
 };
