@@ -6,3 +6,6 @@ pub mod OperandChanges
 pub mod Naming
 pub mod FitOps
 pub mod FitRows
+pub mod ReadBodies
+pub mod SameValues
+pub mod StandingValues

@@ -86,3 +86,12 @@ position_before b o (p ∷ ops) fresh = go (nat_eq p.id b.index) (position_befor
         → position_of (ids_in (cond t (o ∷ p ∷ ops) (p ∷ put_before (Some b) o ops))) o.id ≡ cond t 0 (suc (position_of (ids_in ops) b.index))
     go true r = ap (λ t. cond t 0 (suc (position_of (ids_in (p ∷ ops)) o.id))) (eq-eqb o.id o.id refl)
     go false r = ap (λ t. cond t 0 (suc (position_of (ids_in (put_before (Some b) o ops)) o.id))) not_it ∙ ap suc r
+
+-- what stands at the position of an id that is not there
+pub none_at_position : {A : Type 0} (f : BodyOp → A) (id : ℕ) (ops : List BodyOp) → (Contains (ids_in ops) id → ⊥) → slice_get (map f ops) (position_of (ids_in ops) id) ≡ None
+none_at_position f id [] other = refl
+none_at_position f id (p ∷ ops) other = go (nat_eq p.id id) refl (none_at_position f id ops (λ c. other (suc c.0, omega (arith, c.1), c.2)))
+  where
+    go : (b : Bool) → nat_eq p.id id ≡ b → slice_get (map f ops) (position_of (ids_in ops) id) ≡ None → slice_get (f p ∷ map f ops) (cond b 0 (suc (position_of (ids_in ops) id))) ≡ None
+    go true is r = absurd (other (zero, omega arith, eqb-true p.id id is))
+    go false is r = r

@@ -3,3 +3,5 @@ pub mod Replaceable
 pub mod Readable
 pub mod FitBodies
 pub mod Rows
+pub mod Tests
+pub mod Sites

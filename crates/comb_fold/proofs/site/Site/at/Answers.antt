@@ -1,0 +1,12 @@
+use Rattle.comb_fold.proofs.FitOps.{fit_live, fit_readable}
+use Rattle.comb_fold.proofs.ReadBodies.{op_seen_at, op_live}
+use Rattle.comb_fold.proofs.site.Site.at.Goals as goal
+
+pub returns-clause-there : goal.returns-clause-there
+returns-clause-there c = op_seen_at c.args.body.now c.args.id c.op-op.result c.op-op.ensures
+
+pub returns-clause-readable : goal.returns-clause-readable
+returns-clause-readable c = record {
+  readable = fit_readable c.args.body.now c.requires.fit;
+  live = op_live c.args.body.now c.args.id c.op-op.result (fit_live c.args.body.now c.requires.fit) c.op-op.ensures;
+}
