@@ -1,5 +1,5 @@
 -- What is read of a body by ids is what stands at positions.
-use Rattle.std.proofs.Common.{◌≡◌, ℕ, zero, suc, ℤ, Bool, true, false, cond, nat_eq, List, [], ◌∷◌, Option, Some, None, slice_get, refl, sym, ap, subst, ◌∙◌}
+use Rattle.std.proofs.Common.{◌≡◌, ℕ, zero, suc, ℤ, Bool, true, false, cond, nat_eq, List, [], ◌∷◌, Option, Some, None, slice_get, refl, sym, subst}
 use Rattle.std.specs.Prelude.{All, Contains, option_map}
 use Rattle.std.specs.List.{AllByRecursion}
 use Rattle.std.proofs.lemmas.List.Elements.{recursion_from_All}
@@ -9,7 +9,7 @@ use Rattle.hw_model.specs.Types.HwType.{int}
 use Rattle.hw_model.specs.Kinds.{Kind}
 use Rattle.hw_model.specs.Kinds.Kind.{constant}
 use Rattle.hw_model.specs.KindViews.{kind_of}
-use Rattle.hw_model.specs.Design.{Ref, Op, OpResult, result_type}
+use Rattle.hw_model.specs.Design.{Ref, Op, OpResult}
 use Rattle.hw_model.specs.Design.Ref.{port, result, undefined}
 use Rattle.ir_store.specs.declared.body.Body.{Body}
 use Rattle.ir_store.specs.declared.body.Op.{Op as ReadOp}
