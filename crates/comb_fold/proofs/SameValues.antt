@@ -1,7 +1,8 @@
 -- Values of a body that are one by ids are one by positions.
-use Rattle.std.proofs.Common.{◌≡◌, ℕ, zero, suc, ◌≤◌, ◌<◌, Bool, true, false, cond, nat_eq, ◌&&◌, List, [], ◌∷◌, map, length, get_or, Some, None, refl, ap, sym, ◌∙◌, arith}
+use Rattle.std.proofs.Common.{◌≡◌, ℕ, zero, suc, ◌≤◌, ◌<◌, Bool, true, false, cond, nat_eq, ◌&&◌, List, [], ◌∷◌, map, length, get_or, Some, None, refl, ap, sym, ◌∙◌, arith, eq-eqb, ne_eqb}
 use Rattle.std.specs.Prelude.{All, Contains}
 use Rattle.std.proofs.lemmas.Bool.{eqb-true, eqb-false}
+use Rattle.wiring.proofs.Equal.{suc_suc}
 use Rattle.ir_store.specs.declared.body.Body.{Body}
 use Rattle.ir_store.specs.declared.operation.Value.{Value}
 use Rattle.ir_store.specs.declared.operation.Value.TheVariants.{Port, Result, Undefined}
@@ -14,27 +15,6 @@ use Rattle.fold_laws.specs.Numbers.{number_where}
 use Rattle.fold_laws.specs.Standing.{when, of_three_operands}
 use Rattle.comb_fold.specs.Views.{value_ref}
 
-eqb_same : (i j : ℕ) → i ≡ j → nat_eq i j ≡ true
-eqb_same i j e = go (nat_eq i j) refl
-  where
-    go : (b : Bool) → nat_eq i j ≡ b → nat_eq i j ≡ true
-    go true t = t
-    go false t = absurd (eqb-false i j t e)
-
-eqb_other : (i j : ℕ) → (i ≡ j → ⊥) → nat_eq i j ≡ false
-eqb_other i j n = go (nat_eq i j) refl
-  where
-    go : (b : Bool) → nat_eq i j ≡ b → nat_eq i j ≡ false
-    go true t = absurd (n (eqb-true i j t))
-    go false t = t
-
-eqb_suc : (i j : ℕ) → nat_eq (suc i) (suc j) ≡ nat_eq i j
-eqb_suc i j = go (nat_eq i j) refl
-  where
-    go : (b : Bool) → nat_eq i j ≡ b → nat_eq (suc i) (suc j) ≡ nat_eq i j
-    go true t = eqb_same (suc i) (suc j) (ap suc (eqb-true i j t)) ∙ sym t
-    go false t = eqb_other (suc i) (suc j) (λ e. eqb-false i j t (omega (arith, e))) ∙ sym t
-
 -- ids that are there have the same position only where they are the same
 position_same : (ids : List ℕ) (i j : ℕ) → Contains ids i → Contains ids j → nat_eq (position_of ids i) (position_of ids j) ≡ nat_eq i j
 position_same [] i j (k, l, e) h = absurd (omega arith)
@@ -43,12 +23,12 @@ position_same (m ∷ ids) i j h g = go (nat_eq m i) refl (nat_eq m j) refl h g (
     go : (b : Bool) → nat_eq m i ≡ b → (c : Bool) → nat_eq m j ≡ c → Contains (m ∷ ids) i → Contains (m ∷ ids) j →
         (Contains ids i → Contains ids j → nat_eq (position_of ids i) (position_of ids j) ≡ nat_eq i j) →
         nat_eq (cond b 0 (suc (position_of ids i))) (cond c 0 (suc (position_of ids j))) ≡ nat_eq i j
-    go true s true t h g r = sym (eqb_same i j (sym (eqb-true m i s) ∙ eqb-true m j t))
-    go true s false t h g r = eqb_other 0 (suc (position_of ids j)) (λ e. omega (arith, e)) ∙ sym (eqb_other i j (λ e. eqb-false m j t (eqb-true m i s ∙ e)))
-    go false s true t h g r = eqb_other (suc (position_of ids i)) 0 (λ e. omega (arith, e)) ∙ sym (eqb_other i j (λ e. eqb-false m i s (eqb-true m j t ∙ sym e)))
+    go true s true t h g r = sym (eq-eqb i j (sym (eqb-true m i s) ∙ eqb-true m j t))
+    go true s false t h g r = ne_eqb 0 (suc (position_of ids j)) (λ e. omega (arith, e)) ∙ sym (ne_eqb i j (λ e. eqb-false m j t (eqb-true m i s ∙ e)))
+    go false s true t h g r = ne_eqb (suc (position_of ids i)) 0 (λ e. omega (arith, e)) ∙ sym (ne_eqb i j (λ e. eqb-false m i s (eqb-true m j t ∙ sym e)))
     go false s false t (zero, l, e) g r = absurd (eqb-false m i s e)
     go false s false t (suc k, l, e) (zero, l', e') r = absurd (eqb-false m j t e')
-    go false s false t (suc k, l, e) (suc k', l', e') r = eqb_suc (position_of ids i) (position_of ids j) ∙ r (k, omega arith, e) (k', omega arith, e')
+    go false s false t (suc k, l, e) (suc k', l', e') r = suc_suc (position_of ids i) (position_of ids j) ∙ r (k, omega arith, e) (k', omega arith, e')
 
 -- values that are there are the same by ids as by positions
 pub same_seen : (ids : List ℕ) (x y : Value) → IsLive ids x → IsLive ids y → same_value x y ≡ same_ref (ref_by (position_of ids) x) (ref_by (position_of ids) y)

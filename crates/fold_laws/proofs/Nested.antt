@@ -1,6 +1,6 @@
 -- An operation that takes in another one, which made an operand of it and has no other use: what must be shown of it, and that it
 -- makes a fold.
-use Rattle.std.proofs.Common.{◌≡◌, ◌⊎◌, ℕ, zero, suc, ◌+◌, ◌<◌, ◌≤◌, true, false, cond, List, [], ◌∷◌, length, map, set, remove, Some, None, slice_get, refl, sym, ap, subst, ◌∙◌, inl, inr, arith, set-set}
+use Rattle.std.proofs.Common.{◌≡◌, ◌⊎◌, ℕ, zero, suc, ◌+◌, ◌<◌, ◌≤◌, Bool, true, false, cond, List, [], ◌∷◌, length, map, set, remove, Some, None, slice_get, refl, sym, ap, subst, ◌∙◌, inl, inr, arith, set-set}
 use Rattle.std.specs.Prelude.{is_some}
 use Rattle.std.proofs.lemmas.Option.{slice_get_within}
 use Rattle.wiring.specs.Wiring.{In}
@@ -8,6 +8,7 @@ use Rattle.wiring.proofs.Lists.{slice_get-set_same, slice_get-set_other}
 use Rattle.wiring.proofs.Members.{In-slice_get}
 use Rattle.bits_core.specs.Word.{Word}
 use Rattle.hw_model.specs.Types.{Name, HwType}
+use Rattle.hw_model.specs.Kinds.{Kind}
 use Rattle.hw_model.specs.Design.{Ref, Op, Module, Design, result_type}
 use Rattle.hw_model.specs.Design.Ref.{result, undefined}
 use Rattle.hw_model.specs.Sound.{type_in, Fits, OpFits}
@@ -30,11 +31,11 @@ use Rattle.pass_manager.specs.Steady.{IsSteady}
 use Rattle.pass_manager.proofs.Shapes.{shape_set}
 use Rattle.pass_manager.proofs.Steady.{steady_then, steady_with_body}
 use Rattle.fold_laws.specs.Fold.{op_measure, measure, IsFold}
-use Rattle.fold_laws.specs.Nested.{uses_among, use_count}
+use Rattle.fold_laws.specs.Nested.{Nested, uses_among, use_count}
 use Rattle.fold_laws.specs.Unused.{is_pure, is_used}
 use Rattle.fold_laws.proofs.MadeKinds.{is_made, made_plain, made_no_constant, made_no_number}
 use Rattle.fold_laws.proofs.Measures.{measure-retarget, measure-remove, measure-set}
-use Rattle.fold_laws.proofs.NestedUses.{named_once, uses-set, uses_of_two, unused_then}
+use Rattle.fold_laws.proofs.NestedUses.{IsNested, named_once, uses-set, uses_of_two, unused_then}
 use Rattle.fold_laws.proofs.Stands.{Held, op_has_one, op_held}
 use Rattle.fold_laws.proofs.Unused.{unused_taken}
 
@@ -67,6 +68,20 @@ pub record IsNest (md : Module) (i : ℕ) (o : Op) (n j : ℕ) (c : Op) : Type 0
   pub other : j ≡ i → ⊥
   pub named : slice_get o.operands n ≡ Some (result j 0)
   pub once : use_count j md.body ≡ 1
+
+-- an operand that is found is nested so, where both operations are made of their operands
+pub found_nest : (test : Kind → Bool) (md : Module) (i : ℕ) (o : Op) (n : Nested) → slice_get md.body i ≡ Some o → IsNested test md.body i o.operands n
+    → is_made o.kind ≡ true → is_made n.inner.kind ≡ true → is_pure n.inner.kind ≡ true → IsNest md i o n.number n.position n.inner
+found_nest test md i o n at found outer inner plain = record {
+  there = at;
+  made = outer;
+  inside = found.there;
+  inner_made = inner;
+  pure = plain;
+  other = found.other;
+  named = found.named;
+  once = found.once;
+}
 
 -- ---- weights
 

@@ -42,7 +42,7 @@ use Rattle.fold_laws.specs.Nested.{uses_among, Nested, is_concat, first_nested, 
 use Rattle.fold_laws.specs.Unused.{is_pure}
 use Rattle.fold_laws.proofs.JoinedParts.{joined_types}
 use Rattle.fold_laws.proofs.MadeKinds.{is_made}
-use Rattle.fold_laws.proofs.Nested.{TakesIn, IsNest, nest_joined}
+use Rattle.fold_laws.proofs.Nested.{TakesIn, IsNest, found_nest, nest_joined}
 use Rattle.fold_laws.proofs.NestedUses.{uses-splice, own_result, IsNested, first_nested_is}
 use Rattle.fold_laws.proofs.NestedValues.{words-splice}
 use Rattle.fold_laws.proofs.NewOps.{own_none, new_printable}
@@ -155,16 +155,7 @@ module _ (d : Design) (fit : IsFit d) (k : ℕ) (md : Module) (at : slice_get d 
   inner_made = ap is_made inner_kind
 
   nest : IsNest md i o n.number n.position n.inner
-  nest = record {
-    there = there;
-    made = made;
-    inside = found.there;
-    inner_made = inner_made;
-    pure = ap is_pure inner_kind;
-    other = found.other;
-    named = found.named;
-    once = found.once;
-  }
+  nest = found_nest is_concat md i o n there found made inner_made (ap is_pure inner_kind)
 
   abbrev inner_type : HwType
   inner_type = type_or_none (type_of_result n.inner.kind n.inner.types (length n.inner.operands))

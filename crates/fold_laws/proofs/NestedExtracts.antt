@@ -43,7 +43,7 @@ use Rattle.fold_laws.specs.Fold.{kind_measure, IsFold, FoldLaw}
 use Rattle.fold_laws.specs.Nested.{uses_among, Nested, first_nested, joined_extract, lowest_bit, is_extract, extract_edits, fold_extract_extract}
 use Rattle.fold_laws.specs.Unused.{is_pure, is_result_of}
 use Rattle.fold_laws.proofs.MadeKinds.{is_made}
-use Rattle.fold_laws.proofs.Nested.{TakesIn, IsNest, nest_joined}
+use Rattle.fold_laws.proofs.Nested.{TakesIn, IsNest, found_nest, nest_joined}
 use Rattle.fold_laws.proofs.NestedUses.{own_result, IsNested, first_nested_is}
 use Rattle.fold_laws.proofs.NewOps.{own_none, new_printable}
 use Rattle.fold_laws.proofs.Stands.{Known, Held, held_width, op_printable, op_own, op_typed, op_has_one, op_known}
@@ -186,16 +186,7 @@ module _ (d : Design) (fit : IsFit d) (k : ℕ) (md : Module) (at : slice_get d 
   inner_made = ap is_made inner_kind
 
   nest : IsNest md i o n.number n.position n.inner
-  nest = record {
-    there = there;
-    made = made;
-    inside = found.there;
-    inner_made = inner_made;
-    pure = ap is_pure inner_kind;
-    other = found.other;
-    named = found.named;
-    once = found.once;
-  }
+  nest = found_nest is_extract md i o n there found made inner_made (ap is_pure inner_kind)
 
   -- ---- types and operands
 

@@ -34,7 +34,7 @@ use Rattle.fold_laws.specs.Nested.{uses_among, Nested, same_variadic, is_variadi
 use Rattle.fold_laws.specs.Unused.{is_pure}
 use Rattle.fold_laws.proofs.FewerOperands.{written, types_written, results_given}
 use Rattle.fold_laws.proofs.MadeKinds.{is_made, made_plain}
-use Rattle.fold_laws.proofs.Nested.{TakesIn, IsNest, nest_joined}
+use Rattle.fold_laws.proofs.Nested.{TakesIn, IsNest, found_nest, nest_joined}
 use Rattle.fold_laws.proofs.NestedUses.{uses-splice, own_result, IsNested, first_nested_is}
 use Rattle.fold_laws.proofs.NestedValues.{variadic-splice}
 use Rattle.fold_laws.proofs.Splices.{length-splice, In-splice, map-splice}
@@ -74,16 +74,7 @@ module _ (d : Design) (fit : IsFit d) (k : ℕ) (md : Module) (at : slice_get d 
   inner_made = ap is_made inner_kind
 
   nest : IsNest md i o n.number n.position n.inner
-  nest = record {
-    there = there;
-    made = made;
-    inside = found.there;
-    inner_made = inner_made;
-    pure = ap is_pure inner_kind;
-    other = found.other;
-    named = found.named;
-    once = found.once;
-  }
+  nest = found_nest (is_variadic v) md i o n there found made inner_made (ap is_pure inner_kind)
 
   abbrev own_type : HwType
   own_type = type_or_none (type_of_result o.kind o.types (length o.operands))
