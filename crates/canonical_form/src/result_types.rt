@@ -62,8 +62,8 @@ fn have_these_types(types: &[Ty], results: &[NewResult]) -> bool
 fn have_types_after(types: &[Ty], count: usize, results: &[NewResult]) -> bool
     ensures { IsTrue result ↔ HaveTypes (map result_of results.now) (map Some (drop count (map type_of types.now))) }
 {
-    let (_, behind) = types.split_at(count.min(types.len()));
-    have_these_types(behind, results)
+    let (_, following) = types.split_at(count.min(types.len()));
+    have_these_types(following, results)
 }
 
 /// Whether results have the types of a struct's fields.

@@ -3,7 +3,7 @@ use Rattle.std.proofs.Common.{◌≡◌, ℕ, suc, ◌+◌, ◌-◌, ◌≤◌, 
 use Rattle.std.proofs.Math.Seq.{take-add}
 use Rattle.std.proofs.lemmas.List.{append-nil, drop-drop, drop_all}
 use Rattle.std.specs.Prelude.{◌==◌, slice_range}
-use Rattle.circt_top.specs.Pieces.{Piece, begun_by, lines_of, line_size, is_separator, empty_piece, behind, begun_with, pieces_of_lines, pieces_of}
+use Rattle.circt_top.specs.Pieces.{Piece, begun_by, lines_of, line_size, is_separator, empty_piece, following, begun_with, pieces_of_lines, pieces_of}
 
 -- ---- lines
 
@@ -26,7 +26,7 @@ line_first (b ∷ bytes) h = first_line b bytes
 -- pieces after bytes, the first of which begins with the bytes of a piece
 abbrev pub carried : List ℕ → List ℕ → List Piece → List Piece
 carried before piece [] = []
-carried before piece (p ∷ ps) = record { before = before ++ p.before; bytes = piece ++ p.bytes } ∷ map (behind (before ++ piece)) ps
+carried before piece (p ∷ ps) = record { before = before ++ p.before; bytes = piece ++ p.bytes } ∷ map (following (before ++ piece)) ps
 
 -- a piece after some bytes
 abbrev piece_after : List ℕ → List ℕ → Piece
@@ -35,38 +35,38 @@ piece_after before bytes = record { before = before; bytes = bytes }
 same_piece : {a b c d : List ℕ} → a ≡ b → c ≡ d → piece_after a c ≡ piece_after b d
 same_piece {a} {b} {c} {d} h k = ap (λ x. piece_after x c) h ∙ ap (piece_after b) k
 
-behind_twice : (a b : List ℕ) (ps : List Piece) → map (behind a) (map (behind b) ps) ≡ map (behind (a ++ b)) ps
-behind_twice a b [] = refl
-behind_twice a b (p ∷ ps) =
-    ap (λ l. piece_after l p.bytes ∷ map (behind a) (map (behind b) ps)) (sym (append_assoc a b p.before))
-    ∙ ap (λ l. piece_after ((a ++ b) ++ p.before) p.bytes ∷ l) (behind_twice a b ps)
+after_twice : (a b : List ℕ) (ps : List Piece) → map (following a) (map (following b) ps) ≡ map (following (a ++ b)) ps
+after_twice a b [] = refl
+after_twice a b (p ∷ ps) =
+    ap (λ l. piece_after l p.bytes ∷ map (following a) (map (following b) ps)) (sym (append_assoc a b p.before))
+    ∙ ap (λ l. piece_after ((a ++ b) ++ p.before) p.bytes ∷ l) (after_twice a b ps)
 
-nothing_behind : (ps : List Piece) → map (behind []) ps ≡ ps
-nothing_behind [] = refl
-nothing_behind (p ∷ ps) = ap (λ z. p ∷ z) (nothing_behind ps)
+nothing_after : (ps : List Piece) → map (following []) ps ≡ ps
+nothing_after [] = refl
+nothing_after (p ∷ ps) = ap (λ z. p ∷ z) (nothing_after ps)
 
 nothing_carried : (ps : List Piece) → carried [] [] ps ≡ ps
 nothing_carried [] = refl
-nothing_carried (p ∷ ps) = ap (λ z. p ∷ z) (nothing_behind ps)
+nothing_carried (p ∷ ps) = ap (λ z. p ∷ z) (nothing_after ps)
 
 -- one line more of the piece
 line_carried : (before piece line : List ℕ) (ps : List Piece) → carried before piece (begun_with line ps) ≡ carried before (piece ++ line) ps
 line_carried before piece line [] = refl
 line_carried before piece line (p ∷ ps) =
-    ap (λ l. piece_after (before ++ p.before) l ∷ map (behind (before ++ piece)) (map (behind line) ps)) (sym (append_assoc piece line p.bytes))
+    ap (λ l. piece_after (before ++ p.before) l ∷ map (following (before ++ piece)) (map (following line) ps)) (sym (append_assoc piece line p.bytes))
     ∙ ap (λ l. piece_after (before ++ p.before) ((piece ++ line) ++ p.bytes) ∷ l)
-    (behind_twice (before ++ piece) line ps ∙ ap (λ x. map (behind x) ps) (append_assoc before piece line))
+    (after_twice (before ++ piece) line ps ∙ ap (λ x. map (following x) ps) (append_assoc before piece line))
 
-begun_nothing : (before : List ℕ) (ps : List Piece) → map (behind before) ps ≡ carried before [] ps
+begun_nothing : (before : List ℕ) (ps : List Piece) → map (following before) ps ≡ carried before [] ps
 begun_nothing before [] = refl
-begun_nothing before (p ∷ ps) = ap (λ x. piece_after (before ++ p.before) p.bytes ∷ map (behind x) ps) (sym (append-nil before))
+begun_nothing before (p ∷ ps) = ap (λ x. piece_after (before ++ p.before) p.bytes ∷ map (following x) ps) (sym (append-nil before))
 
 -- a separator ends the piece
 separator_carried : (before piece line : List ℕ) (ps : List Piece)
-    → carried before piece (empty_piece ∷ map (behind line) ps) ≡ piece_after before piece ∷ carried ((before ++ piece) ++ line) [] ps
+    → carried before piece (empty_piece ∷ map (following line) ps) ≡ piece_after before piece ∷ carried ((before ++ piece) ++ line) [] ps
 separator_carried before piece line ps =
-    ap (λ p. p ∷ map (behind (before ++ piece)) (map (behind line) ps)) (same_piece (append-nil before) (append-nil piece))
-    ∙ ap (λ l. piece_after before piece ∷ l) (behind_twice (before ++ piece) line ps ∙ begun_nothing ((before ++ piece) ++ line) ps)
+    ap (λ p. p ∷ map (following (before ++ piece)) (map (following line) ps)) (same_piece (append-nil before) (append-nil piece))
+    ∙ ap (λ l. piece_after before piece ∷ l) (after_twice (before ++ piece) line ps ∙ begun_nothing ((before ++ piece) ++ line) ps)
 
 -- ---- a text cut as far as a place
 
@@ -113,7 +113,7 @@ cut_line source start at pieces h lt other cut =
     let rest = pieces_of_lines (lines_of (drop (at + n) source)) in
     let step : pieces_of_lines (lines_of (drop at source)) ≡ begun_with (line_from source at) rest =
     ap pieces_of_lines (lines_from source at lt)
-    ∙ ap (λ b. cond b (empty_piece ∷ map (behind (line_from source at)) rest) (begun_with (line_from source at) rest)) other in
+    ∙ ap (λ b. cond b (empty_piece ∷ map (following (line_from source at)) rest) (begun_with (line_from source at) rest)) other in
     ap (λ l. pieces ++ l)
     (ap (λ l. carried (take start source) l rest) (part_more source start at n h)
     ∙ sym (line_carried (take start source) (slice_range source start at) (line_from source at) rest)
@@ -127,9 +127,9 @@ pub cut_separator : (source : List ℕ) (start at : ℕ) (pieces : List Piece) (
 cut_separator source start at pieces p h lt separates before bytes cut =
     let n = line_size (drop at source) in
     let rest = pieces_of_lines (lines_of (drop (at + n) source)) in
-    let step : pieces_of_lines (lines_of (drop at source)) ≡ empty_piece ∷ map (behind (line_from source at)) rest =
+    let step : pieces_of_lines (lines_of (drop at source)) ≡ empty_piece ∷ map (following (line_from source at)) rest =
     ap pieces_of_lines (lines_from source at lt)
-    ∙ ap (λ b. cond b (empty_piece ∷ map (behind (line_from source at)) rest) (begun_with (line_from source at) rest)) separates in
+    ∙ ap (λ b. cond b (empty_piece ∷ map (following (line_from source at)) rest) (begun_with (line_from source at) rest)) separates in
     let front : take (at + n) source ≡ (take start source ++ slice_range source start at) ++ line_from source at =
     take-add at n source ∙ ap (λ l. l ++ take n (drop at source)) (front_to source start at h)
     ∙ ap (λ l. (take start source ++ slice_range source start at) ++ l) (sym (line_is source at n)) in

@@ -11,7 +11,7 @@ use Rattle.mlir_syntax.specs.Stream.{refusal}
 use Rattle.mlir_reader.specs.Reading.{text_limit}
 use Rattle.pass_pipeline.specs.declared.pass.Pass.{Pass}
 use Rattle.circt_top.specs.Accepting.{first_input}
-use Rattle.circt_top.specs.Pieces.{Piece, pieces_of, joined, joined_behind}
+use Rattle.circt_top.specs.Pieces.{Piece, pieces_of, joined, joined_after}
 use Rattle.circt_top.proofs.Read.{names_more}
 use Rattle.circt_top.specs.PieceReprint.{AreReprints, ArePrinted, IsPieceRefused, IsFirstRefused}
 use Rattle.circt_top.specs.Reprint.{IsReprint}
@@ -22,15 +22,15 @@ use Rattle.circt_top.specs.declared.outcome.OutcomeFail.TheVariants.{Refused, No
 
 -- ---- one text more
 
-behind_more : (texts : List (List ℕ)) (text : List ℕ) → joined_behind (texts ++ text ∷ []) ≡ joined_behind texts ++ (codes "// -----\n" ++ text)
-behind_more [] text = ap (λ z. codes "// -----\n" ++ z) (append-nil text)
-behind_more (first ∷ texts) text =
-    ap (λ z. codes "// -----\n" ++ (first ++ z)) (behind_more texts text)
-    ∙ sym (append_assoc (codes "// -----\n") (first ++ joined_behind texts) (codes "// -----\n" ++ text)
-    ∙ ap (λ z. codes "// -----\n" ++ z) (append_assoc first (joined_behind texts) (codes "// -----\n" ++ text)))
+after_more : (texts : List (List ℕ)) (text : List ℕ) → joined_after (texts ++ text ∷ []) ≡ joined_after texts ++ (codes "// -----\n" ++ text)
+after_more [] text = ap (λ z. codes "// -----\n" ++ z) (append-nil text)
+after_more (first ∷ texts) text =
+    ap (λ z. codes "// -----\n" ++ (first ++ z)) (after_more texts text)
+    ∙ sym (append_assoc (codes "// -----\n") (first ++ joined_after texts) (codes "// -----\n" ++ text)
+    ∙ ap (λ z. codes "// -----\n" ++ z) (append_assoc first (joined_after texts) (codes "// -----\n" ++ text)))
 
 joined_more : (first : List ℕ) (texts : List (List ℕ)) (text : List ℕ) → joined (first ∷ (texts ++ text ∷ [])) ≡ joined (first ∷ texts) ++ (codes "// -----\n" ++ text)
-joined_more first texts text = ap (λ z. first ++ z) (behind_more texts text) ∙ sym (append_assoc first (joined_behind texts) (codes "// -----\n" ++ text))
+joined_more first texts text = ap (λ z. first ++ z) (after_more texts text) ∙ sym (append_assoc first (joined_after texts) (codes "// -----\n" ++ text))
 
 reprints_more : (passes : List Pass) (ps : List Piece) (texts : List (List ℕ)) (p : Piece) (text : List ℕ) → AreReprints passes ps texts → IsReprint passes p.bytes text
     → AreReprints passes (ps ++ p ∷ []) (texts ++ text ∷ [])
@@ -58,16 +58,16 @@ printed_more passes q ps text p more h one = go h.texts h.each h.is_joined where
 -- ---- a refusal
 
 -- after pieces that are printed, a refused one is the first
-pub refused_behind : (passes : List Pass) (ps : List Piece) (texts : List (List ℕ)) (p : Piece) (rest : List Piece) (r : Refusal) → AreReprints passes ps texts → IsPieceRefused p r
+pub refused_after : (passes : List Pass) (ps : List Piece) (texts : List (List ℕ)) (p : Piece) (rest : List Piece) (r : Refusal) → AreReprints passes ps texts → IsPieceRefused p r
     → IsFirstRefused (ps ++ p ∷ rest) r
-refused_behind passes [] texts p rest r h is = inl is
-refused_behind passes (q ∷ ps) [] p rest r h is = absurd h
-refused_behind passes (q ∷ ps) (t ∷ texts) p rest r h is = inr ((h.0.design, h.0.accepted), refused_behind passes ps texts p rest r h.1 is)
+refused_after passes [] texts p rest r h is = inl is
+refused_after passes (q ∷ ps) [] p rest r h is = absurd h
+refused_after passes (q ∷ ps) (t ∷ texts) p rest r h is = inr ((h.0.design, h.0.accepted), refused_after passes ps texts p rest r h.1 is)
 
-pub fail_behind : (passes : List Pass) (ps : List Piece) (text : List ℕ) (p : Piece) (rest : List Piece) (fail : OutcomeFail) → ArePrinted passes ps text → IsFailOfPiece p fail
+pub fail_after : (passes : List Pass) (ps : List Piece) (text : List ℕ) (p : Piece) (rest : List Piece) (fail : OutcomeFail) → ArePrinted passes ps text → IsFailOfPiece p fail
     → GivesPieces passes (ps ++ p ∷ rest) (Err fail)
-fail_behind passes ps text p rest (Refused r) h is = refused_behind passes ps h.texts p rest r h.each is
-fail_behind passes ps text p rest NoMemory h is = tt
+fail_after passes ps text p rest (Refused r) h is = refused_after passes ps h.texts p rest r h.each is
+fail_after passes ps text p rest NoMemory h is = tt
 
 pub fail_first : (passes : List Pass) (p : Piece) (rest : List Piece) (fail : OutcomeFail) → IsFailOfPiece p fail → GivesPieces passes (p ∷ rest) (Err fail)
 fail_first passes p rest (Refused r) is = inl is
@@ -109,7 +109,7 @@ module _ {A : Type 0} (f : A → Piece) (passes : List Pass) (xs : List A) (firs
   refused_on i d text fail within h failed =
       let all : map f xs ≡ (f first ∷ map f (take i others)) ++ f (get_or others i d) ∷ map f (drop (suc i) others) = ap (map f) is ∙ ap (λ l. f first ∷ l) (parted f others i d within) in
       subst (λ ps. GivesPieces passes ps (Err fail)) (sym all)
-      (fail_behind passes (f first ∷ map f (take i others)) text (f (get_or others i d)) (map f (drop (suc i) others)) fail (so_far i text h) failed)
+      (fail_after passes (f first ∷ map f (take i others)) text (f (get_or others i d)) (map f (drop (suc i) others)) fail (so_far i text h) failed)
 
   -- all are printed
   pub all_printed : (i : ℕ) (text : List ℕ) → length others ≤ i → ArePrinted passes (map f (take (suc i) xs)) text → ArePrinted passes (map f xs) text

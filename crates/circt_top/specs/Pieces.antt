@@ -48,18 +48,18 @@ abbrev pub empty_piece : Piece
 empty_piece = record { before = []; bytes = [] }
 
 -- a piece that stands after a line more
-abbrev pub behind : List ℕ → Piece → Piece
-behind line p = record { before = line ++ p.before; bytes = p.bytes }
+abbrev pub following : List ℕ → Piece → Piece
+following line p = record { before = line ++ p.before; bytes = p.bytes }
 
 -- pieces of which the first one begins with a line more, after which the others stand
 abbrev pub begun_with : List ℕ → List Piece → List Piece
 begun_with line [] = []
-begun_with line (p ∷ ps) = record { before = p.before; bytes = line ++ p.bytes } ∷ map (behind line) ps
+begun_with line (p ∷ ps) = record { before = p.before; bytes = line ++ p.bytes } ∷ map (following line) ps
 
 -- the pieces of lines: before a separator a piece ends, and it belongs to none
 abbrev pub pieces_of_lines : List (List ℕ) → List Piece
 pieces_of_lines [] = empty_piece ∷ []
-pieces_of_lines (line ∷ lines) = cond (is_separator line) (empty_piece ∷ map (behind line) (pieces_of_lines lines)) (begun_with line (pieces_of_lines lines))
+pieces_of_lines (line ∷ lines) = cond (is_separator line) (empty_piece ∷ map (following line) (pieces_of_lines lines)) (begun_with line (pieces_of_lines lines))
 
 -- the pieces of a text
 abbrev pub pieces_of : List ℕ → List Piece
@@ -84,11 +84,11 @@ in_whole p r = record { file = 0; place = place_in_whole p r.place; op = op_in_w
 -- ---- texts
 
 -- texts, each after a line `// -----`
-abbrev pub joined_behind : List (List ℕ) → List ℕ
-joined_behind [] = []
-joined_behind (text ∷ texts) = codes "// -----\n" ++ (text ++ joined_behind texts)
+abbrev pub joined_after : List (List ℕ) → List ℕ
+joined_after [] = []
+joined_after (text ∷ texts) = codes "// -----\n" ++ (text ++ joined_after texts)
 
 -- texts with a line `// -----` between each two
 abbrev pub joined : List (List ℕ) → List ℕ
 joined [] = []
-joined (text ∷ texts) = text ++ joined_behind texts
+joined (text ∷ texts) = text ++ joined_after texts

@@ -13,7 +13,7 @@ use Rattle.hw_edits.specs.Falls.{LocalHeight}
 use Rattle.hw_edits.specs.Laws.{IsNotOf}
 use Rattle.hw_edits.proofs.Uses.{own_height, operand_lower, operand_other}
 use Rattle.fold_laws.specs.Standing.{Stand}
-use Rattle.fold_laws.proofs.Behind.{IsBehind}
+use Rattle.fold_laws.proofs.MakerOperands.{IsMakerOperand}
 use Rattle.fold_laws.proofs.MadeKinds.{made_plain}
 use Rattle.fold_laws.proofs.Stands.{IsStand, op_found, op_plain, op_typed, op_has_one, op_known}
 use Rattle.comb_fold.specs.Rows.{StandsInFit}
@@ -50,8 +50,8 @@ not_its_own md i o t u (h, local) there plain typed has_one j c made_there plain
         cc
 
 -- an operand of the operation that made an operand
-pub stands_behind_in_fit : (stand : Stand) → IsBehind stand → StandsInFit stand
-stands_behind_in_fit stand shown d k md i o x fit at there is =
+pub maker_operand_in_fit : (stand : Stand) → IsMakerOperand stand → StandsInFit stand
+maker_operand_in_fit stand shown d k md i o x fit at there is =
     let made = shown.made md.body o.kind o.types o.operands x is in
     let maker = shown.maker md.body o.kind o.types o.operands x is in
     let t = type_or_none (type_of_result o.kind o.types (length o.operands)) in

@@ -50,10 +50,10 @@ op_at_position f id (p ∷ ops) o is = go (nat_eq p.id id) is (op_at_position f 
 -- ---- an operation put before another one
 
 -- the other one is then one place further
-pub position_behind : (b : OpId) (o : BodyOp) (ops : List BodyOp) → Contains (ids_in ops) b.index → (o.id ≡ b.index → ⊥)
+pub position_after : (b : OpId) (o : BodyOp) (ops : List BodyOp) → Contains (ids_in ops) b.index → (o.id ≡ b.index → ⊥)
     → position_of (ids_in (put_before (Some b) o ops)) b.index ≡ suc (position_of (ids_in ops) b.index)
-position_behind b o [] (k, l, e) other = absurd (omega (arith, l))
-position_behind b o (p ∷ ops) there other = go (nat_eq p.id b.index) refl there (position_behind b o ops)
+position_after b o [] (k, l, e) other = absurd (omega (arith, l))
+position_after b o (p ∷ ops) there other = go (nat_eq p.id b.index) refl there (position_after b o ops)
   where
     not_it : nat_eq o.id b.index ≡ false
     not_it = test (nat_eq o.id b.index) refl

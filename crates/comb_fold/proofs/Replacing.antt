@@ -17,7 +17,7 @@ use Rattle.ir_store.proofs.Numbering.{numbered-put_before}
 use Rattle.hw_edits.specs.Laws.{down, ref_after_erase, without, erase_op}
 use Rattle.hw_edits.proofs.Positions.{down_same, down_none}
 use Rattle.comb_fold.specs.Replaceable.{IsNoFurther, HasNoFurther, HaveNoFurther}
-use Rattle.comb_fold.proofs.Positions.{position_within, position_behind, position_before}
+use Rattle.comb_fold.proofs.Positions.{position_within, position_after, position_before}
 use Rattle.comb_fold.proofs.Erasing.{numbered_erase}
 
 -- ---- values
@@ -36,7 +36,7 @@ after_same : (i : ℕ) → position_after_insert i i ≡ suc i
 after_same zero = refl
 after_same (suc i) = ap suc (after_same i)
 
--- a value is as before once an operation was put in at its position, and the one behind it is gone
+-- a value is as before once an operation was put in at its position, and the one after it is gone
 kept : (i : ℕ) (r : Ref) → IsNoFurther i r → without (suc i) (without (suc i) undefined (result i 0)) (pushed_ref i r) ≡ r
 kept i (port n) none = refl
 kept i undefined none = refl
@@ -97,7 +97,7 @@ pub numbered_number : (op id : OpId) (o : BodyOp) (ops : List BodyOp) → AreLiv
     ≡ set (ops_by_position ops) (position_of (ids_in ops) op.index) (op_by (position_of (ids_in ops)) o)
 numbered_number op id o ops live there is none fresh further unused =
     numbered_erase op (Result id 0) (put_before (Some op) o ops) more_live still unused
-    ∙ ap₂ (λ i x. erase_op i x (ops_by_position (put_before (Some op) o ops))) (position_behind op o ops there other) place
+    ∙ ap₂ (λ i x. erase_op i x (ops_by_position (put_before (Some op) o ops))) (position_after op o ops there other) place
     ∙ ap (erase_op (suc (position_of (ids_in ops) op.index)) (result (position_of (ids_in ops) op.index) 0)) (numbered-put_before op o ops live no_live there unknown)
     ∙ erase_put (position_of (ids_in ops) op.index) (op_by (position_of (ids_in ops)) o) (ops_by_position ops) within further no_operands
   where

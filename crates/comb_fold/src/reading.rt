@@ -1,7 +1,6 @@
-//! What rows read of a body: the operations that made values, constants, and whether two values are one.
+//! What rows read of a body: the operations that made values, and constants.
 ghost use Rattle.std.specs.Prelude.{◌≡◌, option_map};
 ghost use Rattle.ir_store.specs.declared.operation.Value.TheVariants.{Result};
-ghost use Rattle.ir_store.specs.BodyOps.{same_value};
 ghost use Rattle.fold_laws.specs.Constants.{constant_at, is_constant_where};
 ghost use Rattle.fold_laws.specs.Parts.{maker};
 ghost use Rattle.comb_fold.specs.Readable.{IsReadable};
@@ -55,25 +54,5 @@ pub fn meets(body: &Body, test: Test, value: Value) -> bool
     match constant_of(body, value) {
         Some(word) => test.holds(&word),
         None => false,
-    }
-}
-
-/// Whether two values are the same.
-pub fn same_values(a: Value, b: Value) -> bool
-    ensures { result ≡ same_value a b }
-{
-    match a {
-        Value::Port(m) => match b {
-            Value::Port(n) => m == n,
-            Value::Result(..) | Value::Undefined => false,
-        },
-        Value::Result(id, m) => match b {
-            Value::Result(other, n) => id.number() == other.number() && m == n,
-            Value::Port(_) | Value::Undefined => false,
-        },
-        Value::Undefined => match b {
-            Value::Undefined => true,
-            Value::Port(_) | Value::Result(..) => false,
-        },
     }
 }

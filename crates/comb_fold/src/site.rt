@@ -11,9 +11,9 @@ ghost use Rattle.comb_fold.specs.Tests.{test_of};
 ghost use Rattle.comb_fold.specs.Views.{HasOp, body_ops, position_in, op_seen, value_ref};
 
 use crate::constants::Test;
-use crate::reading::{constant_of, meets, same_values};
+use crate::reading::{constant_of, meets};
 use ir_store::body::{Body, Op};
-use ir_store::operation::{OpId, Value};
+use ir_store::operation::{OpId, Value, is_same};
 
 /// An operation of a body.
 #[derive(Drop)]
@@ -124,7 +124,7 @@ impl<'b> Site<'b> {
         ensures { option_map (ref_at self.now) result ≡ of_three_operands (λ c x y. when (same_ref x y) (Some x)) (refs_at self.now) }
     {
         match self.op.operands {
-            [_, x, y] => { if same_values(*x, *y) { Some(*x) } else { None } }
+            [_, x, y] => { if is_same(*x, *y) { Some(*x) } else { None } }
             _ => None,
         }
     }
@@ -152,7 +152,7 @@ impl<'b> Site<'b> {
         ensures { result ≡ number_where same_ref number (refs_at self.now) }
     {
         match self.op.operands {
-            [x, y] if same_values(*x, *y) => Some(number),
+            [x, y] if is_same(*x, *y) => Some(number),
             _ => None,
         }
     }

@@ -137,7 +137,7 @@ module _ (modules : List StoredModule) (distinct : HasDistinctSymbols (map numbe
             let number_is : edge.0 ≡ get_or order k 0 = cc in
             let there : t < length (call_lists design) = number_there s t place in
             let need : In t (edges (call_lists design) (get_or order k 0)) = subst (λ i. In t (edges (call_lists design) i)) number_is edge.2 in
-            before t (whole.behind k (get_or order k 0) t (slice_get-get_or order k 0 below) need there) (are.all (get_or order k 0) t need there)
+            before t (whole.following k (get_or order k 0) t (slice_get-get_or order k 0 below) need there) (are.all (get_or order k 0) t need there)
 
     pub all_known : (summaries : List Summary) (k : ℕ) → length order ≤ k
         → ((v : ℕ) → In v (take k order) → has_mark marks v ≡ true → IsSummed design (rows_of (slice_get summaries v)) v) → (top : Name)

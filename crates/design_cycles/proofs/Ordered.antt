@@ -84,9 +84,9 @@ operands_before ids all j vs are each r here =
         go false first b others never here rest = cc
 
 -- the operation that is read at a position
-pub behind_operands : (b : Body) (o : CodeOp) (all : List OpId) (j : ℕ) → all ≡ map op_id (ids_of b) → slice_get (ops_by_position (ops_of b)) j ≡ Some (op_view b o)
+pub after_operands : (b : Body) (o : CodeOp) (all : List OpId) (j : ℕ) → all ≡ map op_id (ids_of b) → slice_get (ops_by_position (ops_of b)) j ≡ Some (op_view b o)
     → list_all (is_before all j) o.operands.now ≡ true → StandsAfter (ops_by_position (ops_of b)) j
-behind_operands b o all j are at each x there plain r here =
+after_operands b o all j are at each x there plain r here =
     let same : Some x ≡ Some (op_view b o) = sym there ∙ at in
     let is : x ≡ op_view b o = cc in
     operands_before (ids_of b) all j o.operands.now are each r (subst (λ (y : Op). In r y.operands) is here)
@@ -100,13 +100,13 @@ not_register b o s other is = sym is ∙ go s other
     go Gives other = refl
     go Made other = refl
 
-pub behind_or_late : (b : Body) (o : CodeOp) (all : List OpId) (j : ℕ) (r : Bool) → all ≡ map op_id (ids_of b) → slice_get (ops_by_position (ops_of b)) j ≡ Some (op_view b o)
+pub after_or_late : (b : Body) (o : CodeOp) (all : List OpId) (j : ℕ) (r : Bool) → all ≡ map op_id (ids_of b) → slice_get (ops_by_position (ops_of b)) j ≡ Some (op_view b o)
     → is_register (op_view b o) ≡ false → r ≡ list_all (is_before all j) o.operands.now → MatchBool r (StandsAfter (ops_by_position (ops_of b)) j) (IsLate b all j)
-behind_or_late b o all j true are at plain is = behind_operands b o all j are at (sym is)
-behind_or_late b o all j false are at plain is = record { op_there = o; has_op = at; plain = plain; late = sym is }
+after_or_late b o all j true are at plain is = after_operands b o all j are at (sym is)
+after_or_late b o all j false are at plain is = record { op_there = o; has_op = at; plain = plain; late = sym is }
 
-pub register_behind : (b : Body) (o : CodeOp) (j : ℕ) → slice_get (ops_by_position (ops_of b)) j ≡ Some (op_view b o) → is_register (op_view b o) ≡ true → StandsAfter (ops_by_position (ops_of b)) j
-register_behind b o j at is x there plain r here =
+pub register_after : (b : Body) (o : CodeOp) (j : ℕ) → slice_get (ops_by_position (ops_of b)) j ≡ Some (op_view b o) → is_register (op_view b o) ≡ true → StandsAfter (ops_by_position (ops_of b)) j
+register_after b o j at is x there plain r here =
     let same : Some x ≡ Some (op_view b o) = sym there ∙ at in
     let one : x ≡ op_view b o = cc in
     let kept : is_register x ≡ true = ap is_register one ∙ is in cc
@@ -115,15 +115,15 @@ pub if_true : (A B : Type 0) (r : Bool) → r ≡ true → MatchBool r A B → A
 if_true A B true is h = h
 if_true A B false is h = cc
 
-pub one_behind : (os : List Op) (n : ℕ) → ((j : ℕ) → j < n → StandsAfter os j) → StandsAfter os n → (j : ℕ) → j < n + 1 → StandsAfter os j
-one_behind os n before here j low = go (grind arith)
+pub one_after : (os : List Op) (n : ℕ) → ((j : ℕ) → j < n → StandsAfter os j) → StandsAfter os n → (j : ℕ) → j < n + 1 → StandsAfter os j
+one_after os n before here j low = go (grind arith)
   where
     go : (j < n) ⊎ (j ≡ n) → StandsAfter os j
     go (inl under) = before j under
     go (inr same) = subst (StandsAfter os) (sym same) here
 
-pub all_behind : (os : List Op) (n : ℕ) → length os ≤ n → ((j : ℕ) → j < n → StandsAfter os j) → IsInOrder os
-all_behind os n all each j o there =
+pub all_after : (os : List Op) (n : ℕ) → length os ≤ n → ((j : ℕ) → j < n → StandsAfter os j) → IsInOrder os
+all_after os n all each j o there =
     let bound : j < length os = slice_get_within os j o there in
     each j (omega arith) o there
 

@@ -45,7 +45,7 @@ order_none lists placed size none = record {
   count = size;
   listed = λ v is. let e : has_mark placed v ≡ false = none v in absurd (false_true e is);
   placed_all = λ v here. absurd here;
-  behind = λ i v t is need below. cc;
+  following = λ i v t is need below. cc;
 }
   where
     false_true : {b : Bool} → b ≡ false → b ≡ true → ⊥
@@ -57,7 +57,7 @@ order_more lists placed nodes x order can = record {
   count = length-set placed x true ∙ order.count;
   listed = λ v is. listed v (marked_cases placed x v is);
   placed_all = λ v here. placed_all v (In-append_cases v nodes (x ∷ []) here);
-  behind = λ i v t is need below. behind i v t (grind arith) is need below;
+  following = λ i v t is need below. following i v t (grind arith) is need below;
 }
   where
     listed : (v : ℕ) → (v ≡ x) ⊎ (has_mark placed v ≡ true) → In v (nodes ++ x ∷ [])
@@ -75,11 +75,11 @@ order_more lists placed nodes x order can = record {
         let size : length (nodes ++ x ∷ []) ≡ length nodes + 1 = length-append nodes (x ∷ []) in
         omega arith
 
-    behind : (i v t : ℕ) → (i < length nodes) ⊎ (length nodes ≤ i) → slice_get (nodes ++ x ∷ []) i ≡ Some v → In t (edges lists v) → t < length lists → In t (take i (nodes ++ x ∷ []))
-    behind i v t (inl before) is need below =
+    following : (i v t : ℕ) → (i < length nodes) ⊎ (length nodes ≤ i) → slice_get (nodes ++ x ∷ []) i ≡ Some v → In t (edges lists v) → t < length lists → In t (take i (nodes ++ x ∷ []))
+    following i v t (inl before) is need below =
         let is' : slice_get nodes i ≡ Some v = sym (slice_get-append_left nodes (x ∷ []) i before) ∙ is in
-        subst (In t) (sym (take-append-le i nodes (x ∷ []) (omega arith))) (order.behind i v t is' need below)
-    behind i v t (inr past) is need below =
+        subst (In t) (sym (take-append-le i nodes (x ∷ []) (omega arith))) (order.following i v t is' need below)
+    following i v t (inr past) is need below =
         let at : i ≡ length nodes = let bound : i < length nodes + 1 = within_some i v is in omega arith in
         let last : slice_get (nodes ++ x ∷ []) i ≡ Some x = ap (slice_get (nodes ++ x ∷ [])) at ∙ slice_get-append_at nodes x [] in
         let same : v ≡ x = cc in
@@ -195,7 +195,7 @@ module _ (lists : List (List ℕ)) (placed : List Bool) (nodes : List ℕ) (orde
       by_node : (t < length lists) ⊎ (length lists ≤ t) → ((j : ℕ) → slice_get nodes j ≡ Some t → k ≤ suc j) → suc k ≤ suc i
       by_node (inr far) later = let none : k ≤ 0 = past k t w far chain in omega arith
       by_node (inl near) later =
-          let found = position_before t nodes i (order.behind i v t at need near) in
+          let found = position_before t nodes i (order.following i v t at need near) in
           let rest : k ≤ suc found.0 = later found.0 found.2 in
           let lower : found.0 < i = found.1 in
           omega arith

@@ -180,7 +180,7 @@ module _ (d : Design) (distinct : HasDistinctSymbols d) (finite : HasNoRecursion
       by_number true same =
           let e : v ≡ i = eqb-true v i same in
           ap (λ n. get_or (set weights i w) n 0) e ∙ get_or-set_same weights i w 0 within
-          ∙ weighs_module weights i one w (ap (slice_get d) (sym e) ∙ at) (λ t edge near. before t (whole.behind k i t there edge near)) weighed
+          ∙ weighs_module weights i one w (ap (slice_get d) (sym e) ∙ at) (λ t edge near. before t (whole.following k i t there edge near)) weighed
       by_number false other =
           let apart : v ≢ i = eqb-false v i other in
           get_or-set_other weights i v w 0 apart ∙ before v (earlier (In-append_cases v (take k order) (get_or order k 0 ∷ []) (subst (In v) (take_more order k 0 below) here))) one at
@@ -195,7 +195,7 @@ pub order_whole : (lists : List (List ℕ)) (placed : List Bool) (nodes : List �
 order_whole lists placed nodes order complete = record {
   within = λ v here. subst (λ n. v < n) order.count (marked_within placed v (order.placed_all v here));
   all = λ v below. order.listed v (complete v below);
-  behind = order.behind;
+  following = order.following;
 }
 
 -- ---- the answer

@@ -8,7 +8,7 @@ pub record IsOrder (lists : List (List ℕ)) (placed : List Bool) (nodes : List 
   pub count : length placed ≡ length lists
   pub listed : (v : ℕ) → has_mark placed v ≡ true → In v nodes
   pub placed_all : (v : ℕ) → In v nodes → has_mark placed v ≡ true
-  pub behind : (i v t : ℕ) → slice_get nodes i ≡ Some v → In t (edges lists v) → t < length lists → In t (take i nodes)
+  pub following : (i v t : ℕ) → slice_get nodes i ≡ Some v → In t (edges lists v) → t < length lists → In t (take i nodes)
 
 -- from a node, where there is one, a chain leads to v
 abbrev pub LeadsTo : List (List ℕ) → Option ℕ → ℕ → Type 0

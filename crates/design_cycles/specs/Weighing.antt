@@ -30,4 +30,4 @@ Weighs d weights m i = (one : Module) → slice_get d i ≡ Some one → slice_i
 pub record IsWhole (lists : List (List ℕ)) (nodes : List ℕ) : Type 0 where
   pub within : (v : ℕ) → In v nodes → v < length lists
   pub all : (v : ℕ) → v < length lists → In v nodes
-  pub behind : (i v t : ℕ) → slice_get nodes i ≡ Some v → In t (edges lists v) → t < length lists → In t (take i nodes)
+  pub following : (i v t : ℕ) → slice_get nodes i ≡ Some v → In t (edges lists v) → t < length lists → In t (take i nodes)

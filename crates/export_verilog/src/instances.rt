@@ -26,16 +26,16 @@ pub fn push_connection(
     out: &mut Text,
     port: &[u8],
     value: &[u8],
-    behind: &[u8],
+    following: &[u8],
 ) -> Result<(), AllocError>
-    ensures { OnOk result (out.new ≡ out.old ++ connection_text (written_connection port.now value.now) behind.now) }
+    ensures { OnOk result (out.new ≡ out.old ++ connection_text (written_connection port.now value.now) following.now) }
 {
     out.push_bytes(b"    .")?;
     out.push_bytes(port)?;
     out.push_bytes(b"(")?;
     out.push_bytes(value)?;
     out.push_bytes(b")")?;
-    out.push_bytes(behind)?;
+    out.push_bytes(following)?;
     Ok(())
 }
 

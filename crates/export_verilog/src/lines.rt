@@ -11,12 +11,17 @@ use verilog_expr::{high_of, push_decimal};
 
 /// Adds the range of so many bits, and a name with what stands after it (IEEE 1364-2005, 3.3: vectors).
 #[tactic(auto, using(std::proofs::Common::append_assoc), unfolding(crate::specs::Layout::range_text))]
-pub fn push_ranged(out: &mut Text, width: u64, name: &[u8], behind: &[u8]) -> Result<(), AllocError>
-    ensures { OnOk result (out.new ≡ out.old ++ range_text (high_of width) (name.now ++ behind.now)) }
+pub fn push_ranged(
+    out: &mut Text,
+    width: u64,
+    name: &[u8],
+    following: &[u8],
+) -> Result<(), AllocError>
+    ensures { OnOk result (out.new ≡ out.old ++ range_text (high_of width) (name.now ++ following.now)) }
 {
     push_range(out, width)?;
     out.push_bytes(name)?;
-    out.push_bytes(behind)?;
+    out.push_bytes(following)?;
     Ok(())
 }
 

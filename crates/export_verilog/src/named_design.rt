@@ -34,8 +34,8 @@ impl<'d> NamedDesign<'d> {
     ghost use Rattle.std.specs.Prelude.{◌≡◌, IfOk};
     ghost use Rattle.ir_store.specs.Designs.{design_of};
 
-    /// A design with the names that Verilog gives to its modules and to their ports. The error comes only for want of
-    /// memory.
+    /// A design with the names that Verilog gives to its modules and to their ports. The error comes only where memory
+    /// runs out.
     pub fn of(alloc: Global, design: &'d Design) -> Result<NamedDesign<'d>, AllocError>
         ensures { IfOk result (λ all. design_of all.design.now ≡ design_of design.now) }
     {

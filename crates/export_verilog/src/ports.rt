@@ -27,14 +27,14 @@ pub fn line_end(are_left: bool) -> &'static [u8]
 
 // Adds a port under a name, and what stands after it.
 #[tactic(auto, using(std::proofs::Common::append_assoc), unfolding(crate::specs::Layout::port_text))]
-fn push_port(out: &mut Text, port: &Port, name: &[u8], behind: &[u8]) -> Result<(), AllocError>
+fn push_port(out: &mut Text, port: &Port, name: &[u8], following: &[u8]) -> Result<(), AllocError>
     requires narrow { width (port_of port.now).type < 2 ^ 64 }
-    ensures { OnOk result (out.new ≡ out.old ++ port_text (port_named name.now (port_of port.now)) behind.now) }
+    ensures { OnOk result (out.new ≡ out.old ++ port_text (port_named name.now (port_of port.now)) following.now) }
 {
     out.push_bytes(b"  ")?;
     out.push_bytes(direction(port.out))?;
     out.push_bytes(b" wire ")?;
-    push_ranged(out, port.ty.width(), name, behind)?;
+    push_ranged(out, port.ty.width(), name, following)?;
     Ok(())
 }
 

@@ -10,14 +10,14 @@ use Rattle.fold_laws.specs.Parts.{struct_part, extract_part, array_part, fold_st
 use Rattle.fold_laws.specs.Standing.{single_operand, absorbing_and, absorbing_or, absorbing_mul, sub_zero, shift_zero, div_one, mux_constant, mux_same, mux_bool, full_extract, trivial_concat, trivial_replicate, trivial_bitcast, fold_trivial_concat, fold_trivial_replicate, fold_trivial_bitcast}
 use Rattle.fold_laws.specs.Table.{fold_xor_equal, fold_trivial, fold_made_part, rows, AllFold}
 use Rattle.fold_laws.proofs.AnyOperands.{single_operand_stands, absorbing_and_stands, absorbing_or_stands, absorbing_mul_stands}
-use Rattle.fold_laws.proofs.ArrayParts.{array_part_behind}
-use Rattle.fold_laws.proofs.Behind.{behind_is_fold}
+use Rattle.fold_laws.proofs.ArrayParts.{array_part_law}
+use Rattle.fold_laws.proofs.MakerOperands.{maker_operand_is_fold}
 use Rattle.fold_laws.proofs.Choices.{mux_constant_stands, mux_same_stands, mux_bool_stands}
 use Rattle.fold_laws.proofs.ConstantLast.{constant_last_law}
 use Rattle.fold_laws.proofs.Evaluated.{evaluated_makes}
 use Rattle.fold_laws.proofs.FewerOperands.{operands_are_fold, reduction_is_fold}
 use Rattle.fold_laws.proofs.FewerRows.{add_zero_reduces, or_zero_reduces, xor_zero_reduces, and_ones_reduces, mul_one_reduces, repeated_reduces}
-use Rattle.fold_laws.proofs.JoinedParts.{extract_part_behind}
+use Rattle.fold_laws.proofs.JoinedParts.{extract_part_law}
 use Rattle.fold_laws.proofs.NestedConcats.{nested_concat_is_fold}
 use Rattle.fold_laws.proofs.NestedExtracts.{extract_extract_is_fold}
 use Rattle.fold_laws.proofs.NestedOperands.{nested_operand_is_fold}
@@ -25,7 +25,7 @@ use Rattle.fold_laws.proofs.NeutralSecond.{sub_zero_stands, shift_zero_stands, d
 use Rattle.fold_laws.proofs.Numbered.{number_is_fold}
 use Rattle.fold_laws.proofs.NumberRows.{sub_self_makes, xor_self_makes, shift_out_makes, rest_by_one_makes, icmp_self_makes}
 use Rattle.fold_laws.proofs.Pairs.{xor_pair_reduces}
-use Rattle.fold_laws.proofs.Parts.{struct_part_behind}
+use Rattle.fold_laws.proofs.Parts.{struct_part_law}
 use Rattle.fold_laws.proofs.Stands.{stand_is_fold}
 use Rattle.fold_laws.proofs.Table.{first_row_folds}
 use Rattle.fold_laws.proofs.TwoConstants.{two_constants_are_fold}
@@ -43,14 +43,14 @@ trivial_is_fold =
 
 made_part_is_fold : FoldLaw (fold_by fold_made_part)
 made_part_is_fold =
-    first_row_folds (fold_struct_part ∷ fold_array_part ∷ []) (behind_is_fold struct_part struct_part_behind, (behind_is_fold array_part array_part_behind, tt))
+    first_row_folds (fold_struct_part ∷ fold_array_part ∷ []) (maker_operand_is_fold struct_part struct_part_law, (maker_operand_is_fold array_part array_part_law, tt))
 
 -- ---- the rows of the table from one on, the last ones first
 
 parts_fold : AllFold (drop 26 rows)
 parts_fold = (
   stand_is_fold full_extract full_extract_stands,
-  (extract_extract_is_fold, (behind_is_fold extract_part extract_part_behind, (nested_concat_is_fold, (trivial_is_fold, (made_part_is_fold, tt))))),
+  (extract_extract_is_fold, (maker_operand_is_fold extract_part extract_part_law, (nested_concat_is_fold, (trivial_is_fold, (made_part_is_fold, tt))))),
 )
 
 choices_fold : AllFold (drop 23 rows)

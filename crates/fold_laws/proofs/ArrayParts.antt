@@ -20,8 +20,8 @@ use Rattle.hw_model.specs.Design.Ref.{port, result, undefined}
 use Rattle.hw_model.specs.Value.{concat_words, element, nth_type, op_value}
 use Rattle.fold_laws.specs.Constants.{constant_at}
 use Rattle.fold_laws.specs.Parts.{maker, element_operand, created_element, element_of_made, array_part}
-use Rattle.fold_laws.proofs.Behind.{Maker, StandsBehind, IsBehind}
-use Rattle.fold_laws.proofs.JoinedParts.{extract_behind}
+use Rattle.fold_laws.proofs.MakerOperands.{Maker, MakerOperandStands, IsMakerOperand}
+use Rattle.fold_laws.proofs.JoinedParts.{extract_after}
 use Rattle.fold_laws.proofs.MadeKinds.{is_made}
 use Rattle.fold_laws.proofs.Stands.{Known, held_width}
 
@@ -73,7 +73,7 @@ module _ (τ : Ref → Word) (w : ℕ) where
           ap₂ (λ k m. bits_from k m (τ y ++ concat_words (map τ ys))) (ap (λ k. k * w) (number_from n (length ys) met) ∙ sym size) (sym (wide y (inl refl)))
           ∙ extract-append [] (τ y) (concat_words (map τ ys)) ∙ ap τ same
       go false met h later =
-          extract_behind (n * w) w (τ y) (concat_words (map τ ys)) (subst (λ m. n * w + w ≤ m) (sym size) (room n (length ys) (element_is n ys x h).within)) ∙ later h
+          extract_after (n * w) w (τ y) (concat_words (map τ ys)) (subst (λ m. n * w + w ≤ m) (sym size) (room n (length ys) (element_is n ys x h).within)) ∙ later h
 
 -- ---- what was made
 
@@ -135,9 +135,9 @@ indexed_maker os rs x made = record {
 element_within : (n : ℕ) (e : HwType) (a : Word) (i : ℕ) → i < n → element (array n e) a i ≡ bits_from (i * width e) (width e) a
 element_within n e a i less = ap (λ b. cond b (bits_from (i * width e) (width e) a) (zeros (width e))) (lt-ltb i n less)
 
-pub array_part_behind : IsBehind array_part
+pub array_part_law : IsMakerOperand array_part
 unfolding indexed_maker
-array_part_behind = record { made = made; maker = the_maker; stands = stands }
+array_part_law = record { made = made; maker = the_maker; stands = stands }
   where
     made : (os : List Op) (kind : Kind) (ts : List HwType) (rs : List Ref) (x : Ref) → array_part os kind ts rs ≡ Some x → is_made kind ≡ true
     made os (on_array array_get) ts rs x is = refl
@@ -149,7 +149,7 @@ array_part_behind = record { made = made; maker = the_maker; stands = stands }
 
     of_indexed : (os : List Op) (ts : List HwType) (rs : List Ref) (x : Ref) (type_of : Ref → Option HwType) (t u : HwType)
         → (c : Indexed os rs x) → Known os (on_array array_get) ts rs type_of t → type_of (result c.position 0) ≡ Some u → Known os c.op.kind c.op.types c.op.operands type_of u
-        → StandsBehind os (on_array array_get) ts rs x (indexed_maker os rs x c) type_of t u
+        → MakerOperandStands os (on_array array_get) ts rs x (indexed_maker os rs x c) type_of t u
     of_indexed os ts rs x type_of t u c known typed maker_known =
         let own = known.fits in
         let from = subst (λ z. Known os z c.op.types c.op.operands type_of u) c.kind maker_known in
@@ -179,6 +179,6 @@ array_part_behind = record { made = made; maker = the_maker; stands = stands }
     stands : (os : List Op) (kind : Kind) (ts : List HwType) (rs : List Ref) (x : Ref) (type_of : Ref → Option HwType) (t u : HwType)
         → (is : array_part os kind ts rs ≡ Some x) → Known os kind ts rs type_of t → type_of (result (the_maker os kind ts rs x is).position 0) ≡ Some u
         → Known os (the_maker os kind ts rs x is).op.kind (the_maker os kind ts rs x is).op.types (the_maker os kind ts rs x is).op.operands type_of u
-        → StandsBehind os kind ts rs x (the_maker os kind ts rs x is) type_of t u
+        → MakerOperandStands os kind ts rs x (the_maker os kind ts rs x is) type_of t u
     stands os (on_array array_get) ts rs x type_of t u is known typed maker_known = of_indexed os ts rs x type_of t u (indexed os rs x is) known typed maker_known
     stands os _ ts rs x type_of t u is known typed maker_known = cc

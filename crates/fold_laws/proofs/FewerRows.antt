@@ -210,8 +210,8 @@ repeat_drops : (rs rs' : List Ref) → without_repeat rs ≡ Some rs' → Drops 
 repeat_drops [] rs' is = cc
 repeat_drops (x ∷ xs) rs' is = go (without_first (same_ref x) xs) refl is (repeat_drops xs)
   where
-    behind : (ys : List Ref) → Drops xs ys → x ∷ ys ≡ rs' → Drops (x ∷ xs) rs' × (1 ≤ length rs')
-    behind ys inner same =
+    following : (ys : List Ref) → Drops xs ys → x ∷ ys ≡ rs' → Drops (x ∷ xs) rs' × (1 ≤ length rs')
+    following ys inner same =
         subst (λ q. Drops (x ∷ xs) q × (1 ≤ length q)) same
         (record { count = ap suc inner.count; within = λ r here. within_more r here }, omega arith)
       where
@@ -222,10 +222,10 @@ repeat_drops (x ∷ xs) rs' is = go (without_first (same_ref x) xs) refl is (rep
     go : (o : Option (List Ref)) → without_first (same_ref x) xs ≡ o
         → or_else (omap (λ (ys : List Ref). x ∷ ys) o) (omap (λ (ys : List Ref). x ∷ ys) (without_repeat xs)) ≡ Some rs'
         → ((ys : List Ref) → without_repeat xs ≡ Some ys → Drops xs ys × (1 ≤ length ys)) → Drops (x ∷ xs) rs' × (1 ≤ length rs')
-    go (Some ys) there h later = behind ys (drops (same_ref x) xs ys there) cc
+    go (Some ys) there h later = following ys (drops (same_ref x) xs ys there) cc
     go None there h later =
         let rest = omap_some (λ (ys : List Ref). x ∷ ys) (without_repeat xs) h in
-        behind rest.0 (later rest.0 rest.1).0 rest.2
+        following rest.0 (later rest.0 rest.1).0 rest.2
 
 repeat_reduces : (v : Variadic) (os : List Op) (rs rs' : List Ref) → without_repeat rs ≡ Some rs'
     → ((w : ℕ) (τ : Ref → Word) → variadic_value v w (map τ rs) ≡ variadic_value v w (map τ rs')) → Reduces v os rs rs'

@@ -25,7 +25,7 @@ use Rattle.op_checks.specs.TypeLists.{known_types, differ}
 use Rattle.op_checks.proofs.Agreeing.{pairwise_agreed}
 use Rattle.op_checks.proofs.Widths.{neither}
 use Rattle.fold_laws.specs.Parts.{covered_operand, joined_operand, covered_of_made, extract_part}
-use Rattle.fold_laws.proofs.Behind.{Maker, StandsBehind, IsBehind}
+use Rattle.fold_laws.proofs.MakerOperands.{Maker, MakerOperandStands, IsMakerOperand}
 use Rattle.fold_laws.proofs.IntegerTypes.{integer_second}
 use Rattle.fold_laws.proofs.MadeKinds.{is_made}
 use Rattle.fold_laws.proofs.Stands.{Known, held_width}
@@ -79,8 +79,8 @@ covered low w (u ∷ us) (y ∷ ys) x type_of types is =
 
 -- ---- words
 
-pub extract_behind : (low w : ℕ) (y z : Word) → low + w ≤ length z → bits_from low w (y ++ z) ≡ bits_from low w z
-extract_behind low w y z room =
+pub extract_after : (low w : ℕ) (y z : Word) → low + w ≤ length z → bits_from low w (y ++ z) ≡ bits_from low w z
+extract_after low w y z room =
     let gap : length (y ++ z) - (low + w) ≡ length y + (length z - (low + w)) = omega (arith, length-append y z) in
     ap (λ k. take w (drop k (y ++ z))) gap ∙ ap (take w) (drop-append-add y z (length z - (low + w)))
 
@@ -114,7 +114,7 @@ module _ (type_of : Ref → Option HwType) (τ : Ref → Word) (wide : (r : Ref)
           ∙ extract-append [] (τ y) (concat_words (map τ ys)) ∙ ap τ same
       go false met first rest h later =
           let inner = covered low w us ys x type_of rest h in
-          extract_behind low w (τ y) (concat_words (map τ ys)) (subst (λ n. low + w ≤ n) (sym (joined_size us ys rest)) inner.within) ∙ later h
+          extract_after low w (τ y) (concat_words (map τ ys)) (subst (λ n. low + w ≤ n) (sym (joined_size us ys rest)) inner.within) ∙ later h
 
 -- ---- types
 
@@ -189,9 +189,9 @@ joined_maker os low w rs x made = record {
   named = covered_named low w made.op.types made.op.operands x made.part_is;
 }
 
-pub extract_part_behind : IsBehind extract_part
+pub extract_part_law : IsMakerOperand extract_part
 unfolding joined_maker has_other_form type_of_result type_count
-extract_part_behind = record { made = made; maker = the_maker; stands = stands }
+extract_part_law = record { made = made; maker = the_maker; stands = stands }
   where
     made : (os : List Op) (kind : Kind) (ts : List HwType) (rs : List Ref) (x : Ref) → extract_part os kind ts rs ≡ Some x → is_made kind ≡ true
     made os (extract low) ts rs x is = refl
@@ -203,7 +203,7 @@ extract_part_behind = record { made = made; maker = the_maker; stands = stands }
 
     of_joined : (os : List Op) (low : ℕ) (ts : List HwType) (rs : List Ref) (x : Ref) (type_of : Ref → Option HwType) (t u : HwType)
         → (c : Joined os low (width (nth_type ts 1)) rs x) → Known os (extract low) ts rs type_of t → Known os c.op.kind c.op.types c.op.operands type_of u
-        → StandsBehind os (extract low) ts rs x (joined_maker os low (width (nth_type ts 1)) rs x c) type_of t u
+        → MakerOperandStands os (extract low) ts rs x (joined_maker os low (width (nth_type ts 1)) rs x c) type_of t u
     of_joined os low ts rs x type_of t u c known maker_known =
         let from = subst (λ z. Known os z c.op.types c.op.operands type_of u) c.kind maker_known in
         let types = joined_types os c.op.types c.op.operands type_of u from in
@@ -224,7 +224,7 @@ extract_part_behind = record { made = made; maker = the_maker; stands = stands }
     stands : (os : List Op) (kind : Kind) (ts : List HwType) (rs : List Ref) (x : Ref) (type_of : Ref → Option HwType) (t u : HwType)
         → (is : extract_part os kind ts rs ≡ Some x) → Known os kind ts rs type_of t → type_of (result (the_maker os kind ts rs x is).position 0) ≡ Some u
         → Known os (the_maker os kind ts rs x is).op.kind (the_maker os kind ts rs x is).op.types (the_maker os kind ts rs x is).op.operands type_of u
-        → StandsBehind os kind ts rs x (the_maker os kind ts rs x is) type_of t u
+        → MakerOperandStands os kind ts rs x (the_maker os kind ts rs x is) type_of t u
     stands os (extract low) ts rs x type_of t u is known typed maker_known =
         of_joined os low ts rs x type_of t u (joined os low (width (nth_type ts 1)) rs x is) known maker_known
     stands os _ ts rs x type_of t u is known typed maker_known = cc

@@ -26,7 +26,7 @@ pub mod Numbered
 pub mod IntegerTypes
 pub mod NumberRows
 pub mod Evaluated
-pub mod Behind
+pub mod MakerOperands
 pub mod Parts
 pub mod JoinedParts
 pub mod ArrayParts

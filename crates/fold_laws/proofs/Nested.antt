@@ -22,7 +22,7 @@ use Rattle.hw_edits.specs.Follows.{Wide}
 use Rattle.hw_edits.specs.Laws.{erase_op, with_body, without, InPlace}
 use Rattle.hw_edits.proofs.ChangeInPlace.{plain_word, replace_op_preserves}
 use Rattle.hw_edits.proofs.Uses.{operand_lower}
-use Rattle.hw_edits.proofs.Weights.{weight_with_body, weight_taken_out}
+use Rattle.hw_edits.proofs.Weights.{weight-set, weight_with_body, weight_taken_out}
 use Rattle.accepted_edits.specs.Forms.{InPlaceFits}
 use Rattle.accepted_edits.specs.Keeps.{IsFit}
 use Rattle.accepted_edits.proofs.ChangedInPlace.{fit_in_place}
@@ -82,21 +82,6 @@ found_nest test md i o n at found outer inner plain = record {
   named = found.named;
   once = found.once;
 }
-
--- ---- weights
-
--- what a body weighs after an operation is changed
-weight-set : (inner : Name → ℕ) (os : List Op) (i : ℕ) (o o' : Op) → slice_get os i ≡ Some o
-    → kind_weight inner o.kind o.types (length o.operands) + body_weight inner (set os i o') ≡ kind_weight inner o'.kind o'.types (length o'.operands) + body_weight inner os
-weight-set inner [] i o o' is = cc
-weight-set inner (y ∷ ys) zero o o' is =
-    let same : kind_weight inner o.kind o.types (length o.operands) ≡ kind_weight inner y.kind y.types (length y.operands) =
-    (let one : o ≡ y = cc in ap (λ (z : Op). kind_weight inner z.kind z.types (length z.operands)) one) in
-    omega arith
-weight-set inner (y ∷ ys) (suc i) o o' is =
-    let rest : kind_weight inner o.kind o.types (length o.operands) + body_weight inner (set ys i o') ≡ kind_weight inner o'.kind o'.types (length o'.operands) + body_weight inner ys =
-    weight-set inner ys i o o' is in
-    omega arith
 
 -- ---- an operation of a fit design
 

@@ -15,7 +15,7 @@ use Rattle.hw_model.specs.Design.Ref.{port, result, undefined}
 use Rattle.hw_model.specs.Sound.{field_list, field_type, Fits}
 use Rattle.hw_model.specs.Value.{concat_words, fields, field_of, nth_type, op_value}
 use Rattle.fold_laws.specs.Parts.{field_operand, created_field, field_of_made, struct_part}
-use Rattle.fold_laws.proofs.Behind.{Maker, StandsBehind, IsBehind}
+use Rattle.fold_laws.proofs.MakerOperands.{Maker, MakerOperandStands, IsMakerOperand}
 use Rattle.fold_laws.proofs.MadeKinds.{is_made}
 use Rattle.fold_laws.proofs.Stands.{Known, held_width}
 
@@ -103,9 +103,9 @@ created_maker os fs name rs x made = record {
   named = field_named fs name made.op.operands x made.field_is;
 }
 
-pub struct_part_behind : IsBehind struct_part
+pub struct_part_law : IsMakerOperand struct_part
 unfolding created_maker
-struct_part_behind = record { made = made; maker = the_maker; stands = stands }
+struct_part_law = record { made = made; maker = the_maker; stands = stands }
   where
     made : (os : List Op) (kind : Kind) (ts : List HwType) (rs : List Ref) (x : Ref) → struct_part os kind ts rs ≡ Some x → is_made kind ≡ true
     made os (on_struct (struct_extract name)) ts rs x is = refl
@@ -118,7 +118,7 @@ struct_part_behind = record { made = made; maker = the_maker; stands = stands }
     of_created : (os : List Op) (name : Name) (ts : List HwType) (rs : List Ref) (x : Ref) (type_of : Ref → Option HwType) (t u : HwType)
         → (c : Created os (fields (nth_type ts 0)) name rs x) → Known os (on_struct (struct_extract name)) ts rs type_of t → type_of (result c.position 0) ≡ Some u
         → Known os c.op.kind c.op.types c.op.operands type_of u
-        → StandsBehind os (on_struct (struct_extract name)) ts rs x (created_maker os (fields (nth_type ts 0)) name rs x c) type_of t u
+        → MakerOperandStands os (on_struct (struct_extract name)) ts rs x (created_maker os (fields (nth_type ts 0)) name rs x c) type_of t u
     of_created os name ts rs x type_of t u c known typed maker_known =
         let own = known.fits in
         let from = subst (λ z. Fits z c.op.types (map type_of c.op.operands) u 0) c.kind maker_known.fits in
@@ -141,7 +141,7 @@ struct_part_behind = record { made = made; maker = the_maker; stands = stands }
     stands : (os : List Op) (kind : Kind) (ts : List HwType) (rs : List Ref) (x : Ref) (type_of : Ref → Option HwType) (t u : HwType)
         → (is : struct_part os kind ts rs ≡ Some x) → Known os kind ts rs type_of t → type_of (result (the_maker os kind ts rs x is).position 0) ≡ Some u
         → Known os (the_maker os kind ts rs x is).op.kind (the_maker os kind ts rs x is).op.types (the_maker os kind ts rs x is).op.operands type_of u
-        → StandsBehind os kind ts rs x (the_maker os kind ts rs x is) type_of t u
+        → MakerOperandStands os kind ts rs x (the_maker os kind ts rs x is) type_of t u
     stands os (on_struct (struct_extract name)) ts rs x type_of t u is known typed maker_known =
         of_created os name ts rs x type_of t u (created os (fields (nth_type ts 0)) name rs x is) known typed maker_known
     stands os _ ts rs x type_of t u is known typed maker_known = cc

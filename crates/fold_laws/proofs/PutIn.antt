@@ -1,5 +1,5 @@
 -- A body in which an operation is put in: its measure and its weight, and what stands where.
-use Rattle.std.proofs.Common.{◌≡◌, ℕ, zero, suc, ◌+◌, ◌≤◌, List, [], ◌∷◌, length, map, set, Option, Some, None, slice_get, refl, sym, ap, subst, ◌∙◌, arith}
+use Rattle.std.proofs.Common.{◌≡◌, ℕ, zero, suc, ◌+◌, ◌≤◌, List, [], ◌∷◌, length, map, Option, Some, None, slice_get, refl, sym, ap, subst, ◌∙◌, arith}
 use Rattle.std.specs.List.{insert}
 use Rattle.std.proofs.lemmas.List.{length-map}
 use Rattle.std.proofs.lemmas.Option.{slice_get-map}
@@ -12,6 +12,7 @@ use Rattle.hw_model.specs.Weight.{kind_weight, body_weight}
 use Rattle.hw_edits.specs.Edit.{retarget}
 use Rattle.hw_edits.specs.Laws.{up, up_ref, insert_op}
 use Rattle.hw_edits.proofs.Positions.{get_put}
+use Rattle.hw_edits.proofs.Weights.{weight-retarget}
 use Rattle.fold_laws.specs.Constants.{first_result_word, constant_at}
 use Rattle.fold_laws.specs.Fold.{op_measure, measure}
 use Rattle.fold_laws.proofs.Measures.{measure-retarget}
@@ -29,27 +30,6 @@ module _ (inner : Name → ℕ) where
   weight-insert [] (suc i) o within = absurd (omega arith)
   weight-insert (y ∷ ys) (suc i) o within =
       let rest : body_weight inner (insert ys i o) ≡ kind_weight inner o.kind o.types (length o.operands) + body_weight inner ys = weight-insert ys i o (omega arith) in
-      omega arith
-
-  weight-retarget : (f : Ref → Ref) (os : List Op) → body_weight inner (map (retarget f) os) ≡ body_weight inner os
-  weight-retarget f [] = refl
-  weight-retarget f (o ∷ os) =
-      let first : kind_weight inner o.kind o.types (length (map f o.operands)) ≡ kind_weight inner o.kind o.types (length o.operands) =
-      ap (kind_weight inner o.kind o.types) (length-map o.operands f) in
-      let rest : body_weight inner (map (retarget f) os) ≡ body_weight inner os = weight-retarget f os in
-      omega arith
-
-  pub weight-set : (os : List Op) (i : ℕ) (o o' : Op) → slice_get os i ≡ Some o
-      → kind_weight inner o.kind o.types (length o.operands) + body_weight inner (set os i o') ≡ kind_weight inner o'.kind o'.types (length o'.operands) + body_weight inner os
-  weight-set [] i o o' is = cc
-  weight-set (y ∷ ys) zero o o' is =
-      let same : o ≡ y = cc in
-      let equal : kind_weight inner o.kind o.types (length o.operands) ≡ kind_weight inner y.kind y.types (length y.operands) =
-      ap (λ (z : Op). kind_weight inner z.kind z.types (length z.operands)) same in
-      omega arith
-  weight-set (y ∷ ys) (suc i) o o' is =
-      let rest : kind_weight inner o.kind o.types (length o.operands) + body_weight inner (set ys i o') ≡ kind_weight inner o'.kind o'.types (length o'.operands) + body_weight inner ys =
-      weight-set ys i o o' is in
       omega arith
 
 -- where the position of an operation is once another one is put in there

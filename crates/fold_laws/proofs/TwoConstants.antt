@@ -27,7 +27,7 @@ use Rattle.op_checks.specs.OperandChecks.{has_other_form}
 use Rattle.hw_edits.specs.Edit.{retarget}
 use Rattle.hw_edits.specs.Laws.{up_ref, insert_op, with_body, Inserted}
 use Rattle.hw_edits.proofs.Inserted.{insert_op_preserves}
-use Rattle.hw_edits.proofs.Weights.{weight_with_body}
+use Rattle.hw_edits.proofs.Weights.{weight-set, weight_with_body}
 use Rattle.accepted_edits.specs.Keeps.{IsFitting, IsFit}
 use Rattle.accepted_edits.proofs.PutIn.{fit_inserted}
 use Rattle.pass_manager.specs.Steady.{IsSteady}
@@ -45,7 +45,7 @@ use Rattle.fold_laws.proofs.IntegerTypes.{IsIntegerType, integer_first}
 use Rattle.fold_laws.proofs.MadeKinds.{is_made}
 use Rattle.fold_laws.proofs.Measures.{measure-set}
 use Rattle.fold_laws.proofs.NumberOps.{number_fits}
-use Rattle.fold_laws.proofs.PutIn.{weight-set, new_op, next_op, old_constant, measure_put, weight_put}
+use Rattle.fold_laws.proofs.PutIn.{new_op, next_op, old_constant, measure_put, weight_put}
 use Rattle.fold_laws.proofs.Rows.{RowLaw, row_is_fold}
 use Rattle.fold_laws.proofs.Stands.{Known, op_found, op_typed, op_known}
 use Rattle.fold_laws.proofs.VariadicValues.{value_more, value_turned, value_wide, value_joined}

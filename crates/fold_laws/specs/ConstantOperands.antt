@@ -1,4 +1,4 @@
--- Rows by which constants among the operands of an operation of any number of them are joined, or moved behind the others (CIRCT,
+-- Rows by which constants among the operands of an operation of any number of them are joined, or moved after the others (CIRCT,
 -- Comb dialect: canonicalization of its operations).
 use Rattle.std.specs.Prelude.{ℕ, suc, Bool, false, cond, not, ◌&&◌, ◌||◌, map, List, [], ◌∷◌, ◌++◌, length, Option, Some, None, slice_get}
 use Rattle.wiring.specs.Options.{bind, omap}

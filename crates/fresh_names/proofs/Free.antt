@@ -58,14 +58,14 @@ all_below ts w k t h j lt = here (nat_eq j k) refl
     here false e = h j (omega (arith, lt, eqb-false j k e))
 
 -- where all the smaller ones are taken the first from a number on is free
-free_behind : (ts : List Name) (w : Name) (n k : ℕ) → n + k ≡ length ts → length ts + 1 < 2 ^ 64
+free_after : (ts : List Name) (w : Name) (n k : ℕ) → n + k ≡ length ts → length ts + 1 < 2 ^ 64
     → ((j : ℕ) → j < k → is_taken ts (with_suffix w j) ≡ true) → is_taken ts (free_from ts w n k) ≡ false
-free_behind ts w zero k e small h = go (is_taken ts (with_suffix w k)) refl
+free_after ts w zero k e small h = go (is_taken ts (with_suffix w k)) refl
   where
     go : (b : Bool) → is_taken ts (with_suffix w k) ≡ b → is_taken ts (with_suffix w k) ≡ false
     go true t = absurd (omega (arith, e, few w (k + 1) ts (omega (arith, e, small)) (all_below ts w k t h)))
     go false t = t
-free_behind ts w (suc n) k e small h = go (is_taken ts (with_suffix w k)) refl (free_behind ts w n (k + 1) (omega (arith, e)) small)
+free_after ts w (suc n) k e small h = go (is_taken ts (with_suffix w k)) refl (free_after ts w n (k + 1) (omega (arith, e)) small)
   where
     go : (b : Bool) → is_taken ts (with_suffix w k) ≡ b → (((j : ℕ) → j < k + 1 → is_taken ts (with_suffix w j) ≡ true) → is_taken ts (free_from ts w n (k + 1)) ≡ false)
         → is_taken ts (cond b (free_from ts w n (k + 1)) (with_suffix w k)) ≡ false
@@ -73,7 +73,7 @@ free_behind ts w (suc n) k e small h = go (is_taken ts (with_suffix w k)) refl (
     go false t rest = t
 
 pub suffix_free : (ts : List Name) (w : Name) → length ts + 1 < 2 ^ 64 → is_taken ts (free_from ts w (length ts) 0) ≡ false
-suffix_free ts w small = free_behind ts w (length ts) 0 (omega arith) small (λ j lt. absurd (omega (arith, lt)))
+suffix_free ts w small = free_after ts w (length ts) 0 (omega arith) small (λ j lt. absurd (omega (arith, lt)))
 
 pub name_free : (ts : List Name) (w : Name) → length ts + 1 < 2 ^ 64 → is_taken ts (free_name ts w) ≡ false
 unfolding free_name

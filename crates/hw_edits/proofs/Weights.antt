@@ -21,10 +21,10 @@ weight_with_body d m md os is lighter =
     changed inner = let body : body_weight inner os ≤ body_weight inner md.body = lighter inner in omega arith
 
 module _ (inner : Name → ℕ) where
-  abbrev op_weight : Op → ℕ
+  abbrev pub op_weight : Op → ℕ
   op_weight o = kind_weight inner o.kind o.types (length o.operands)
 
-  weight-retarget : (f : Ref → Ref) (os : List Op) → body_weight inner (map (retarget f) os) ≡ body_weight inner os
+  pub weight-retarget : (f : Ref → Ref) (os : List Op) → body_weight inner (map (retarget f) os) ≡ body_weight inner os
   weight-retarget f [] = refl
   weight-retarget f (o ∷ os) =
       let first : kind_weight inner o.kind o.types (length (map f o.operands)) ≡ kind_weight inner o.kind o.types (length o.operands) =
@@ -37,7 +37,7 @@ module _ (inner : Name → ℕ) where
   weight-remove (y ∷ ys) zero o is = let same : o ≡ y = cc in ap (λ z. op_weight z + body_weight inner ys) same
   weight-remove (y ∷ ys) (suc i) o is = let rest : op_weight o + body_weight inner (remove ys i) ≡ body_weight inner ys = weight-remove ys i o is in omega arith
 
-  weight-set : (os : List Op) (i : ℕ) (o o' : Op) → slice_get os i ≡ Some o → op_weight o + body_weight inner (set os i o') ≡ op_weight o' + body_weight inner os
+  pub weight-set : (os : List Op) (i : ℕ) (o o' : Op) → slice_get os i ≡ Some o → op_weight o + body_weight inner (set os i o') ≡ op_weight o' + body_weight inner os
   weight-set [] i o o' is = cc
   weight-set (y ∷ ys) zero o o' is =
       let same : o ≡ y = cc in

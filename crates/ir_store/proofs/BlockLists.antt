@@ -221,7 +221,7 @@ module _ (xs : List Value) (os : List ℕ) (bs : List Block) (live : ℕ) (ok : 
       let old_at : (k : ℕ) → k < old.len → get_or xs (old.start + k) Undefined ≡ get_or (block_list xs old) k Undefined = λ k q. sym (block_read xs old k q) in
       let in_front : (k : ℕ) → k < spot → get_or ys (old.start + k) Undefined ≡ get_or (remove (block_list xs old) spot) k Undefined =
       λ k q. others (old.start + k) (λ p u. omega (arith, p, f, q)) ∙ (old_at k (omega (arith, q, l)) ∙ sym (get_or-remove_below (block_list xs old) spot Undefined k q (omega (arith, n, l)))) in
-      let behind : (k : ℕ) → spot ≤ k → k + 1 < old.len → get_or ys (old.start + k) Undefined ≡ get_or (remove (block_list xs old) spot) k Undefined =
+      let following : (k : ℕ) → spot ≤ k → k + 1 < old.len → get_or ys (old.start + k) Undefined ≡ get_or (remove (block_list xs old) spot) k Undefined =
       λ k q u.
       let next : old.start + k + 1 ≡ old.start + (k + 1) = omega arith in
       moved (old.start + k) (omega (arith, f, q)) (omega (arith, t, u)) ∙ (ap (λ z. get_or xs z Undefined) next ∙ (old_at (k + 1) u ∙ sym (get_or-remove_above (block_list xs old) spot Undefined k q (omega (arith, n, l))))) in
@@ -230,7 +230,7 @@ module _ (xs : List Value) (os : List ℕ) (bs : List Block) (live : ℕ) (ok : 
       (λ k g.
       let q : k < b.len = omega (arith, g, block_length ys b fits) in
       let u : k + 1 < old.len = omega (arith, q, m) in
-      block_read ys b k q ∙ (ap (λ (z : ℕ). get_or ys (z + k) Undefined) s ∙ split k spot (in_front k) (λ v. behind k v u))) in
+      block_read ys b k q ∙ (ap (λ (z : ℕ). get_or ys (z + k) Undefined) s ∙ split k spot (in_front k) (λ v. following k v u))) in
       lists_update xs ys bs i b (remove (get_or (lists_in xs bs) i []) spot) h (here ∙ ap (λ z. remove z spot) (sym (list_at xs bs i)))
       (others_kept ys i e (λ c o. others c (λ p q. o (omega (arith, p, f)) (omega (arith, q, t, l)))))
 

@@ -104,26 +104,26 @@ pub module-symbol_place : (q : Name) (ms : List StoredModule) →
 module-symbol_place q [] = refl
 module-symbol_place q (m ∷ ms) = rw (same_name_back m.symbol q) (go (same_name q m.symbol) (module-symbol_place q ms))
   where
-    behind : (p : Option ℕ) → option_and_then (slice_get (numbered_module m ∷ map numbered_module ms)) (option_map suc p) ≡ option_and_then (slice_get (map numbered_module ms)) p
-    behind None = refl
-    behind (Some n) = refl
+    following : (p : Option ℕ) → option_and_then (slice_get (numbered_module m ∷ map numbered_module ms)) (option_map suc p) ≡ option_and_then (slice_get (map numbered_module ms)) p
+    following None = refl
+    following (Some n) = refl
 
     go : (b : Bool) → option_and_then (slice_get (map numbered_module ms)) (symbol_place q (map (λ (m : StoredModule). m.symbol) ms)) ≡ find_module (map numbered_module ms) q →
         option_and_then (slice_get (numbered_module m ∷ map numbered_module ms)) (cond b (Some 0) (option_map suc (symbol_place q (map (λ (m : StoredModule). m.symbol) ms))))
         ≡ cond b (Some (numbered_module m)) (find_module (map numbered_module ms) q)
     go true r = refl
-    go false r = behind (symbol_place q (map (λ (m : StoredModule). m.symbol) ms)) ∙ r
+    go false r = following (symbol_place q (map (λ (m : StoredModule). m.symbol) ms)) ∙ r
 
 -- there is a place exactly where there is a module
 pub some-symbol_place : (q : Name) (ms : List StoredModule) → is_some (symbol_place q (map (λ (m : StoredModule). m.symbol) ms)) ≡ is_some (find_module (map numbered_module ms) q)
 some-symbol_place q [] = refl
 some-symbol_place q (m ∷ ms) = rw (same_name_back m.symbol q) (go (same_name q m.symbol) (some-symbol_place q ms))
   where
-    behind : (p : Option ℕ) → is_some (option_map suc p) ≡ is_some p
-    behind None = refl
-    behind (Some n) = refl
+    following : (p : Option ℕ) → is_some (option_map suc p) ≡ is_some p
+    following None = refl
+    following (Some n) = refl
 
     go : (b : Bool) → is_some (symbol_place q (map (λ (m : StoredModule). m.symbol) ms)) ≡ is_some (find_module (map numbered_module ms) q) →
         is_some (cond b (Some 0) (option_map suc (symbol_place q (map (λ (m : StoredModule). m.symbol) ms)))) ≡ is_some (cond b (Some (numbered_module m)) (find_module (map numbered_module ms) q))
     go true r = refl
-    go false r = behind (symbol_place q (map (λ (m : StoredModule). m.symbol) ms)) ∙ r
+    go false r = following (symbol_place q (map (λ (m : StoredModule). m.symbol) ms)) ∙ r

@@ -1,8 +1,9 @@
 -- The operations of a body by positions: what each change of the body does to them.
-use Rattle.std.proofs.Common.{◌≡◌, ℕ, zero, suc, ◌≤◌, Bool, true, false, cond, nat_eq, ◌&&◌, List, [], ◌∷◌, ◌++◌, map, refl, ap, sym, ◌∙◌, arith}
+use Rattle.std.proofs.Common.{◌≡◌, ℕ, zero, suc, ◌≤◌, Bool, true, false, cond, nat_eq, ◌&&◌, List, [], ◌∷◌, ◌++◌, map, refl, ap, sym, ◌∙◌, arith, eq-eqb, ne_eqb}
 use Rattle.std.specs.Prelude.{Some, None, All, Contains, insert, remove, slice_set}
 use Rattle.std.proofs.lemmas.List.{map-append, map-set}
 use Rattle.std.proofs.lemmas.Bool.{eqb-true, eqb-false}
+use Rattle.wiring.proofs.Equal.{suc_suc}
 use Rattle.hw_model.specs.Design.{Ref}
 use Rattle.hw_model.specs.Design.Ref.{result}
 use Rattle.ir_store.specs.declared.operation.OpId.{OpId}
@@ -201,27 +202,6 @@ numbered-drop id at ops once h =
 
 -- ---- one value in the place of another
 
-eqb_same : (i j : ℕ) → i ≡ j → nat_eq i j ≡ true
-eqb_same i j e = go (nat_eq i j) refl
-  where
-    go : (b : Bool) → nat_eq i j ≡ b → nat_eq i j ≡ true
-    go true t = t
-    go false t = absurd (eqb-false i j t e)
-
-eqb_other : (i j : ℕ) → (i ≡ j → ⊥) → nat_eq i j ≡ false
-eqb_other i j n = go (nat_eq i j) refl
-  where
-    go : (b : Bool) → nat_eq i j ≡ b → nat_eq i j ≡ false
-    go true t = absurd (n (eqb-true i j t))
-    go false t = t
-
-eqb_suc : (i j : ℕ) → nat_eq (suc i) (suc j) ≡ nat_eq i j
-eqb_suc i j = go (nat_eq i j) refl
-  where
-    go : (b : Bool) → nat_eq i j ≡ b → nat_eq (suc i) (suc j) ≡ nat_eq i j
-    go true t = eqb_same (suc i) (suc j) (ap suc (eqb-true i j t)) ∙ sym t
-    go false t = eqb_other (suc i) (suc j) (λ e. eqb-false i j t (omega (arith, e))) ∙ sym t
-
 -- ids that are there have the same position only where they are the same
 position_same : (ids : List ℕ) (i j : ℕ) → Contains ids i → Contains ids j → nat_eq (position_of ids i) (position_of ids j) ≡ nat_eq i j
 position_same [] i j (k, l, e) h = absurd (omega arith)
@@ -230,14 +210,15 @@ position_same (m ∷ ids) i j h g = go (nat_eq m i) refl (nat_eq m j) refl h g (
     go : (b : Bool) → nat_eq m i ≡ b → (c : Bool) → nat_eq m j ≡ c → Contains (m ∷ ids) i → Contains (m ∷ ids) j →
         (Contains ids i → Contains ids j → nat_eq (position_of ids i) (position_of ids j) ≡ nat_eq i j) →
         nat_eq (cond b 0 (suc (position_of ids i))) (cond c 0 (suc (position_of ids j))) ≡ nat_eq i j
-    go true s true t h g r = sym (eqb_same i j (sym (eqb-true m i s) ∙ eqb-true m j t))
-    go true s false t h g r = eqb_other 0 (suc (position_of ids j)) (λ e. omega (arith, e)) ∙ sym (eqb_other i j (λ e. eqb-false m j t (eqb-true m i s ∙ e)))
-    go false s true t h g r = eqb_other (suc (position_of ids i)) 0 (λ e. omega (arith, e)) ∙ sym (eqb_other i j (λ e. eqb-false m i s (eqb-true m j t ∙ sym e)))
+    go true s true t h g r = sym (eq-eqb i j (sym (eqb-true m i s) ∙ eqb-true m j t))
+    go true s false t h g r = ne_eqb 0 (suc (position_of ids j)) (λ e. omega (arith, e)) ∙ sym (ne_eqb i j (λ e. eqb-false m j t (eqb-true m i s ∙ e)))
+    go false s true t h g r = ne_eqb (suc (position_of ids i)) 0 (λ e. omega (arith, e)) ∙ sym (ne_eqb i j (λ e. eqb-false m i s (eqb-true m j t ∙ sym e)))
     go false s false t (zero, l, e) g r = absurd (eqb-false m i s e)
     go false s false t (suc k, l, e) (zero, l', e') r = absurd (eqb-false m j t e')
-    go false s false t (suc k, l, e) (suc k', l', e') r = eqb_suc (position_of ids i) (position_of ids j) ∙ r (k, omega arith, e) (k', omega arith, e')
+    go false s false t (suc k, l, e) (suc k', l', e') r = suc_suc (position_of ids i) (position_of ids j) ∙ r (k, omega arith, e) (k', omega arith, e')
 
-same-ref_by : (ids : List ℕ) (x y : Value) → IsLive ids x → IsLive ids y → same_value x y ≡ same_ref (ref_by (position_of ids) x) (ref_by (position_of ids) y)
+-- values that are there are the same by ids as by positions
+pub same-ref_by : (ids : List ℕ) (x y : Value) → IsLive ids x → IsLive ids y → same_value x y ≡ same_ref (ref_by (position_of ids) x) (ref_by (position_of ids) y)
 same-ref_by ids (Port m) (Port n) h g = refl
 same-ref_by ids (Port m) (Result j n) h g = refl
 same-ref_by ids (Port m) Undefined h g = refl

@@ -33,8 +33,8 @@ contains_rest i v ids k at once same =
     counted true is = refl
     counted false is = absurd (eqb-false i v is same)
 
-once_behind : (i v : ℕ) (ids : List ℕ) → times v (i ∷ ids) ≤ 1 → times v ids ≤ 1
-once_behind i v ids once = go (nat_eq i v) once
+once_after : (i v : ℕ) (ids : List ℕ) → times v (i ∷ ids) ≤ 1 → times v ids ≤ 1
+once_after i v ids once = go (nat_eq i v) once
   where
     go : (b : Bool) → cond b (suc (times v ids)) (times v ids) ≤ 1 → times v ids ≤ 1
     go true h = omega arith
@@ -49,7 +49,7 @@ op_once (p ∷ ops) zero o at once =
   where
     same_number : (n : ℕ) → nat_eq n n ≡ true
     same_number n = eq-eqb n n refl
-op_once (p ∷ ops) (suc j) o at once = go (nat_eq p.id o.id) refl (op_once ops j o at (once_behind p.id o.id (ids_in ops) once))
+op_once (p ∷ ops) (suc j) o at once = go (nat_eq p.id o.id) refl (op_once ops j o at (once_after p.id o.id (ids_in ops) once))
   where
     id_at : slice_get (ids_in ops) j ≡ Some o.id
     id_at = slice_get-map (λ (x : BodyOp). x.id) ops j ∙ ap (option_map (λ (x : BodyOp). x.id)) at

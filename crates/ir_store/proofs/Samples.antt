@@ -17,8 +17,8 @@ times_twice = refl
 put_at_inside : put_at {A = ℕ} 1 7 (4 ∷ 5 ∷ 6 ∷ []) ≡ 4 ∷ 7 ∷ 6 ∷ []
 put_at_inside = refl
 
-put_at_behind : put_at {A = ℕ} 2 7 (4 ∷ 5 ∷ []) ≡ 4 ∷ 5 ∷ 7 ∷ []
-put_at_behind = refl
+put_at_after : put_at {A = ℕ} 2 7 (4 ∷ 5 ∷ []) ≡ 4 ∷ 5 ∷ 7 ∷ []
+put_at_after = refl
 
 two_blocks : lists_in (Port 7 ∷ Port 8 ∷ Undefined ∷ Port 9 ∷ []) (record { start = 3; len = 1 } ∷ record { start = 0; len = 2 } ∷ []) ≡ (Port 9 ∷ []) ∷ (Port 7 ∷ Port 8 ∷ []) ∷ []
 two_blocks = refl
@@ -67,14 +67,14 @@ two_operands = refl
 by_position : ref_by (position_of (4 ∷ 0 ∷ [])) (Result (record { index = 0 }) 3) ≡ result 1 3
 by_position = refl
 
-pushed_behind : pushed_ref 1 (result 1 0) ≡ result 2 0
-pushed_behind = refl
+pushed_after : pushed_ref 1 (result 1 0) ≡ result 2 0
+pushed_after = refl
 
 pushed_before : pushed_ref 1 (result 0 0) ≡ result 0 0
 pushed_before = refl
 
-pulled_behind : pulled_ref 1 (result 2 0) ≡ result 1 0
-pulled_behind = refl
+pulled_after : pulled_ref 1 (result 2 0) ≡ result 1 0
+pulled_after = refl
 
 pulled_itself : pulled_ref 1 (result 1 0) ≡ undefined
 pulled_itself = refl

@@ -29,9 +29,9 @@ found_in whole [] h = refl
 found_in whole (o ∷ os) h = ap (λ (r : Option BodyOp). in_front r (ops_at whole (map op_id (ids_in os)))) h.0 ∙ ap (λ (rest : List BodyOp). o ∷ rest) (found_in whole os h.1)
 
 -- after another operation, where none of them has its id
-found_behind : (o : BodyOp) (whole os : List BodyOp) → times o.id (ids_in os) ≡ 0 → AreFound whole os → AreFound (o ∷ whole) os
-found_behind o whole [] none h = tt
-found_behind o whole (p ∷ os) none h = go (nat_eq p.id o.id) refl none (λ n. found_behind o whole os n h.1)
+found_after : (o : BodyOp) (whole os : List BodyOp) → times o.id (ids_in os) ≡ 0 → AreFound whole os → AreFound (o ∷ whole) os
+found_after o whole [] none h = tt
+found_after o whole (p ∷ os) none h = go (nat_eq p.id o.id) refl none (λ n. found_after o whole os n h.1)
   where
     go : (b : Bool) → nat_eq p.id o.id ≡ b → cond b (suc (times o.id (ids_in os))) (times o.id (ids_in os)) ≡ 0
         → (times o.id (ids_in os) ≡ 0 → AreFound (o ∷ whole) os) → (op_at (o ∷ whole) p.id ≡ Some p) × AreFound (o ∷ whole) os
@@ -42,7 +42,7 @@ found_behind o whole (p ∷ os) none h = go (nat_eq p.id o.id) refl none (λ n. 
 
 found_all : (ops : List BodyOp) → AreDistinct (ids_in ops) → AreFound ops ops
 found_all [] once = tt
-found_all (o ∷ os) once = (rw (eq-eqb o.id o.id refl) refl, found_behind o os os (none (nat_eq o.id o.id) (eq-eqb o.id o.id refl) (once o.id)) (found_all os (λ v. fewer v (nat_eq o.id v) (once v))))
+found_all (o ∷ os) once = (rw (eq-eqb o.id o.id refl) refl, found_after o os os (none (nat_eq o.id o.id) (eq-eqb o.id o.id refl) (once o.id)) (found_all os (λ v. fewer v (nat_eq o.id v) (once v))))
   where
     fewer : (v : ℕ) (b : Bool) → cond b (suc (times v (ids_in os))) (times v (ids_in os)) ≤ 1 → times v (ids_in os) ≤ 1
     fewer v true h = omega (arith, h)

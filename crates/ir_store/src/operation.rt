@@ -207,8 +207,8 @@ pub(crate) fn copied_parts(alloc: Global, parts: &[Parts]) -> Result<Vec<Parts>,
     Ok(copies)
 }
 
-/// Whether two operands are the same.
-pub(crate) fn is_same(a: Value, b: Value) -> bool
+/// Whether two values are one: the same port, the same result of the same operation, or both undefined.
+pub fn is_same(a: Value, b: Value) -> bool
     ensures { result ≡ same_value a b }
 {
     match a {

@@ -195,8 +195,8 @@ fn types_of_fields(alloc: Global, fields: &[Field]) -> Result<Vec<Option<Ty>>, A
 fn types_after(alloc: Global, types: &[Ty], count: usize) -> Result<Vec<Option<Ty>>, AllocError>
     ensures { IfOk result (λ ts. map (option_map type_of) ts.items ≡ map Some (drop count (map type_of types.now))) }
 {
-    let (_, behind) = types.split_at(count.min(types.len()));
-    each_of(alloc, behind)
+    let (_, following) = types.split_at(count.min(types.len()));
+    each_of(alloc, following)
 }
 
 /// Equal types with memory of their own.

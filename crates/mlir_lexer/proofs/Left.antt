@@ -5,7 +5,7 @@ use Rattle.std.proofs.lemmas.List.{drop-drop}
 use Rattle.diag.specs.Place.{start_place, next_place, place_after, place_of}
 use Rattle.diag.specs.declared.refusal.Place.{Place}
 use Rattle.diag.specs.declared.refusal.Refusal.{Refusal}
-use Rattle.mlir_lexer.specs.Tokens.{Lexeme, lex_front, tokens_behind, tokens_left}
+use Rattle.mlir_lexer.specs.Tokens.{Lexeme, lex_front, tokens_after, tokens_left}
 use Rattle.mlir_lexer.specs.Cursor.{Cursor}
 use Rattle.mlir_lexer.specs.Fronts.{front_of}
 
@@ -13,7 +13,7 @@ use Rattle.mlir_lexer.specs.Fronts.{front_of}
 pub record IsFurther (before now : Cursor) : Type 0 where
   pub same : tokens_left now ≡ tokens_left before
   pub source : now.source ≡ before.source
-  pub behind : before.at ≤ now.at
+  pub following : before.at ≤ now.at
 
 place_after-append : (place : Place) (xs ys : List ℕ) → place_after place (xs ++ ys) ≡ place_after (place_after place xs) ys
 place_after-append place [] ys = refl
@@ -31,39 +31,39 @@ pub drop-next : (source : List ℕ) (at b : ℕ) (bs : List ℕ) → drop at sou
 drop-next source at b bs e = sym (drop-drop 1 at source) ∙ ap (drop 1) e
 
 -- the tokens after some further bytes of what is left
-unfoldable pub behind : List ℕ → ℕ → ℕ → List (Result Lexeme Refusal)
-behind source at skipped = tokens_behind skipped (place_of source at) at (drop at source)
+unfoldable pub following : List ℕ → ℕ → ℕ → List (Result Lexeme Refusal)
+following source at skipped = tokens_after skipped (place_of source at) at (drop at source)
 
-behind-suc : (source : List ℕ) (at skipped b : ℕ) (bs : List ℕ) → drop at source ≡ b ∷ bs → behind source at (suc skipped) ≡ behind source (at + 1) skipped
-unfolding behind tokens_behind
-behind-suc source at skipped b bs e =
-    ap (λ (l : List ℕ). tokens_behind (suc skipped) (place_of source at) at l) e
-    ∙ (ap (λ p. tokens_behind skipped p (at + 1) bs) (sym (place_of-next source at b bs e))
-    ∙ ap (λ (l : List ℕ). tokens_behind skipped (place_of source (at + 1)) (at + 1) l) (sym (drop-next source at b bs e)))
+following-suc : (source : List ℕ) (at skipped b : ℕ) (bs : List ℕ) → drop at source ≡ b ∷ bs → following source at (suc skipped) ≡ following source (at + 1) skipped
+unfolding following tokens_after
+following-suc source at skipped b bs e =
+    ap (λ (l : List ℕ). tokens_after (suc skipped) (place_of source at) at l) e
+    ∙ (ap (λ p. tokens_after skipped p (at + 1) bs) (sym (place_of-next source at b bs e))
+    ∙ ap (λ (l : List ℕ). tokens_after skipped (place_of source (at + 1)) (at + 1) l) (sym (drop-next source at b bs e)))
 
-behind-skip : (source : List ℕ) (skipped at : ℕ) → at + skipped ≤ length source → behind source at skipped ≡ behind source (at + skipped) 0
-behind-skip source zero at within = let e : at ≡ at + 0 = omega arith in ap (λ n. behind source n 0) e
-behind-skip source (suc skipped) at within =
+following-skip : (source : List ℕ) (skipped at : ℕ) → at + skipped ≤ length source → following source at skipped ≡ following source (at + skipped) 0
+following-skip source zero at within = let e : at ≡ at + 0 = omega arith in ap (λ n. following source n 0) e
+following-skip source (suc skipped) at within =
     let first : drop at source ≡ get_or source at 0 ∷ drop (suc at) source = drop-cons source at 0 (omega arith)
     in
     let count : at + 1 + skipped ≡ at + suc skipped = omega arith
     in
-    behind-suc source at skipped (get_or source at 0) (drop (suc at) source) first
-    ∙ (behind-skip source skipped (at + 1) (omega arith) ∙ ap (λ n. behind source n 0) count)
+    following-suc source at skipped (get_or source at 0) (drop (suc at) source) first
+    ∙ (following-skip source skipped (at + 1) (omega arith) ∙ ap (λ n. following source n 0) count)
 
 -- what is left is what the next bytes begin with, and then what is left after it
 pub tokens_left-lex_front : (source : List ℕ) (at b : ℕ) (bs : List ℕ) → drop at source ≡ b ∷ bs
-    → tokens_left (record { source = source; at = at }) ≡ lex_front (front_of b bs) (place_of source at) at (b ∷ bs) (λ more. behind source (at + 1) more)
-unfolding behind tokens_behind
+    → tokens_left (record { source = source; at = at }) ≡ lex_front (front_of b bs) (place_of source at) at (b ∷ bs) (λ more. following source (at + 1) more)
+unfolding following tokens_after
 tokens_left-lex_front source at b bs e =
-    ap (λ (l : List ℕ). tokens_behind 0 (place_of source at) at l) e
-    ∙ (ap (λ p. lex_front (front_of b bs) (place_of source at) at (b ∷ bs) (λ more. tokens_behind more p (at + 1) bs)) (sym (place_of-next source at b bs e))
-    ∙ ap (λ (l : List ℕ). lex_front (front_of b bs) (place_of source at) at (b ∷ bs) (λ more. tokens_behind more (place_of source (at + 1)) (at + 1) l))
+    ap (λ (l : List ℕ). tokens_after 0 (place_of source at) at l) e
+    ∙ (ap (λ p. lex_front (front_of b bs) (place_of source at) at (b ∷ bs) (λ more. tokens_after more p (at + 1) bs)) (sym (place_of-next source at b bs e))
+    ∙ ap (λ (l : List ℕ). lex_front (front_of b bs) (place_of source at) at (b ∷ bs) (λ more. tokens_after more (place_of source (at + 1)) (at + 1) l))
     (sym (drop-next source at b bs e)))
 
 -- what is left after a gap or a token of so many bytes
-pub behind-left : (source : List ℕ) (at n : ℕ) → 1 ≤ n → at + n ≤ length source → behind source (at + 1) (n - 1) ≡ tokens_left (record { source = source; at = at + n })
-unfolding behind
-behind-left source at n some within =
+pub following-left : (source : List ℕ) (at n : ℕ) → 1 ≤ n → at + n ≤ length source → following source (at + 1) (n - 1) ≡ tokens_left (record { source = source; at = at + n })
+unfolding following
+following-left source at n some within =
     let count : at + 1 + (n - 1) ≡ at + n = omega arith
-    in behind-skip source (n - 1) (at + 1) (omega arith) ∙ ap (λ m. behind source m 0) count
+    in following-skip source (n - 1) (at + 1) (omega arith) ∙ ap (λ m. following source m 0) count

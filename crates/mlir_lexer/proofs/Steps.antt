@@ -2,14 +2,14 @@
 use Rattle.std.proofs.Common.{◌≡◌, ℕ, ◌+◌, ◌-◌, ◌≤◌, List, [], ◌∷◌, take, drop, length, Result, Ok, Err, refl, sym, ap, ◌∙◌, arith, length-drop, length-take}
 use Rattle.diag.specs.Place.{next_place, below, further, place_after, place_of}
 use Rattle.diag.specs.declared.refusal.Refusal.{Refusal}
-use Rattle.mlir_lexer.specs.Tokens.{Lexeme, bad_byte, lex_front, tokens_behind, tokens_left, IsSpan}
+use Rattle.mlir_lexer.specs.Tokens.{Lexeme, bad_byte, lex_front, tokens_after, tokens_left, IsSpan}
 use Rattle.mlir_lexer.specs.Cursor.{Cursor}
 use Rattle.mlir_lexer.specs.Flat.{IsWithinLine}
 use Rattle.mlir_lexer.specs.Fronts.{front_of}
 use Rattle.mlir_lexer.specs.declared.token.TokenKind.{TokenKind}
 use Rattle.mlir_lexer.specs.declared.fronts.Front.{Front}
 use Rattle.mlir_lexer.specs.declared.fronts.Front.TheVariants.{LineEnd, Gap, Token, Bad}
-use Rattle.mlir_lexer.proofs.Left.{IsFurther, behind, place_of-add, place_of-next, tokens_left-lex_front, behind-left}
+use Rattle.mlir_lexer.proofs.Left.{IsFurther, following, place_of-add, place_of-next, tokens_left-lex_front, following-left}
 use Rattle.mlir_lexer.proofs.Fits.{FitsFront, front_of-fits}
 
 -- the cursor so many bytes further on
@@ -30,18 +30,18 @@ fits {cursor} {b} {bs} {front} h = rw h.is (front_of-fits b bs)
 
 -- what is left, by what it begins with
 is_told : {cursor : Cursor} {b : ℕ} {bs : List ℕ} {front : Front} → Begins cursor b bs front
-    → tokens_left cursor ≡ lex_front front (place_of cursor.source cursor.at) cursor.at (b ∷ bs) (λ more. behind cursor.source (cursor.at + 1) more)
+    → tokens_left cursor ≡ lex_front front (place_of cursor.source cursor.at) cursor.at (b ∷ bs) (λ more. following cursor.source (cursor.at + 1) more)
 is_told {cursor} {b} {bs} {front} h =
     tokens_left-lex_front cursor.source cursor.at b bs h.split
-    ∙ ap (λ f. lex_front f (place_of cursor.source cursor.at) cursor.at (b ∷ bs) (λ more. behind cursor.source (cursor.at + 1) more)) (sym h.is)
+    ∙ ap (λ f. lex_front f (place_of cursor.source cursor.at) cursor.at (b ∷ bs) (λ more. following cursor.source (cursor.at + 1) more)) (sym h.is)
 
 pub line_end-place : {cursor : Cursor} {b : ℕ} {bs : List ℕ} → Begins cursor b bs LineEnd
     → place_of cursor.source (cursor.at + 1) ≡ below (place_of cursor.source cursor.at)
 line_end-place {cursor} {b} {bs} h = place_of-next cursor.source cursor.at b bs h.split ∙ ap (next_place (place_of cursor.source cursor.at)) (fits h)
 
 pub line_end-further : {start cursor : Cursor} {b : ℕ} {bs : List ℕ} → Begins cursor b bs LineEnd → IsFurther start cursor → IsFurther start (moved cursor 1)
-unfolding behind
-line_end-further {start} {cursor} {b} {bs} h i = record { same = sym (is_told h) ∙ i.same; source = i.source; behind = omega (arith, i.behind) }
+unfolding following
+line_end-further {start} {cursor} {b} {bs} h i = record { same = sym (is_told h) ∙ i.same; source = i.source; following = omega (arith, i.following) }
 
 -- bytes within a line are within the text, and the column after them is so much greater
 line-within : (cursor : Cursor) {b : ℕ} {bs : List ℕ} (n : ℕ) → drop cursor.at cursor.source ≡ b ∷ bs → IsWithinLine n (b ∷ bs)
@@ -67,9 +67,9 @@ pub gap-further : {start cursor : Cursor} {b : ℕ} {bs : List ℕ} (n : ℕ) �
 gap-further {start} {cursor} {b} {bs} n h i =
     let line : IsWithinLine n (b ∷ bs) = fits h
     in record {
-      same = sym (is_told h ∙ behind-left cursor.source cursor.at n line.some (line-within cursor n h.split line)) ∙ i.same;
+      same = sym (is_told h ∙ following-left cursor.source cursor.at n line.some (line-within cursor n h.split line)) ∙ i.same;
       source = i.source;
-      behind = omega (arith, i.behind);
+      following = omega (arith, i.following);
     }
 
 pub gap-some : {cursor : Cursor} {b : ℕ} {bs : List ℕ} (n : ℕ) → Begins cursor b bs (Gap n) → 1 ≤ n
@@ -102,7 +102,7 @@ token-left {start} {cursor} {b} {bs} kind n h i =
     in
     sym i.same
     ∙ (is_told h
-    ∙ (ap (list (take n (b ∷ bs))) (behind-left cursor.source cursor.at n line.some (line-within cursor n h.split line))
+    ∙ (ap (list (take n (b ∷ bs))) (following-left cursor.source cursor.at n line.some (line-within cursor n h.split line))
     ∙ ap (λ t. list t (tokens_left (moved cursor n))) text))
 
 pub token-span : {start cursor : Cursor} {b : ℕ} {bs : List ℕ} (kind : TokenKind) (n : ℕ) → Begins cursor b bs (Token kind n) → IsFurther start cursor
@@ -114,7 +114,7 @@ token-span {start} {cursor} {b} {bs} kind n h i =
     in
     let count : length (take n (drop cursor.at cursor.source)) ≡ n = rw (length-take n (drop cursor.at cursor.source), length-drop cursor.at cursor.source) (omega (arith, within))
     in record {
-      behind = i.behind;
+      following = i.following;
       ended = rw count refl;
       some = rw count line.some;
       slice = ap (λ s. take n (drop cursor.at s)) i.source ∙ sym (ap (λ k. take k (drop cursor.at start.source)) count);
@@ -126,7 +126,7 @@ pub bad-left : {start cursor : Cursor} {b : ℕ} {bs : List ℕ} (before : ℕ) 
 bad-left before h i = sym i.same ∙ is_told h
 
 pub end-left : {start cursor : Cursor} → drop cursor.at cursor.source ≡ [] → IsFurther start cursor → (tokens_left start ≡ []) × (tokens_left cursor ≡ [])
-unfolding tokens_behind
+unfolding tokens_after
 end-left {start} {cursor} e i =
-    let none : tokens_left cursor ≡ [] = ap (λ (l : List ℕ). tokens_behind 0 (place_of cursor.source cursor.at) cursor.at l) e
+    let none : tokens_left cursor ≡ [] = ap (λ (l : List ℕ). tokens_after 0 (place_of cursor.source cursor.at) cursor.at l) e
     in (sym i.same ∙ none, none)

@@ -32,18 +32,18 @@ lex_front (Token kind count) place at bytes later = Ok (record { kind = kind; pl
 lex_front (Bad before) place at bytes later = Err (bad_byte (further place before)) ∷ []
 
 -- the tokens of the bytes after the first `skipped` ones; `place` and `at` are those of the first byte
-unfoldable pub tokens_behind : ℕ → Place → ℕ → List ℕ → List (Result Lexeme Refusal)
-tokens_behind skipped place at [] = []
-tokens_behind zero place at (b ∷ bs) = lex_front (front_of b bs) place at (b ∷ bs) (λ more. tokens_behind more (next_place place b) (at + 1) bs)
-tokens_behind (suc skipped) place at (b ∷ bs) = tokens_behind skipped (next_place place b) (at + 1) bs
+unfoldable pub tokens_after : ℕ → Place → ℕ → List ℕ → List (Result Lexeme Refusal)
+tokens_after skipped place at [] = []
+tokens_after zero place at (b ∷ bs) = lex_front (front_of b bs) place at (b ∷ bs) (λ more. tokens_after more (next_place place b) (at + 1) bs)
+tokens_after (suc skipped) place at (b ∷ bs) = tokens_after skipped (next_place place b) (at + 1) bs
 
 -- the tokens of a text
 abbrev pub tokens : List ℕ → List (Result Lexeme Refusal)
-tokens source = tokens_behind 0 start_place 0 source
+tokens source = tokens_after 0 start_place 0 source
 
 -- the tokens from a position of a text on
 abbrev pub tokens_left : Cursor → List (Result Lexeme Refusal)
-tokens_left cursor = tokens_behind 0 (place_of cursor.source cursor.at) cursor.at (drop cursor.at cursor.source)
+tokens_left cursor = tokens_after 0 (place_of cursor.source cursor.at) cursor.at (drop cursor.at cursor.source)
 
 -- a token with the bytes that it borrows
 abbrev pub lexeme_of : code.Token → Lexeme
@@ -57,7 +57,7 @@ Gives (Err refusal) before after = (before ≡ Err refusal ∷ []) × (after ≡
 
 -- a token's bytes stand in the source at its position, at its place, after what was read and before what is left, and are not none
 pub record IsSpan (token : Lexeme) (before after : Cursor) : Type 0 where
-  pub behind : before.at ≤ token.at
+  pub following : before.at ≤ token.at
   pub ended : token.at + length token.text ≡ after.at
   pub some : 1 ≤ length token.text
   pub slice : token.text ≡ take (length token.text) (drop token.at before.source)

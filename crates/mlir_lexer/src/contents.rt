@@ -33,7 +33,7 @@ impl<'s> Token<'s> {
             | TokenKind::SymbolName
             | TokenKind::ResultNumber
             | TokenKind::AttributeAlias
-            | TokenKind::TypeName => into.push_bytes(behind(self.text, 1)),
+            | TokenKind::TypeName => into.push_bytes(following(self.text, 1)),
             _ => into.push_bytes(self.text),
         }
     }
@@ -109,13 +109,13 @@ fn body(text: &[u8], before: usize) -> &[u8]
     requires { before ≤ 2 }
     ensures { result.now ≡ body_of before text.now }
 {
-    let behind = behind(text, before);
+    let following = following(text, before);
     let count = text.len().saturating_sub(before + 1);
-    &behind[..count]
+    &following[..count]
 }
 
 // All but the first `before` bytes.
-fn behind(text: &[u8], before: usize) -> &[u8]
+fn following(text: &[u8], before: usize) -> &[u8]
     ensures { result.now ≡ drop before text.now }
 {
     if before < text.len() {

@@ -27,30 +27,30 @@ pub enum Front {
 /// What a byte and those after it begin with.
 #[inline(always)]
 #[tactic(auto, unfolding(crate::specs::Fronts::front_of))]
-pub fn front_of(first: u8, behind: &[u8]) -> Front
-    ensures { result ≡ front_of first behind.now }
+pub fn front_of(first: u8, following: &[u8]) -> Front
+    ensures { result ≡ front_of first following.now }
 {
     if first == b'\n' {
         Front::LineEnd
     } else if Space::has(first) {
-        Front::Gap(run_of::<Space>(behind) + 1)
+        Front::Gap(run_of::<Space>(following) + 1)
     } else if is_name_start(first) {
-        Front::Token(TokenKind::BareName, run_of::<NameByte>(behind) + 1)
+        Front::Token(TokenKind::BareName, run_of::<NameByte>(following) + 1)
     } else if Digit::has(first) {
-        number_front(first, behind)
+        number_front(first, following)
     } else {
-        sign_front(first, behind)
+        sign_front(first, following)
     }
 }
 
 // A number.
-fn number_front(first: u8, behind: &[u8]) -> Front
-    ensures { result ≡ number_front first behind.now }
+fn number_front(first: u8, following: &[u8]) -> Front
+    ensures { result ≡ number_front first following.now }
 {
-    if first == b'0' && is_hex_mark(behind) {
-        Front::Token(TokenKind::Integer, run_of::<HexDigit>(&behind[1..]) + 2)
+    if first == b'0' && is_hex_mark(following) {
+        Front::Token(TokenKind::Integer, run_of::<HexDigit>(&following[1..]) + 2)
     } else {
-        Front::Token(TokenKind::Integer, run_of::<Digit>(behind) + 1)
+        Front::Token(TokenKind::Integer, run_of::<Digit>(following) + 1)
     }
 }
 
@@ -67,23 +67,23 @@ fn is_hex_mark(bytes: &[u8]) -> bool
 // A token that begins with a sign.
 #[inline(always)]
 #[tactic(auto, unfolding(crate::specs::Fronts::sign_front))]
-fn sign_front(first: u8, behind: &[u8]) -> Front
-    ensures { result ≡ sign_front first behind.now }
+fn sign_front(first: u8, following: &[u8]) -> Front
+    ensures { result ≡ sign_front first following.now }
 {
     if first == b'%' {
-        suffix_token(TokenKind::ValueName, behind)
+        suffix_token(TokenKind::ValueName, following)
     } else if first == b'@' {
-        symbol_front(behind)
+        symbol_front(following)
     } else if first == b'#' {
-        hash_front(behind)
+        hash_front(following)
     } else if first == b'!' {
-        suffix_token(TokenKind::TypeName, behind)
+        suffix_token(TokenKind::TypeName, following)
     } else if first == b'"' {
-        string_token(TokenKind::StringLiteral, 0, behind)
+        string_token(TokenKind::StringLiteral, 0, following)
     } else if first == b'-' {
-        minus_front(behind)
+        minus_front(following)
     } else if first == b'/' {
-        slash_front(behind)
+        slash_front(following)
     } else {
         mark_front(first)
     }
@@ -125,62 +125,62 @@ fn suffix_length(bytes: &[u8]) -> usize
 }
 
 // A token of a sign and a suffix.
-fn suffix_token(kind: TokenKind, behind: &[u8]) -> Front
-    ensures { result ≡ suffix_token kind behind.now }
+fn suffix_token(kind: TokenKind, following: &[u8]) -> Front
+    ensures { result ≡ suffix_token kind following.now }
 {
-    match suffix_length(behind) {
+    match suffix_length(following) {
         0 => Front::Bad(0),
         length => Front::Token(kind, length + 1),
     }
 }
 
-// A token that ends with the string whose bytes after the opening quote are `behind`.
-fn string_token(kind: TokenKind, before: usize, behind: &[u8]) -> Front
+// A token that ends with the string whose bytes after the opening quote are `following`.
+fn string_token(kind: TokenKind, before: usize, following: &[u8]) -> Front
     requires { before ≤ 1 }
-    ensures { result ≡ string_token kind before (string_length behind.now) }
+    ensures { result ≡ string_token kind before (string_length following.now) }
 {
-    match string_length(behind) {
+    match string_length(following) {
         None => Front::Bad(before),
         Some(length) => Front::Token(kind, before + 1 + length),
     }
 }
 
 // A symbol.
-fn symbol_front(behind: &[u8]) -> Front
-    ensures { result ≡ symbol_front behind.now }
+fn symbol_front(following: &[u8]) -> Front
+    ensures { result ≡ symbol_front following.now }
 {
-    match behind {
+    match following {
         [b'"', body @ ..] => string_token(TokenKind::SymbolString, 1, body),
-        _ => suffix_token(TokenKind::SymbolName, behind),
+        _ => suffix_token(TokenKind::SymbolName, following),
     }
 }
 
 // The number of a result, or an alias.
-fn hash_front(behind: &[u8]) -> Front
-    ensures { result ≡ hash_front behind.now }
+fn hash_front(following: &[u8]) -> Front
+    ensures { result ≡ hash_front following.now }
 {
-    if begins_with::<Digit>(behind) {
-        suffix_token(TokenKind::ResultNumber, behind)
+    if begins_with::<Digit>(following) {
+        suffix_token(TokenKind::ResultNumber, following)
     } else {
-        suffix_token(TokenKind::AttributeAlias, behind)
+        suffix_token(TokenKind::AttributeAlias, following)
     }
 }
 
 // A comment.
-fn slash_front(behind: &[u8]) -> Front
-    ensures { result ≡ slash_front behind.now }
+fn slash_front(following: &[u8]) -> Front
+    ensures { result ≡ slash_front following.now }
 {
-    match behind {
-        [b'/', ..] => Front::Gap(run_of::<LineByte>(behind) + 1),
+    match following {
+        [b'/', ..] => Front::Gap(run_of::<LineByte>(following) + 1),
         _ => Front::Bad(0),
     }
 }
 
 // An arrow or a minus.
-fn minus_front(behind: &[u8]) -> Front
-    ensures { result ≡ minus_front behind.now }
+fn minus_front(following: &[u8]) -> Front
+    ensures { result ≡ minus_front following.now }
 {
-    match behind {
+    match following {
         [b'>', ..] => Front::Token(TokenKind::Arrow, 2),
         _ => Front::Token(TokenKind::Minus, 1),
     }

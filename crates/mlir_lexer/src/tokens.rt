@@ -54,8 +54,8 @@ impl<'s> Tokens<'s> {
         ensures reads { Reads result self.old self.new }
         ensures source { self.new.source ≡ self.old.source }
     {
-        while let Some((first, behind)) = self.rest().split_first() {
-            match front_of(*first, behind) {
+        while let Some((first, following)) = self.rest().split_first() {
+            match front_of(*first, following) {
                 Front::LineEnd => self.end_line(),
                 Front::Gap(count) => self.pass(count),
                 Front::Token(kind, count) => return Ok(Some(self.token(kind, count))),

@@ -115,8 +115,8 @@ reset_at op g h {s} {left} clear other (inl a) =
     let (r, v, same, p) = a.says in
     let inside : At (Then (Word (codes "reset")) (Then (OperandPhrase r) (Then (Mark kind.Comma) (OperandPhrase v)))) s left = record { passed = a.passed; same = a.same; says = p } in
     let (m, b, c) = at_then inside in
-    let (next, behind) = word_first b in
-    if_true _ next (ap (reset_operands op with_reset g) behind ∙ reset_operands_at op with_reset g r v clear c ∙ ap (λ x. Ok (x, left)) (sym same))
+    let (next, following) = word_first b in
+    if_true _ next (ap (reset_operands op with_reset g) following ∙ reset_operands_at op with_reset g r v clear c ∙ ap (λ x. Ok (x, left)) (sym same))
 reset_at op g h {s} {left} clear other (inr a) = let (b, e) = no_reset_at g h other a in if_false _ b e
 
 -- `sync` and `async` say what they say
@@ -129,8 +129,8 @@ sync_at op h =
 async_at : (op : OpName) {s left : List Symbol} → At (Word (codes "async")) s left → reset_mode op s ≡ Ok (with_async_reset, left)
 unfolding reset_mode
 async_at op h =
-    let (next, behind) = word_first h in
-    if_true _ next (ap (λ x. Ok (with_async_reset, x)) behind)
+    let (next, following) = word_first h in
+    if_true _ next (ap (λ x. Ok (with_async_reset, x)) following)
 
 -- `reset`, such a word and two operands
 mode_reset_at : (op : OpName) (Mode : Phrase) (how : InherentAttributes) (g h : Gathered) {s left : List Symbol} → NoNumber left
@@ -143,8 +143,8 @@ mode_reset_at op Mode how g h {s} {left} clear says a =
     record { passed = a.passed; same = a.same; says = p } in
     let (m, b, c) = at_then inside in
     let (k, x, y) = at_then b in
-    let (next, behind) = word_first x in
-    if_true _ next (on_ok _ (ap (reset_mode op) behind ∙ says k m y) (reset_operands_at op how g r v clear c ∙ ap (λ x. Ok (x, left)) (sym same)))
+    let (next, following) = word_first x in
+    if_true _ next (on_ok _ (ap (reset_mode op) following ∙ says k m y) (reset_operands_at op how g r v clear c ∙ ap (λ x. Ok (x, left)) (sym same)))
 
 no_mode_reset_at : (op : OpName) (g h : Gathered) {s left : List Symbol} → NoReset left → At (Where (h ≡ g) Nothing) s left → sync_or_async_reset_text op g s ≡ Ok (h, left)
 unfolding sync_or_async_reset_text
@@ -189,8 +189,8 @@ inner_at op None clear h =
     if_false _ (ap (is_first (is_word (codes "sym"))) same ∙ clear) (ap (λ y. Ok (None, y)) same)
 inner_at op (Some name) {s} {left} clear h =
     let (m, a, b) = at_then h in
-    let (next, behind) = word_first a in
-    if_true _ next (on_ok _ (ap (symbol_text op) behind ∙ (again_symbol op).gives name m left b tt) refl)
+    let (next, following) = word_first a in
+    if_true _ next (on_ok _ (ap (symbol_text op) following ∙ (again_symbol op).gives name m left b tt) refl)
 
 -- a symbol is no word
 pub symbol_first : (word : List ℕ) (name : Name) {s left : List Symbol} → At (SymbolPhrase name) s left → is_first (is_word word) s ≡ false

@@ -73,41 +73,41 @@ leads_dictionary : {T : Lexeme → Type 0} (keys : List Name) (es : List Entry) 
 leads_dictionary keys es to = leads_where (leads_then (leads_one to))
 
 -- what is so of no brace and no colon, and not of what stands after an operation, is not so of what stands before its types
-behind_types : (test : Lexeme → Bool) (keys : List Name) (late : Option (List Entry)) {s left : List Symbol} → ((t : Lexeme) → t.kind ≡ kind.LeftBrace → test t ≡ false)
+after_types : (test : Lexeme → Bool) (keys : List Name) (late : Option (List Entry)) {s left : List Symbol} → ((t : Lexeme) → t.kind ≡ kind.LeftBrace → test t ≡ false)
     → is_first test left ≡ false → At (MaybeDictionary keys late) s left → is_first test s ≡ false
-behind_types test keys None brace last a = ap (is_first test) (at_nothing a) ∙ last
-behind_types test keys (Some es) brace last a = starts_test test false (λ t p. p) (starts (leads_dictionary keys es brace) a)
+after_types test keys None brace last a = ap (is_first test) (at_nothing a) ∙ last
+after_types test keys (Some es) brace last a = starts_test test false (λ t p. p) (starts (leads_dictionary keys es brace) a)
 
 from_types : (test : Lexeme → Bool) (keys : List Name) (tp : List FormatElement) (g h : Gathered) (late : Option (List Entry)) {s m left : List Symbol} → TypesForm tp
     → ((t : Lexeme) → t.kind ≡ kind.LeftBrace → test t ≡ false) → ((t : Lexeme) → t.kind ≡ kind.Colon → test t ≡ false)
     → is_first test left ≡ false → At (ElementsPhrase tp g h) s m → At (MaybeDictionary keys late) m left → is_first test s ≡ false
-from_types test keys [] g h late form brace colon last a b = ap (is_first test) (no_elements a).1 ∙ behind_types test keys late brace last b
+from_types test keys [] g h late form brace colon last a b = ap (is_first test) (no_elements a).1 ∙ after_types test keys late brace last b
 from_types test keys (element.Mark k ∷ ps) g h late form brace colon last a b =
     starts_test test false (λ t p. p) (starts (leads_mark k ps g h (λ t e. colon t (e ∙ form))) a)
 from_types test keys (_ ∷ ps) g h late form brace colon last a b = absurd form
 
-pub behind_front : (test : Lexeme → Bool) (keys : List Name) (tp : List FormatElement) (g h : Gathered) (early late : Option (List Entry)) {s left : List Symbol} → TypesForm tp
+pub after_front : (test : Lexeme → Bool) (keys : List Name) (tp : List FormatElement) (g h : Gathered) (early late : Option (List Entry)) {s left : List Symbol} → TypesForm tp
     → ((t : Lexeme) → t.kind ≡ kind.LeftBrace → test t ≡ false) → ((t : Lexeme) → t.kind ≡ kind.Colon → test t ≡ false) → is_first test left ≡ false
     → At (Then (MaybeDictionary keys early) (Then (ElementsPhrase tp g h) (MaybeDictionary keys late))) s left → is_first test s ≡ false
-behind_front test keys tp g h early late form brace colon last a =
+after_front test keys tp g h early late form brace colon last a =
     let (m, b, c) = at_then a in
     let (k, d, e) = at_then c in
-    behind_types test keys early brace (from_types test keys tp g h late form brace colon last d e) b
+    after_types test keys early brace (from_types test keys tp g h late form brace colon last d e) b
 
 front_end : (keys : List Name) (tp : List FormatElement) (g h : Gathered) (early late : Option (List Entry)) {s left : List Symbol} → TypesForm tp → OperationEnd left
     → At (Then (MaybeDictionary keys early) (Then (ElementsPhrase tp g h) (MaybeDictionary keys late))) s left → FrontEnd s
 front_end keys tp g h early late form last a = record {
-  no_number = behind_front (λ t. is_kind t.kind kind.ResultNumber) keys tp g h early late form (unlike kind.ResultNumber kind.LeftBrace refl)
+  no_number = after_front (λ t. is_kind t.kind kind.ResultNumber) keys tp g h early late form (unlike kind.ResultNumber kind.LeftBrace refl)
       (unlike kind.ResultNumber kind.Colon refl) last.no_number a;
-  no_comma = behind_front (λ t. is_kind t.kind kind.Comma) keys tp g h early late form (unlike kind.Comma kind.LeftBrace refl) (unlike kind.Comma kind.Colon refl) last.no_comma a;
-  no_reset = behind_front (is_word (codes "reset")) keys tp g h early late form (no_word (codes "reset") kind.LeftBrace refl) (no_word (codes "reset") kind.Colon refl) last.no_reset a;
+  no_comma = after_front (λ t. is_kind t.kind kind.Comma) keys tp g h early late form (unlike kind.Comma kind.LeftBrace refl) (unlike kind.Comma kind.Colon refl) last.no_comma a;
+  no_reset = after_front (is_word (codes "reset")) keys tp g h early late form (no_word (codes "reset") kind.LeftBrace refl) (no_word (codes "reset") kind.Colon refl) last.no_reset a;
 }
 
 -- ---- the pieces of forms may stand one after another
 
-behind_mark : (k : TokenKind) (ps : List FormatElement) (left : List Symbol) → is_kind k kind.ResultNumber ≡ false
+after_mark : (k : TokenKind) (ps : List FormatElement) (left : List Symbol) → is_kind k kind.ResultNumber ≡ false
     → (m : List Symbol) (x y : Gathered) → At (ElementsPhrase (element.Mark k ∷ ps) x y) m left → NoNumber m
-behind_mark k ps left other m x y a = no_next kind.ResultNumber (leads_mark k ps x y (unlike kind.ResultNumber k other)) a
+after_mark k ps left other m x y a = no_next kind.ResultNumber (leads_mark k ps x y (unlike kind.ResultNumber k other)) a
 
 operand_last : {left : List Symbol} → FrontEnd left → (m : List Symbol) (x y : Gathered) → At (ElementsPhrase [] x y) m left → NoNumber m
 operand_last last m x y a = ap (is_next kind.ResultNumber) (no_elements a).1 ∙ last.no_number
@@ -122,7 +122,7 @@ mark_ends : {left : List Symbol} (k : TokenKind) (ps : List FormatElement) → E
 mark_ends k ps rest = (λ m x y a. tt, rest)
 
 operand_mark_ends : {left : List Symbol} (k : TokenKind) (ps : List FormatElement) → is_kind k kind.ResultNumber ≡ false → Ends ps left → Ends (element.Operand ∷ element.Mark k ∷ ps) left
-operand_mark_ends {left} k ps other rest = (behind_mark k ps left other, mark_ends k ps rest)
+operand_mark_ends {left} k ps other rest = (after_mark k ps left other, mark_ends k ps rest)
 
 -- `%a,` and more
 comma_ends : {left : List Symbol} (ps : List FormatElement) → Ends ps left → Ends (element.Operand ∷ comma ∷ ps) left
@@ -147,8 +147,8 @@ optional_reset Reset how x g y {k = k} last leads (inr a) b = ap (is_next kind.R
 word_unlike : {word : List ℕ} → Leads (Unlike kind.ResultNumber) (Word word)
 word_unlike = leads_one (λ t w. unlike kind.ResultNumber kind.BareName refl t w.0)
 
-behind_reset : {left : List Symbol} → FrontEnd left → (m : List Symbol) (x y : Gathered) → At (ElementsPhrase (element.Reset ∷ []) x y) m left → NoNumber m
-behind_reset {left} last m x y a =
+after_reset : {left : List Symbol} → FrontEnd left → (m : List Symbol) (x y : Gathered) → At (ElementsPhrase (element.Reset ∷ []) x y) m left → NoNumber m
+after_reset {left} last m x y a =
     let (g, q) = a.says in
     let inside : At (Then (FormatElementPhrase element.Reset x g) (ElementsPhrase [] g y)) m left = record { passed = a.passed; same = a.same; says = q } in
     let (k, b, c) = at_then inside in
@@ -161,8 +161,8 @@ mode_reset : (x g y : Gathered) {m k left : List Symbol} → FrontEnd left
 mode_reset x g y last (inl a) b = optional_reset ResetSync with_reset x g y last (leads_then word_unlike) (inl a) b
 mode_reset x g y last (inr a) b = optional_reset ResetAsync with_async_reset x g y last (leads_then word_unlike) (at_either a) b
 
-behind_sync : {left : List Symbol} → FrontEnd left → (m : List Symbol) (x y : Gathered) → At (ElementsPhrase (element.SyncOrAsyncReset ∷ []) x y) m left → NoNumber m
-behind_sync {left} last m x y a =
+after_sync : {left : List Symbol} → FrontEnd left → (m : List Symbol) (x y : Gathered) → At (ElementsPhrase (element.SyncOrAsyncReset ∷ []) x y) m left → NoNumber m
+after_sync {left} last m x y a =
     let (g, q) = a.says in
     let inside : At (Then (FormatElementPhrase element.SyncOrAsyncReset x g) (ElementsPhrase [] g y)) m left = record { passed = a.passed; same = a.same; says = q } in
     let (k, b, c) = at_then inside in
@@ -170,11 +170,11 @@ behind_sync {left} last m x y a =
 
 reset_ends : {left : List Symbol} → FrontEnd left → Ends (element.Operand ∷ element.Reset ∷ []) left
 reset_ends last =
-    (behind_reset last, (λ m x y a. (operand_last last m x y a, ap (is_first (is_word (codes "reset"))) (no_elements a).1 ∙ last.no_reset), tt))
+    (after_reset last, (λ m x y a. (operand_last last m x y a, ap (is_first (is_word (codes "reset"))) (no_elements a).1 ∙ last.no_reset), tt))
 
 sync_ends : {left : List Symbol} → FrontEnd left → Ends (element.Operand ∷ element.SyncOrAsyncReset ∷ []) left
 sync_ends last =
-    (behind_sync last, (λ m x y a. (operand_last last m x y a, ap (is_first (is_word (codes "reset"))) (no_elements a).1 ∙ last.no_reset), tt))
+    (after_sync last, (λ m x y a. (operand_last last m x y a, ap (is_first (is_word (codes "reset"))) (no_elements a).1 ∙ last.no_reset), tt))
 
 word_ends : {left : List Symbol} (w : Keyword) (ps : List FormatElement) → Ends ps left → Ends (element.Operand ∷ element.Word w ∷ ps) left
 word_ends w ps rest = (

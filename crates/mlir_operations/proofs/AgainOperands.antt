@@ -10,7 +10,7 @@ use Rattle.mlir_syntax.specs.Stream.{Symbol, is_next}
 use Rattle.mlir_lexer.specs.TokenKinds.{is_kind}
 use Rattle.mlir_syntax.specs.Reads.{some_items}
 use Rattle.mlir_syntax.specs.Numerals.{number_in, number_below, count_limit}
-use Rattle.mlir_operations.specs.OperandText.{OperandName, ResultNames, value_name, pack_number, operand_text, names_behind, results_text, maybe_results}
+use Rattle.mlir_operations.specs.OperandText.{OperandName, ResultNames, value_name, pack_number, operand_text, names_after, results_text, maybe_results}
 use Rattle.mlir_operations.specs.OperandText.ResultNames.{no_names, names, pack}
 use Rattle.mlir_syntax.specs.Spelling.{Phrase, One, Nothing, Mark, Where}
 use Rattle.mlir_operations.specs.Spelling.{ValueName, OperandPhrase, ResultsPhrase}
@@ -75,7 +75,7 @@ is_value leads h =
     (starts leads h)
 
 results_at : (op : OpName) (r : ResultNames) {s left : List Symbol} → NoValue left → At (ResultsPhrase r) s left → maybe_results op s ≡ Ok (r, left)
-unfolding maybe_results results_text names_behind
+unfolding maybe_results results_text names_after
 results_at op no_names clear h =
     let same = at_nothing h in
     if_false _ (ap (is_next kind.ValueName) same ∙ clear) (ap (λ y. Ok (no_names, y)) same)
@@ -90,11 +90,11 @@ results_at op (names n (o ∷ os)) {s} {left} clear h =
     let (t, e) = mark_at op b in
     let (k, c, d) = at_then a in
     let (i, x, y) = at_then d in
-    let (next, behind) = next_at x in
+    let (next, following) = next_at x in
     if_true _ (is_value (leads_value n (λ t k. k)) c)
     (on_ok _ ((again_value_name op).gives n s k c tt)
     (on_ok _ (if_false _ (no_mark kind.Colon refl x) (if_true _ next
-    (on_ok _ (ap (some_items op (value_name op)) behind
+    (on_ok _ (ap (some_items op (value_name op)) following
     ∙ again_some op (again_value_name op) (λ v. leads_value {T = λ _. Unit {0}} v (λ t k. tt)) (λ _ _ _. tt) o os i m y tt (no_mark kind.Comma refl b)) refl)))
     (on_ok _ e refl)))
 results_at op (pack n k) {s} {left} clear h =
@@ -102,10 +102,10 @@ results_at op (pack n k) {s} {left} clear h =
     let (i, c, d) = at_then b in
     let (j, x, y) = at_then d in
     let (t, e) = mark_at op y in
-    let (next, behind) = next_at c in
+    let (next, following) = next_at c in
     if_true _ (is_value (leads_value n (λ t k. k)) a)
     (on_ok _ ((again_value_name op).gives n s m a tt)
-    (on_ok _ (if_true _ next (on_ok _ (ap (number_below count_limit op) behind ∙ (again_number count_limit op).gives k i j x tt) refl)) (on_ok _ e refl)))
+    (on_ok _ (if_true _ next (on_ok _ (ap (number_below count_limit op) following ∙ (again_number count_limit op).gives k i j x tt) refl)) (on_ok _ e refl)))
 
 pub again_results : (op : OpName) → Again NoValue (maybe_results op) ResultsPhrase
 again_results op = record { gives = λ r s left h clear. results_at op r clear h }

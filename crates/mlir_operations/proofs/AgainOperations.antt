@@ -15,7 +15,7 @@ use Rattle.mlir_syntax.specs.Reads.{on}
 use Rattle.mlir_operations.specs.OperandText.{ResultNames}
 use Rattle.mlir_operations.specs.OperandText.ResultNames.{no_names, names, pack}
 use Rattle.assembly_format.specs.Formats.{format_of}
-use Rattle.mlir_operations.specs.OperationText.{OperationText, operation, class_of, bin_text, form_text, named_operation, classed_operation, operation_behind, operation_text, is_last, operations_text}
+use Rattle.mlir_operations.specs.OperationText.{OperationText, operation, class_of, bin_text, form_text, named_operation, classed_operation, operation_after, operation_text, is_last, operations_text}
 use Rattle.canonical_form.specs.Dictionaries.{takes_bin, string_keys}
 use Rattle.mlir_syntax.specs.Spelling.{Phrase, Mark, Then}
 use Rattle.mlir_operations.specs.Spelling.{ValueName, ResultsPhrase, BinPhrase, FormPhrase, TailPhrase, StandsInBody, OperationPhrase, OperationsPhrase, IsPlaceOf}
@@ -51,11 +51,11 @@ abbrev BeginsOperation : OperationText → Lexeme → Type 0
 BeginsOperation o t = (t.kind ≡ kind.ValueName) ⊎ ((t.kind ≡ kind.BareName) × (t.text ≡ name_of_listed o.name))
 
 leads_results : {T : Lexeme → Type 0} {Q : Phrase} (r : ResultNames) → ((t : Lexeme) → t.kind ≡ kind.ValueName → T t) → Leads T Q → Leads T (Then (ResultsPhrase r) Q)
-leads_results no_names value behind = record {
-  lead = λ ts p. let (t, c, e, h) = behind.lead p.1 p.4 in (t, c, p.2 ∙ ap (λ x. x ++ p.1) p.3 ∙ e, h);
+leads_results no_names value following = record {
+  lead = λ ts p. let (t, c, e, h) = following.lead p.1 p.4 in (t, c, p.2 ∙ ap (λ x. x ++ p.1) p.3 ∙ e, h);
 }
-leads_results (names n ns) value behind = leads_then (leads_then (leads_commas ValueName n ns (leads_value n value)))
-leads_results (pack n k) value behind = leads_then (leads_then (leads_value n value))
+leads_results (names n ns) value following = leads_then (leads_then (leads_commas ValueName n ns (leads_value n value)))
+leads_results (pack n k) value following = leads_then (leads_then (leads_value n value))
 
 leads_operation : (o : OperationText) → Leads (BeginsOperation o) (OperationPhrase IsPlaceOf o)
 leads_operation o = leads_where (leads_results o.results (λ t k. inl k) (leads_then (leads_one (λ t p. inr (p.0, p.1)))))
@@ -80,8 +80,8 @@ bin_at o false clear a =
     if_false _ (and_right (takes_bin o) _ (ap (is_first (is_word (codes "bin"))) same ∙ clear)) (ap (λ y. Ok (false, y)) same)
 bin_at o true clear a =
     let (takes, p) = at_where a in
-    let (next, behind) = word_first p in
-    if_true _ (and_from (takes_bin o) _ takes next) (ap (λ y. Ok (true, y)) behind)
+    let (next, following) = word_first p in
+    if_true _ (and_from (takes_bin o) _ takes next) (ap (λ y. Ok (true, y)) following)
 
 -- what is after an operation's name
 named_at : (o : OperationText) {s left : List Symbol} → OperationEnd left → (is_last o.name ≡ true → NoValue left)
@@ -101,7 +101,7 @@ named_at o {s} {left} last out a =
 
 operation_at : (o : OperationText) {s left : List Symbol} → OperationEnd left → (is_last o.name ≡ true → NoValue left) → At (OperationPhrase IsPlaceOf o) s left
     → operation_text s ≡ Ok (o, left)
-unfolding operation_text operation_behind classed_operation
+unfolding operation_text operation_after classed_operation
 operation_at o {s} {left} last out a =
     let (stands, p) = at_where a in
     let (m1, b, c) = at_then p in
@@ -110,7 +110,7 @@ operation_at o {s} {left} last out a =
     let clear : NoValue m1 = no_next kind.ValueName (leads_one (λ t q. unlike kind.ValueName kind.BareName refl t q.0)) d in
     let class : class_of t.text ≡ operation o.name = ap class_of q.1 ∙ class_known o.name stands in
     on_ok _ ((again_results (op.Listed listed.HwModule)).gives o.results s m1 b clear)
-    (ap (operation_behind o.results) same ∙ if_true _ (is_kind_of q.0)
+    (ap (operation_after o.results) same ∙ if_true _ (is_kind_of q.0)
     (ap (classed_operation o.results (token t ∷ m2) t) class ∙ ap (λ x. named_operation o.results o.name x m2) q.2 ∙ named_at o last out e))
 
 -- ---- operations
@@ -150,14 +150,14 @@ output_last : (os : List OperationText) {s m left : List Symbol} → os ≡ [] �
 output_last os {s} {m} none close a =
     let nothing : At (OperationsPhrase IsPlaceOf []) s m = subst (λ x. At (OperationsPhrase IsPlaceOf x) s m) none a in
     let same : s ≡ m = at_nothing nothing in
-    let (next, behind) = next_at close in
+    let (next, following) = next_at close in
     (same, ap (is_next kind.ValueName) same ∙ no_mark kind.ValueName refl close, ap (is_next kind.RightBrace) same ∙ next)
 
 -- an operation is the last, or further ones stand after it
 last_or_more : (n : ℕ) (o : OperationText) (os : List OperationText) {k m left : List Symbol} (b : Bool) → (b ≡ true → os ≡ []) → At (Mark kind.RightBrace) m left
     → At (OperationsPhrase IsPlaceOf os) k m → operations_text n k ≡ Ok (os, m)
     → cond b (cond (is_next kind.RightBrace k) (Ok (o ∷ [], k)) (Err (unexpected_refusal (op.Listed listed.HwModule) k)))
-    (on (operations_text n k) (λ os behind. Ok (o ∷ os, behind))) ≡ Ok (o ∷ os, m)
+    (on (operations_text n k) (λ os following. Ok (o ∷ os, following))) ≡ Ok (o ∷ os, m)
 last_or_more n o os true once close c more =
     let (same, clear, next) = output_last os (once refl) close c in
     if_true _ next (ap₂ (λ x y. Ok (o ∷ x, y)) (sym (once refl)) same)
@@ -171,7 +171,7 @@ operations_at zero [] {s} {m} close a le =
     let same : length s ≡ length m = ap length (at_nothing a) in
     absurd (omega (arith, short, same, le))
 operations_at (suc n) [] {s} {m} close a le =
-    let (next, behind) = next_at close in
+    let (next, following) = next_at close in
     if_true _ (ap (is_next kind.RightBrace) (at_nothing a) ∙ next) (ap (λ y. Ok ([], y)) (at_nothing a))
 operations_at zero (o ∷ os) {s} close a le =
     let (once, p) = at_where a in

@@ -26,7 +26,7 @@ use Rattle.mlir_syntax.proofs.Again.{At, Leads, leads_one, leads_then, starts, s
 use Rattle.mlir_syntax.proofs.AgainTokens.{is_kind_of, unlike, no_word, other_word, leads_holding, leads_commas, leads_integer}
 use Rattle.mlir_syntax.proofs.AgainLiterals.{leads_aggregate}
 use Rattle.mlir_operations.proofs.AgainOperands.{NoValue, leads_operand}
-use Rattle.mlir_operations.proofs.AgainForms.{OperationEnd, types_form, leads_elements, no_elements, behind_front, front_of}
+use Rattle.mlir_operations.proofs.AgainForms.{OperationEnd, types_form, leads_elements, no_elements, after_front, front_of}
 
 -- ---- what a form begins with
 
@@ -115,7 +115,7 @@ pub no_bin : (keys : List Name) (format : Format) (h : Gathered) (es : List Entr
 no_bin keys format h es last a =
     let (g, early, late, one, m, b, c) = front_of keys format h es a in
     no_bin_front (front_elements format) gathered_nothing g (front_first format)
-    (behind_front (is_word (codes "bin")) keys (type_elements format) g h early late (types_form format) (no_word (codes "bin") kind.LeftBrace refl)
+    (after_front (is_word (codes "bin")) keys (type_elements format) g h early late (types_form format) (no_word (codes "bin") kind.LeftBrace refl)
     (no_word (codes "bin") kind.Colon refl) last.no_bin c) b
 
 -- ---- the form of an operation is told by the token that it begins with
@@ -148,7 +148,7 @@ output_at keys true h es last a =
 output_at keys false h es {s} last a =
     let (g, early, late, one, m, b, c) = front_of keys format.Nothing h es a in
     of_first kind.ValueName s ∙ ap (is_next kind.ValueName) (no_elements b).1
-    ∙ behind_front (λ t. is_kind t.kind kind.ValueName) keys (type_elements format.Nothing) g h early late (types_form format.Nothing) (unlike kind.ValueName kind.LeftBrace refl)
+    ∙ after_front (λ t. is_kind t.kind kind.ValueName) keys (type_elements format.Nothing) g h early late (types_form format.Nothing) (unlike kind.ValueName kind.LeftBrace refl)
     (unlike kind.ValueName kind.Colon refl) last c
 
 pub format_at : (o : Listed) (next : Option Lexeme) (keys : List Name) (h : Gathered) (es : List Entry) {s left : List Symbol} → (is_last o ≡ true → NoValue left)

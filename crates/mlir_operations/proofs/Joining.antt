@@ -16,8 +16,8 @@ use Rattle.mlir_syntax.proofs.Chains.{on_err}
 use Rattle.mlir_syntax.proofs.Lists.{IsItem, Gathering, fails, ends, goes_on, begins}
 
 -- what is read after those before
-abbrev pub behind : {A : Type 0} → List A → Read (List A) → Read (List A)
-behind front read = on read (λ xs left. Ok (front ++ xs, left))
+abbrev pub following : {A : Type 0} → List A → Read (List A) → Read (List A)
+following front read = on read (λ xs left. Ok (front ++ xs, left))
 
 -- items are gathered after those before
 pub record Onto {A B : Type 0} (view : B → A) (op : OpName) (item : Reads A) (start : List Symbol) (front got : List B) (left : List Symbol) : Type 0 where
@@ -31,7 +31,7 @@ onto_begins view op item start front = record { here = []; joined = sym (append-
 pub onto_fails : {A B C : Type 0} {view : B → A} {op : OpName} {item : Reads A} {start : List Symbol} {front got : List B} {left : List Symbol}
     (whole : C → List A) (fail : ReadFail) (past left_over : List Symbol)
     → IsItem op item → Onto view op item start front got left → ReadsAs view (Err fail) past (item left)
-    → ReadsAs whole (Err fail) left_over (behind (map view front) (items op item (length start) start))
+    → ReadsAs whole (Err fail) left_over (following (map view front) (items op item (length start) start))
 onto_fails {A = A} {view = view} {op = op} {item = item} {start = start} {front = front} whole fail past left_over none o read =
     on_err {A = List A} (λ x. x) whole fail left_over left_over (items op item (length start) start) (λ xs left. Ok (map view front ++ xs, left))
     (fails (λ x. x) fail past left_over none o.gathering read)
@@ -40,9 +40,9 @@ pub onto_ends : {A B : Type 0} {view : B → A} {op : OpName} {item : Reads A} {
     (x : B) (xs : List B) (past new : List Symbol) (passed : Bool)
     → IsItem op item → Onto view op item start front got left → item left ≡ Ok (view x, past) → xs ≡ got ++ x ∷ []
     → passed ≡ is_next kind.Comma past → new ≡ cond passed (after past) past → passed ≡ false
-    → behind (map view front) (items op item (length start) start) ≡ Ok (map view xs, new)
+    → following (map view front) (items op item (length start) start) ≡ Ok (map view xs, new)
 onto_ends {view = view} {front = front} x xs past new passed none o read pushed is moved no_comma =
-    ap (behind (map view front)) (ends x (o.here ++ x ∷ []) past new passed none o.gathering read refl is moved no_comma)
+    ap (following (map view front)) (ends x (o.here ++ x ∷ []) past new passed none o.gathering read refl is moved no_comma)
     ∙ ap (λ l. Ok (l, new)) (sym (map-append view front (o.here ++ x ∷ [])) ∙ ap (map view) (sym (pushed ∙ ap (λ l. l ++ x ∷ []) o.joined ∙ append_assoc front o.here (x ∷ []))))
 
 pub onto_goes_on : {A B : Type 0} {view : B → A} {op : OpName} {item : Reads A} {start : List Symbol} {front got : List B} {left : List Symbol}
@@ -61,25 +61,25 @@ onto_goes_on {front = front} x xs past new passed none o read pushed is moved co
 
 -- types are read after those before
 pub further_at : (op : OpName) (n i : ℕ) (front : List HwType) (s : List Symbol) → i < n
-    → behind front (further_types op (n - i) s)
-    ≡ on (on (want op kind.Comma s) (λ _ s1. on (any_type op s1) (λ t left. Ok (front ++ t ∷ [], left)))) (λ more left. behind more (further_types op (n - (i + 1)) left))
+    → following front (further_types op (n - i) s)
+    ≡ on (on (want op kind.Comma s) (λ _ s1. on (any_type op s1) (λ t left. Ok (front ++ t ∷ [], left)))) (λ more left. following more (further_types op (n - (i + 1)) left))
 unfolding further_types
 further_at op n i front s less =
     let e : n - i ≡ suc (n - (i + 1)) = omega (arith, less) in
     rw e (go (want op kind.Comma s))
   where
     last : (t : HwType) (r : Read (List HwType))
-        → behind front (on r (λ ts s3. Ok (t ∷ ts, s3))) ≡ behind (front ++ t ∷ []) r
+        → following front (on r (λ ts s3. Ok (t ∷ ts, s3))) ≡ following (front ++ t ∷ []) r
     last t (Err e) = refl
     last t (Ok p) = ap (λ l. Ok (l, p.1)) (sym (append_assoc front (t ∷ []) p.0))
 
-    inner : (r : Read HwType) → behind front (on r (λ t s2. on (further_types op (n - (i + 1)) s2) (λ ts s3. Ok (t ∷ ts, s3))))
-        ≡ on (on r (λ t left. Ok (front ++ t ∷ [], left))) (λ more left. behind more (further_types op (n - (i + 1)) left))
+    inner : (r : Read HwType) → following front (on r (λ t s2. on (further_types op (n - (i + 1)) s2) (λ ts s3. Ok (t ∷ ts, s3))))
+        ≡ on (on r (λ t left. Ok (front ++ t ∷ [], left))) (λ more left. following more (further_types op (n - (i + 1)) left))
     inner (Err e) = refl
     inner (Ok p) = last p.0 (further_types op (n - (i + 1)) p.1)
 
-    go : (r : Read Lexeme) → behind front (on r (λ _ s1. on (any_type op s1) (λ t s2. on (further_types op (n - (i + 1)) s2) (λ ts s3. Ok (t ∷ ts, s3)))))
-        ≡ on (on r (λ _ s1. on (any_type op s1) (λ t left. Ok (front ++ t ∷ [], left)))) (λ more left. behind more (further_types op (n - (i + 1)) left))
+    go : (r : Read Lexeme) → following front (on r (λ _ s1. on (any_type op s1) (λ t s2. on (further_types op (n - (i + 1)) s2) (λ ts s3. Ok (t ∷ ts, s3)))))
+        ≡ on (on r (λ _ s1. on (any_type op s1) (λ t left. Ok (front ++ t ∷ [], left)))) (λ more left. following more (further_types op (n - (i + 1)) left))
     go (Err e) = refl
     go (Ok p) = inner (any_type op p.1)
 
@@ -89,14 +89,14 @@ is_input op = refl
 
 -- a further type is refused
 pub further_fails : (op : OpName) (n i : ℕ) (all front : List HwType) (start s past left_over : List Symbol) (fail : ReadFail) → i < n
-    → behind all (further_types op n start) ≡ behind front (further_types op (n - i) s)
+    → following all (further_types op n start) ≡ following front (further_types op (n - i) s)
     → ReadsAs (λ (u : Unit {0}). front) (Err fail) past (on (want op kind.Comma s) (λ _ s1. on (any_type op s1) (λ t left. Ok (front ++ t ∷ [], left))))
-    → ReadsAs (λ (u : Unit {0}). front) (Err fail) left_over (behind all (further_types op n start))
+    → ReadsAs (λ (u : Unit {0}). front) (Err fail) left_over (following all (further_types op n start))
 further_fails op n i all front start s past left_over (Refused r) less same read =
-    same ∙ further_at op n i front s less ∙ ap (λ q. on q (λ more left. behind more (further_types op (n - (i + 1)) left))) read
+    same ∙ further_at op n i front s less ∙ ap (λ q. on q (λ more left. following more (further_types op (n - (i + 1)) left))) read
 further_fails op n i all front start s past left_over NoMemory less same read = tt
 
 -- no further type is left
-pub further_ends : (op : OpName) (n i : ℕ) (front : List HwType) (s : List Symbol) → n ≤ i → behind front (further_types op (n - i) s) ≡ Ok (front, s)
+pub further_ends : (op : OpName) (n i : ℕ) (front : List HwType) (s : List Symbol) → n ≤ i → following front (further_types op (n - i) s) ≡ Ok (front, s)
 unfolding further_types
 further_ends op n i front s le = let e : n - i ≡ 0 = omega (arith, le) in rw e (ap (λ l. Ok (l, s)) (append-nil front))

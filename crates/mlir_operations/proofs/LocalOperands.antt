@@ -6,7 +6,7 @@ use Rattle.mlir_lexer.specs.Contents.{content_of}
 use Rattle.mlir_lexer.specs.declared.token.TokenKind.TheVariants as kind
 use Rattle.mlir_lexer.specs.TokenKinds.{is_kind}
 use Rattle.mlir_syntax.specs.Numerals.{number_in, count_limit, below_limit}
-use Rattle.mlir_operations.specs.OperandText.{value_name, pack_number, operand_text, no_names, names, pack, names_behind, results_text, maybe_results}
+use Rattle.mlir_operations.specs.OperandText.{value_name, pack_number, operand_text, no_names, names, pack, names_after, results_text, maybe_results}
 use Rattle.mlir_syntax.proofs.LocalParts.{local_want, local_limited, local_kind, local_number, local_some}
 use Rattle.mlir_syntax.proofs.Local.{Local, loc_on, loc_next, loc_after, loc_give}
 
@@ -27,9 +27,9 @@ unfolding operand_text
 local_operand op c n =
     loc_on (local_value_name op c n) (λ name. loc_on (local_pack op c n) (λ x. loc_give {y = record { name = name; number = x }}))
 
-local_names_behind : (op : OpName) (name : Name) → Local (names_behind op name)
-unfolding names_behind
-local_names_behind op name c n =
+local_names_after : (op : OpName) (name : Name) → Local (names_after op name)
+unfolding names_after
+local_names_after op name c n =
     loc_next (λ t. is_kind t.kind kind.Colon) (loc_after (loc_on (local_number count_limit op c n) (λ k. loc_give {y = pack name k})))
     (loc_next (λ t. is_kind t.kind kind.Comma) (loc_after (loc_on (local_some op (local_value_name op) c n) (λ ns. loc_give {y = names name ns})))
     (loc_give {y = names name []}))
@@ -37,7 +37,7 @@ local_names_behind op name c n =
 local_results : (op : OpName) → Local (results_text op)
 unfolding results_text
 local_results op c n =
-    loc_on (local_value_name op c n) (λ name. loc_on (local_names_behind op name c n) (λ r. loc_on (local_want op kind.Equals c n) (λ _. loc_give {y = r})))
+    loc_on (local_value_name op c n) (λ name. loc_on (local_names_after op name c n) (λ r. loc_on (local_want op kind.Equals c n) (λ _. loc_give {y = r})))
 
 pub local_maybe_results : (op : OpName) → Local (maybe_results op)
 unfolding maybe_results

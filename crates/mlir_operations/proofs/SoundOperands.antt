@@ -9,7 +9,7 @@ use Rattle.mlir_lexer.specs.declared.token.TokenKind.TheVariants as kind
 use Rattle.mlir_syntax.specs.Stream.{Symbol, is_next}
 use Rattle.mlir_syntax.specs.Reads.{on, want}
 use Rattle.mlir_syntax.specs.Numerals.{number_in, below_limit, count_limit}
-use Rattle.mlir_operations.specs.OperandText.{value_name, pack_number, operand_text, ResultNames, no_names, names, pack, names_behind, results_text, maybe_results}
+use Rattle.mlir_operations.specs.OperandText.{value_name, pack_number, operand_text, ResultNames, no_names, names, pack, names_after, results_text, maybe_results}
 use Rattle.mlir_syntax.specs.Spelling.{Phrase, One, Mark, Either, Where, Nothing}
 use Rattle.mlir_operations.specs.Spelling.{ValueName, OperandPhrase, ResultsPhrase}
 use Rattle.mlir_syntax.proofs.Sound.{Said, Sound, ok_of, sound_on, sound_last, sound_give, sound_if, sound_past}
@@ -44,12 +44,12 @@ sound_operand op =
     sound_on (sound_value_name op) (λ name. sound_last (λ n. record { name = name; number = n }) (sound_pack op) (λ n b pb a pa. pair a b pa pb))
 
 -- what stands between a first name and `=`
-abbrev BehindName : Name → ResultNames → Phrase
-BehindName name r b = (a : List Lexeme) → ValueName name a → (c : List Lexeme) → Mark kind.Equals c → ResultsPhrase r (a ++ (b ++ c))
+abbrev AfterName : Name → ResultNames → Phrase
+AfterName name r b = (a : List Lexeme) → ValueName name a → (c : List Lexeme) → Mark kind.Equals c → ResultsPhrase r (a ++ (b ++ c))
 
-sound_names_behind : (op : OpName) (name : Name) → Sound (names_behind op name) (BehindName name)
-unfolding names_behind
-sound_names_behind op name =
+sound_names_after : (op : OpName) (name : Name) → Sound (names_after op name) (AfterName name)
+unfolding names_after
+sound_names_after op name =
     sound_past (λ t h. sound_last (λ k. pack name k) (sound_number count_limit op) (λ k b pb a pa c pc.
     pair a (t ∷ (b ++ c)) pa (pair (t ∷ []) (b ++ c) (said_mark h) (pair b c pb pc))))
     (sound_past (λ t h. sound_last (λ ns. names name ns) (sound_some op (sound_value_name op)) (λ ns b pb a pa c pc.
@@ -59,7 +59,7 @@ sound_names_behind op name =
 sound_results : (op : OpName) → Sound (results_text op) ResultsPhrase
 unfolding results_text
 sound_results op =
-    sound_on (sound_value_name op) (λ name. sound_on (sound_names_behind op name) (λ r. sound_last (λ _. r) (sound_want op kind.Equals) (λ _ c pc b pb a pa.
+    sound_on (sound_value_name op) (λ name. sound_on (sound_names_after op name) (λ r. sound_last (λ _. r) (sound_want op kind.Equals) (λ _ c pc b pb a pa.
     pb a pa c (mark pc))))
 
 pub sound_maybe_results : (op : OpName) → Sound (maybe_results op) ResultsPhrase

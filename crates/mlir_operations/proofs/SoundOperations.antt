@@ -20,12 +20,12 @@ use Rattle.mlir_syntax.specs.AttributeText.{is_among}
 use Rattle.mlir_operations.specs.OperandText.{ResultNames}
 use Rattle.assembly_format.specs.Formats.{format_of, front_elements, type_elements}
 use Rattle.mlir_operations.specs.ElementText.{gathered_nothing}
-use Rattle.mlir_operations.specs.OperationText.{file_names, left_out, is_foreign, NameClass, operation, module_name, file_name, locations, outside, unknown, class_of_listed, class_of_other, class_by, class_of, bin_text, OperationText, given_entries, late_dictionary, Tail, form_text, named_operation, classed_operation, operation_behind, operation_text, is_last, operations_text}
+use Rattle.mlir_operations.specs.OperationText.{file_names, left_out, is_foreign, NameClass, operation, module_name, file_name, locations, outside, unknown, class_of_listed, class_of_other, class_by, class_of, bin_text, OperationText, given_entries, late_dictionary, Tail, form_text, named_operation, classed_operation, operation_after, operation_text, is_last, operations_text}
 use Rattle.canonical_form.specs.Dictionaries.{takes_bin, string_keys}
 use Rattle.mlir_syntax.specs.Spelling.{Phrase, MaybeDictionary}
 use Rattle.mlir_operations.specs.Spelling.{IsOneOf, FormPhrase, BinPhrase, MayHaveFormat, OperationPhrase, OperationsPhrase, ResultsPhrase, StandsInBody, IsPlaceOf}
 use Rattle.assembly_format.specs.declared.elements.Format.{Format}
-use Rattle.mlir_syntax.proofs.Sound.{Said, Sound, Behind, one_more, sound_on, sound_last, sound_give, sound_refused, sound_if, sound_past}
+use Rattle.mlir_syntax.proofs.Sound.{Said, Sound, Reading, one_more, sound_on, sound_last, sound_give, sound_refused, sound_if, sound_past}
 use Rattle.mlir_syntax.proofs.SoundTokens.{pair, kind_is, said_word}
 use Rattle.mlir_syntax.proofs.SoundAttributes.{sound_maybe}
 use Rattle.mlir_operations.proofs.SoundOperands.{sound_maybe_results}
@@ -96,12 +96,12 @@ sound_shaped o = record {
 }
 
 -- what is after a name, where the name and the names of results stand before
-abbrev BehindName : ResultNames → Listed → Place → OperationText → Phrase
-BehindName results o place y ts =
+abbrev AfterName : ResultNames → Listed → Place → OperationText → Phrase
+AfterName results o place y ts =
     (t : Lexeme) → StandsInBody o → t.kind ≡ kind.BareName → t.text ≡ name_of_listed o → t.place ≡ place → (a : List Lexeme) → ResultsPhrase results a
     → OperationPhrase IsPlaceOf y (a ++ (t ∷ ts))
 
-sound_named : (results : ResultNames) (o : Listed) (place : Place) → Sound (named_operation results o place) (BehindName results o place)
+sound_named : (results : ResultNames) (o : Listed) (place : Place) → Sound (named_operation results o place) (AfterName results o place)
 unfolding named_operation
 sound_named results o place =
     sound_on (sound_bin o) (λ bin. sound_last
@@ -112,10 +112,10 @@ sound_named results o place =
 -- ---- operations
 
 classed_ok : (results : ResultNames) (t : Lexeme) (ts left : List Symbol) (x : OperationText) (class : NameClass) → t.kind ≡ kind.BareName → ClassSays t.text class
-    → classed_operation results (token t ∷ ts) t class ≡ Ok (x, left) → Said (Behind (ResultsPhrase results) (OperationPhrase IsPlaceOf x)) (token t ∷ ts) left
+    → classed_operation results (token t ∷ ts) t class ≡ Ok (x, left) → Said (Reading (ResultsPhrase results) (OperationPhrase IsPlaceOf x)) (token t ∷ ts) left
 unfolding classed_operation
 classed_ok results t ts left x (operation o) k says h =
-    one_more t ts left (Behind (ResultsPhrase results) (OperationPhrase IsPlaceOf x))
+    one_more t ts left (Reading (ResultsPhrase results) (OperationPhrase IsPlaceOf x))
     (let (a, ea, p) = (sound_named results o t.place).said ts left x h in (a, ea, λ f pf. p t says.1 k (sym says.0) refl f pf))
 classed_ok results t ts left x module_name k says h = absurd cc
 classed_ok results t ts left x file_name k says h = absurd cc
@@ -123,20 +123,20 @@ classed_ok results t ts left x locations k says h = absurd cc
 classed_ok results t ts left x outside k says h = absurd cc
 classed_ok results t ts left x unknown k says h = absurd cc
 
-behind_ok : (results : ResultNames) (s left : List Symbol) (x : OperationText) → operation_behind results s ≡ Ok (x, left)
-    → Said (Behind (ResultsPhrase results) (OperationPhrase IsPlaceOf x)) s left
-unfolding operation_behind
-behind_ok results [] left x h = absurd cc
-behind_ok results (token t ∷ ts) left x h =
+after_ok : (results : ResultNames) (s left : List Symbol) (x : OperationText) → operation_after results s ≡ Ok (x, left)
+    → Said (Reading (ResultsPhrase results) (OperationPhrase IsPlaceOf x)) s left
+unfolding operation_after
+after_ok results [] left x h = absurd cc
+after_ok results (token t ∷ ts) left x h =
     cond_both (is_kind t.kind kind.BareName) (classed_operation results (token t ∷ ts) t (class_of t.text)) _
-    (λ m. m ≡ Ok (x, left) → Said (Behind (ResultsPhrase results) (OperationPhrase IsPlaceOf x)) (token t ∷ ts) left)
+    (λ m. m ≡ Ok (x, left) → Said (Reading (ResultsPhrase results) (OperationPhrase IsPlaceOf x)) (token t ∷ ts) left)
     (λ c g. classed_ok results t ts left x (class_of t.text) (kind_is t.kind kind.BareName c) (class_says t.text) g) (λ _ g. absurd cc) h
-behind_ok results (bad p ∷ ts) left x h = absurd cc
-behind_ok results (end p ∷ ts) left x h = absurd cc
+after_ok results (bad p ∷ ts) left x h = absurd cc
+after_ok results (end p ∷ ts) left x h = absurd cc
 
 pub sound_operation : Sound operation_text (OperationPhrase IsPlaceOf)
 unfolding operation_text
-sound_operation = sound_on (sound_maybe_results (op.Listed listed.HwModule)) (λ r. record { said = behind_ok r })
+sound_operation = sound_on (sound_maybe_results (op.Listed listed.HwModule)) (λ r. record { said = after_ok r })
 
 sound_operations : (n : ℕ) → Sound (operations_text n) (OperationsPhrase IsPlaceOf)
 unfolding operations_text
@@ -146,7 +146,7 @@ sound_operations (suc n) =
   where
     go : (o : OperationText) (b : Bool) → is_last o.name ≡ b → Sound (operations_text n) (OperationsPhrase IsPlaceOf)
         → Sound (λ left. cond b (cond (is_next kind.RightBrace left) (Ok (o ∷ [], left)) (Err (unexpected_refusal (op.Listed listed.HwModule) left)))
-        (on (operations_text n left) (λ os behind. Ok (o ∷ os, behind)))) (λ y. Behind (OperationPhrase IsPlaceOf o) (OperationsPhrase IsPlaceOf y))
+        (on (operations_text n left) (λ os following. Ok (o ∷ os, following)))) (λ y. Reading (OperationPhrase IsPlaceOf o) (OperationsPhrase IsPlaceOf y))
     go o true e others = sound_if (is_next kind.RightBrace) (sound_give {y = o ∷ []} (λ a pa. ((λ _. refl), pair a [] pa refl))) sound_refused
     go o false e others = sound_last (λ os. o ∷ os) others (λ os b pb a pa. ((λ c. absurd cc), pair a b pa pb))
 

@@ -112,15 +112,15 @@ body_text s =
     on (want header kind.RightBrace s3) (λ t s4. Ok (record { dictionary = es; operations = os; close = t.place }, s4)))))
 
 -- a module after its name
-unfoldable pub module_behind : Place → Reads ModuleText
-module_behind place s =
+unfoldable pub module_after : Place → Reads ModuleText
+module_after place s =
     on (private_text s) (λ p s1. on (module_symbol header s1) (λ n s2. on (ports_text s2) (λ ports s3. on (body_text s3) (λ b s4.
     Ok (record { symbol = n; is_private = p; ports = ports; dictionary = b.dictionary; operations = b.operations; place = place; close = b.close }, s4)))))
 
 -- a module whose name is of this class, where refusals name what is around
 unfoldable pub classed_module : List Symbol → Lexeme → NameClass → Read ModuleText
 classed_module s t (operation o) = Err (misplaced_refusal op.File s t (operation o))
-classed_module s t module_name = module_behind t.place (after s)
+classed_module s t module_name = module_after t.place (after s)
 classed_module s t file_name = Err (misplaced_refusal op.File s t file_name)
 classed_module s t locations = Err (misplaced_refusal op.File s t locations)
 classed_module s t outside = Err (misplaced_refusal op.File s t outside)
@@ -140,7 +140,7 @@ module_text (end p ∷ ts) = Err (no_operation op.File (end p ∷ ts))
 unfoldable pub modules_text : (List Symbol → Bool) → ℕ → Reads (List ModuleText)
 modules_text ends zero s = Err (unexpected_refusal op.File s)
 modules_text ends (suc n) s =
-    cond (ends s) (Ok ([], s)) (on (module_text s) (λ m left. on (modules_text ends n left) (λ ms behind. Ok (m ∷ ms, behind))))
+    cond (ends s) (Ok ([], s)) (on (module_text s) (λ m left. on (modules_text ends n left) (λ ms following. Ok (m ∷ ms, following))))
 
 -- a symbol that is not kept, or nothing
 unfoldable pub file_symbol : Reads (Unit {0})

@@ -26,7 +26,7 @@ pack_number op s =
 
 -- `%v#i`
 unfoldable pub operand_text : OpName → Reads OperandName
-operand_text op s = on (value_name op s) (λ name left. on (pack_number op left) (λ n behind. Ok (record { name = name; number = n }, behind)))
+operand_text op s = on (value_name op s) (λ name left. on (pack_number op left) (λ n following. Ok (record { name = name; number = n }, following)))
 
 -- how results are named: not at all, one by one, or as a pack of so many
 pub data ResultNames : Type 0 where
@@ -41,15 +41,15 @@ named_count (names n ns) = length (n ∷ ns)
 named_count (pack n k) = k
 
 -- `:k`, further names after commas, or nothing after a first name
-unfoldable pub names_behind : OpName → Name → Reads ResultNames
-names_behind op name s =
+unfoldable pub names_after : OpName → Name → Reads ResultNames
+names_after op name s =
     cond (is_next kind.Colon s) (on (number_below count_limit op (after s)) (λ k left. Ok (pack name k, left)))
     (cond (is_next kind.Comma s) (on (some_items op (value_name op) (after s)) (λ ns left. Ok (names name ns, left))) (Ok (names name [], s)))
 
 -- the names of results and `=`
 unfoldable pub results_text : OpName → Reads ResultNames
 results_text op s =
-    on (value_name op s) (λ name s1. on (names_behind op name s1) (λ r s2. on (want op kind.Equals s2) (λ _ s3. Ok (r, s3))))
+    on (value_name op s) (λ name s1. on (names_after op name s1) (λ r s2. on (want op kind.Equals s2) (λ _ s3. Ok (r, s3))))
 
 -- the names of results, or nothing
 unfoldable pub maybe_results : OpName → Reads ResultNames

@@ -145,16 +145,16 @@ classed_operation results s t outside = Err (misplaced_refusal (op.Listed listed
 classed_operation results s t unknown = Err (misplaced_refusal (op.Listed listed.HwModule) s t unknown)
 
 -- an operation whose results are named so
-unfoldable pub operation_behind : ResultNames → Reads OperationText
-operation_behind results [] = Err (no_operation (op.Listed listed.HwModule) [])
-operation_behind results (token t ∷ ts) =
+unfoldable pub operation_after : ResultNames → Reads OperationText
+operation_after results [] = Err (no_operation (op.Listed listed.HwModule) [])
+operation_after results (token t ∷ ts) =
     cond (is_kind t.kind kind.BareName) (classed_operation results (token t ∷ ts) t (class_of t.text)) (Err (no_operation (op.Listed listed.HwModule) (token t ∷ ts)))
-operation_behind results (bad p ∷ ts) = Err (no_operation (op.Listed listed.HwModule) (bad p ∷ ts))
-operation_behind results (end p ∷ ts) = Err (no_operation (op.Listed listed.HwModule) (end p ∷ ts))
+operation_after results (bad p ∷ ts) = Err (no_operation (op.Listed listed.HwModule) (bad p ∷ ts))
+operation_after results (end p ∷ ts) = Err (no_operation (op.Listed listed.HwModule) (end p ∷ ts))
 
 -- an operation
 unfoldable pub operation_text : Reads OperationText
-operation_text s = on (maybe_results (op.Listed listed.HwModule) s) (λ r left. operation_behind r left)
+operation_text s = on (maybe_results (op.Listed listed.HwModule) s) (λ r left. operation_after r left)
 
 -- whether an operation is a module's output, which is the last of a body
 abbrev pub is_last : Listed → Bool
@@ -168,4 +168,4 @@ operations_text (suc n) s =
     cond (is_next kind.RightBrace s) (Ok ([], s))
     (on (operation_text s) (λ o left. cond (is_last o.name)
     (cond (is_next kind.RightBrace left) (Ok (o ∷ [], left)) (Err (unexpected_refusal (op.Listed listed.HwModule) left)))
-    (on (operations_text n left) (λ os behind. Ok (o ∷ os, behind)))))
+    (on (operations_text n left) (λ os following. Ok (o ∷ os, following)))))

@@ -3,7 +3,7 @@
 ghost use Rattle.std.specs.Prelude.{◌≡◌, ◌≤◌, length, map, OnOk};
 ghost use Rattle.mlir_syntax.specs.Numerals.{number_in, below, count_limit};
 ghost use Rattle.mlir_syntax.specs.Reads.{some_items};
-ghost use Rattle.mlir_operations.specs.OperandText.{value_name, pack_number, operand_text, names_behind, results_text, maybe_results};
+ghost use Rattle.mlir_operations.specs.OperandText.{value_name, pack_number, operand_text, names_after, results_text, maybe_results};
 ghost use Rattle.mlir_syntax.specs.Views.{ReadsAs};
 ghost use Rattle.mlir_operations.specs.Views.{operand_of, names_of};
 
@@ -14,7 +14,7 @@ use mlir_lexer::token::TokenKind;
 use mlir_syntax::fail::ReadFail;
 use mlir_syntax::numerals::decimal;
 use mlir_syntax::reader::Reader;
-use mlir_syntax::type_text::behind_sign;
+use mlir_syntax::type_text::after_sign;
 
 /// `%v`: the name of a value, without its sign.
 ///
@@ -25,7 +25,7 @@ pub fn value_name<'s>(reader: &mut Reader<'s>, op: OpName) -> Result<&'s [u8], R
     ensures shorter { OnOk result (length reader.new ≤ length reader.old) }
 {
     let token = reader.want(op, TokenKind::ValueName)?;
-    Ok(behind_sign(token.text))
+    Ok(after_sign(token.text))
 }
 
 // `#i`, or nothing, which means 0: a number within a pack. Refuses a number of 2^32 or more.
@@ -39,7 +39,7 @@ fn pack_number(reader: &mut Reader<'_>, op: OpName) -> Result<u32, ReadFail>
     }
     let too_large = reader.refusal_for(Cause::NumberTooLarge, op);
     let token = reader.want(op, TokenKind::ResultNumber)?;
-    match decimal(behind_sign(token.text)) {
+    match decimal(after_sign(token.text)) {
         Some(number) => Ok(number),
         None => Err(ReadFail::Refused(too_large)),
     }
@@ -80,19 +80,19 @@ fn results_text<'s>(reader: &mut Reader<'s>, op: OpName) -> Result<ResultNames<'
     ensures shorter { OnOk result (length reader.new ≤ length reader.old) }
 {
     let name = value_name(reader, op)?;
-    let results = names_behind(reader, op, name)?;
+    let results = names_after(reader, op, name)?;
     reader.want(op, TokenKind::Equals)?;
     Ok(results)
 }
 
 // `:k`, further names after commas, or nothing after a first name.
-#[tactic(auto, unfolding(crate::specs::OperandText::names_behind))]
-fn names_behind<'s>(
+#[tactic(auto, unfolding(crate::specs::OperandText::names_after))]
+fn names_after<'s>(
     reader: &mut Reader<'s>,
     op: OpName,
     name: &'s [u8],
 ) -> Result<ResultNames<'s>, ReadFail>
-    ensures gives { ReadsAs names_of result reader.new (names_behind op name.now reader.old) }
+    ensures gives { ReadsAs names_of result reader.new (names_after op name.now reader.old) }
     ensures shorter { OnOk result (length reader.new ≤ length reader.old) }
 {
     if reader.pass(TokenKind::Colon) {

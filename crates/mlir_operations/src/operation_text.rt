@@ -6,7 +6,7 @@ ghost use Rattle.mlir_lexer.specs.Tokens.{lexeme_of};
 ghost use Rattle.mlir_syntax.specs.AttributeHeads.{keys_of};
 ghost use Rattle.mlir_operations.specs.ModuleText.{header};
 ghost use Rattle.mlir_operations.specs.NameClasses.{class_seen};
-ghost use Rattle.mlir_operations.specs.OperationText.{bin_text, form_text, late_dictionary, named_operation, classed_operation, operation_behind, operation_text, misplaced_refusal, no_operation, is_outside, other_name};
+ghost use Rattle.mlir_operations.specs.OperationText.{bin_text, form_text, late_dictionary, named_operation, classed_operation, operation_after, operation_text, misplaced_refusal, no_operation, is_outside, other_name};
 ghost use Rattle.mlir_operations.specs.ElementText.{gathered_nothing};
 ghost use Rattle.mlir_syntax.specs.Stream.{first, is_first};
 ghost use Rattle.mlir_syntax.specs.Views.{ReadsAs};
@@ -61,16 +61,16 @@ pub fn operation_text<'s>(reader: &mut Reader<'s>) -> Result<OperationText<'s>, 
     ensures shorter { OnOk result (length reader.new < length reader.old) }
 {
     let results = maybe_results(reader, HEADER)?;
-    operation_behind(reader, results)
+    operation_after(reader, results)
 }
 
 // An operation whose results are named so.
-#[tactic(auto, unfolding(crate::specs::OperationText::operation_behind))]
-fn operation_behind<'s>(
+#[tactic(auto, unfolding(crate::specs::OperationText::operation_after))]
+fn operation_after<'s>(
     reader: &mut Reader<'s>,
     results: ResultNames<'s>,
 ) -> Result<OperationText<'s>, ReadFail>
-    ensures gives { ReadsAs operation_of result reader.new (operation_behind (names_of results.entry) reader.old) }
+    ensures gives { ReadsAs operation_of result reader.new (operation_after (names_of results.entry) reader.old) }
     ensures shorter { OnOk result (length reader.new < length reader.old) }
 {
     match reader.first() {

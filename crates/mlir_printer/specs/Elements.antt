@@ -232,10 +232,10 @@ types_taken element.Type = 1
 types_taken _ = 0
 
 -- what is left after a piece
-abbrev pub left_behind : FormatElement → Pending → Pending
-left_behind p g = record { operands = drop (operands_taken p) g.operands; types = drop (types_taken p) g.types; inherent = g.inherent }
+abbrev pub left_after : FormatElement → Pending → Pending
+left_after p g = record { operands = drop (operands_taken p) g.operands; types = drop (types_taken p) g.types; inherent = g.inherent }
 
 -- pieces, one after another
 abbrev pub elements_bytes : List FormatElement → Pending → List ℕ
 elements_bytes [] g = []
-elements_bytes (p ∷ ps) g = element_bytes p g ++ elements_bytes ps (left_behind p g)
+elements_bytes (p ∷ ps) g = element_bytes p g ++ elements_bytes ps (left_after p g)

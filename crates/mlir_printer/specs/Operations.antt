@@ -14,7 +14,7 @@ use Rattle.assembly_format.specs.declared.elements.FormatElement.{FormatElement}
 use Rattle.assembly_format.specs.declared.elements.Format.{Format}
 use Rattle.assembly_format.specs.declared.elements.Format.TheVariants as format
 use Rattle.mlir_printer.specs.Numbers.{count_bytes, is_shown_as_truth}
-use Rattle.mlir_printer.specs.Elements.{ValueText, Pending, value_name_bytes, elements_bytes, left_behind}
+use Rattle.mlir_printer.specs.Elements.{ValueText, Pending, value_name_bytes, elements_bytes, left_after}
 use Rattle.mlir_printer.specs.Attributes.{dictionary_bytes}
 use Rattle.mlir_printer.specs.Commas.{commas}
 
@@ -58,14 +58,14 @@ after_blank [] bytes = bytes
 after_blank (p ∷ ps) bytes = codes " " ++ bytes
 
 -- what is left after pieces
-abbrev pub left_behind_all : List FormatElement → Pending → Pending
-left_behind_all [] g = g
-left_behind_all (p ∷ ps) g = left_behind_all ps (left_behind p g)
+abbrev pub left_after_all : List FormatElement → Pending → Pending
+left_after_all [] g = g
+left_after_all (p ∷ ps) g = left_after_all ps (left_after p g)
 
 -- a form: pieces, a dictionary, and the types
 unfoldable pub form_bytes : List FormatElement → List FormatElement → Pending → List Entry → List ℕ
 form_bytes front types g es =
-    after_blank front (elements_bytes front g) ++ (dictionary_bytes (codes " ") es ++ elements_bytes types (left_behind_all front g))
+    after_blank front (elements_bytes front g) ++ (dictionary_bytes (codes " ") es ++ elements_bytes types (left_after_all front g))
 
 -- an operation of a form
 unfoldable pub shaped_bytes : Format → OperationText → List ℕ

@@ -18,7 +18,7 @@ use Rattle.mlir_syntax.specs.Spelling.{AreOnce}
 use Rattle.assembly_format.specs.declared.elements.FormatElement.{FormatElement}
 use Rattle.assembly_format.specs.declared.elements.FormatElement.TheVariants as element
 use Rattle.mlir_printer.specs.Numbers.{is_truth}
-use Rattle.mlir_printer.specs.Elements.{ValueText, Pending, first_operand, left_behind}
+use Rattle.mlir_printer.specs.Elements.{ValueText, Pending, first_operand, left_after}
 use Rattle.mlir_printer.specs.Operations.{OperationText}
 use Rattle.mlir_printer.specs.Modules.{PortText, ModuleText}
 use Rattle.canonical_form.specs.Limits.{IsInteger, IsAnyType, AreLiterals, IsEntry}
@@ -245,9 +245,9 @@ gathered_with element.Types p g = with_types g p.types
 -- what is gathered with pieces
 abbrev pub gathered_with_all : List FormatElement → Pending → Gathered → Gathered
 gathered_with_all [] p g = g
-gathered_with_all (x ∷ xs) p g = gathered_with_all xs (left_behind x p) (gathered_with x p g)
+gathered_with_all (x ∷ xs) p g = gathered_with_all xs (left_after x p) (gathered_with x p g)
 
 -- what pieces need
 abbrev pub NeedAll : List FormatElement → Pending → Gathered → Type 0
 NeedAll [] p g = ⊤
-NeedAll (x ∷ xs) p g = Needs x p g × NeedAll xs (left_behind x p) (gathered_with x p g)
+NeedAll (x ∷ xs) p g = Needs x p g × NeedAll xs (left_after x p) (gathered_with x p g)

@@ -13,7 +13,7 @@ use Rattle.canonical_form.specs.Dictionaries.{module_keys}
 use Rattle.mlir_operations.specs.Spelling.{StandsInBody, FilePhrase, token_of}
 use Rattle.assembly_format.specs.declared.elements.Format.{Format}
 use Rattle.mlir_printer.specs.Elements.{Pending}
-use Rattle.mlir_printer.specs.Operations.{OperationText, format_shown, left_behind_all}
+use Rattle.mlir_printer.specs.Operations.{OperationText, format_shown, left_after_all}
 use Rattle.mlir_printer.specs.Modules.{PortText, ModuleText}
 use Rattle.mlir_printer.specs.Spellable.{said_pending, inherent_view, IsValueName, IsDictionary, gathered_with_all, NeedAll}
 use Rattle.canonical_form.specs.Bytes.{Each, AreBytes}
@@ -30,9 +30,9 @@ pub record IsViewAs (s : Format) (p : Pending) : Type 0 where
   -- the pieces before the types have what they need
   pub front : NeedAll (front_elements s) p gathered_nothing
   -- so have those of the types, of what is left after the front
-  pub types : NeedAll (type_elements s) (left_behind_all (front_elements s) p) (gathered_front s p)
+  pub types : NeedAll (type_elements s) (left_after_all (front_elements s) p) (gathered_front s p)
   -- what is gathered with them is all that is said
-  pub all : gathered_with_all (type_elements s) (left_behind_all (front_elements s) p) (gathered_front s p) ≡ said_pending p
+  pub all : gathered_with_all (type_elements s) (left_after_all (front_elements s) p) (gathered_front s p) ≡ said_pending p
 
 -- names of results, or a pack of fewer than its limit
 abbrev pub AreResults : ResultNames → Type 0

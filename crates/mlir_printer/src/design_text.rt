@@ -14,8 +14,8 @@ use ir_store::design::Design;
 use op_verifier::Verified;
 use std::alloc::{AllocError, Global};
 
-/// The text of a design: `module {`, its modules in order, and `}`. The error comes only for want of
-/// memory.
+/// The text of a design: `module {`, its modules in order, and `}`. The error comes only where memory
+/// runs out.
 #[tactic(auto, using(std::proofs::Common::append_assoc), unfolding(crate::specs::Texts::ir_text, crate::specs::Modules::file_bytes))]
 pub fn design_text(alloc: Global, design: &Design) -> Result<Text, AllocError>
     ensures { IfOk result (λ text. text ≡ ir_text (design_of design.now)) }

@@ -3,7 +3,7 @@ ghost use Rattle.std.specs.Prelude.{◌≡◌, ◌++◌, map, drop, IfOk, OnOk};
 ghost use Rattle.hw_model.specs.TypeViews.{type_of};
 ghost use Rattle.hw_model.specs.KindViews.{predicate_of};
 ghost use Rattle.mlir_printer.specs.Commas.{commas};
-ghost use Rattle.mlir_printer.specs.Operations.{left_behind_all};
+ghost use Rattle.mlir_printer.specs.Operations.{left_after_all};
 ghost use Rattle.mlir_printer.specs.Elements.{mark_bytes, word_bytes, predicate_bytes, value_name_bytes, pack_number_bytes, operand_bytes, first_operand, first_type_bytes, reset_bytes, reset_said, sync_or_async_reset_said, element_bytes, elements_bytes, said_bytes};
 ghost use Rattle.mlir_printer.specs.Views.{value_held, pending_of, inherent_of};
 
@@ -288,7 +288,7 @@ pub fn push_elements<'d>(
     pending: Pending<'d>,
 ) -> Result<Pending<'d>, AllocError>
     ensures bytes { OnOk result (out.new ≡ out.old ++ elements_bytes elements.now (pending_of names.now pending.entry)) }
-    ensures left { IfOk result (λ left. pending_of names.now left ≡ left_behind_all elements.now (pending_of names.now pending.entry)) }
+    ensures left { IfOk result (λ left. pending_of names.now left ≡ left_after_all elements.now (pending_of names.now pending.entry)) }
 {
     let mut left = pending;
     for element in elements {

@@ -2,7 +2,7 @@
 ghost use Rattle.std.specs.Prelude.{◌≡◌, map, drop};
 ghost use Rattle.hw_model.specs.TypeViews.{type_of};
 ghost use Rattle.hw_model.specs.KindViews.{kind_of, reset_of};
-ghost use Rattle.mlir_printer.specs.Elements.{operands_taken, types_taken, left_behind};
+ghost use Rattle.mlir_printer.specs.Elements.{operands_taken, types_taken, left_after};
 ghost use Rattle.mlir_printer.specs.Texts.{reset_inherent, inherent_shown};
 ghost use Rattle.mlir_printer.specs.Views.{inherent_of};
 
@@ -106,8 +106,8 @@ impl<'d> Pending<'d> {
         ensures inherent_view { self.new.inherent_view ≡ self.old.inherent_view }
     {
         match element {
-            FormatElement::Operand => self.operands = behind_first(self.operands),
-            FormatElement::Type => self.types = behind_first(self.types),
+            FormatElement::Operand => self.operands = after_first(self.operands),
+            FormatElement::Type => self.types = after_first(self.types),
             _ => {}
         }
     }
@@ -129,7 +129,7 @@ impl<'d> Pending<'d> {
 }
 
 // The items after the first.
-fn behind_first<T>(items: &[T]) -> &[T]
+fn after_first<T>(items: &[T]) -> &[T]
     ensures { result.now ≡ drop 1 items.now }
 {
     &items[1.min(items.len())..]

@@ -114,11 +114,11 @@ fn push_connections(
 ) -> Result<(), AllocError>
     ensures { OnOk result (out.new ≡ out.old ++ connections_bytes inputs.now outputs.now (map (value_held names.now) operands.now) (map type_of types.now)) }
 {
-    let behind = rest_of(types, inputs.len());
+    let following = rest_of(types, inputs.len());
     out.push_bytes(b"(")?;
     push_inputs(out, names, inputs, operands, types)?;
     out.push_bytes(b") -> (")?;
-    push_outputs(out, outputs, behind)?;
+    push_outputs(out, outputs, following)?;
     out.push_bytes(b")")?;
     Ok(())
 }

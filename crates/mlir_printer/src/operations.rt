@@ -7,7 +7,7 @@ ghost use Rattle.ir_store.specs.OperationViews.{types_in};
 ghost use Rattle.ir_store.specs.DictionaryViews.{entries_in};
 ghost use Rattle.mlir_printer.specs.Commas.{commas};
 ghost use Rattle.mlir_printer.specs.Elements.{value_name_bytes, elements_bytes};
-ghost use Rattle.mlir_printer.specs.Operations.{results_bytes, bin_bytes, form_bytes, is_truth_view, format_shown, after_blank, left_behind_all, operation_line, operation_lines, shaped_bytes};
+ghost use Rattle.mlir_printer.specs.Operations.{results_bytes, bin_bytes, form_bytes, is_truth_view, format_shown, after_blank, left_after_all, operation_line, operation_lines, shaped_bytes};
 ghost use Rattle.assembly_format.specs.Formats.{front_elements, type_elements};
 ghost use Rattle.mlir_printer.specs.Naming.{first_name, firsts, listed_names, name_count, results_named};
 ghost use Rattle.mlir_printer.specs.Texts.{inherent_shown, entries_shown, operation_shown};
@@ -118,7 +118,7 @@ fn push_front<'d>(
     pending: Pending<'d>,
 ) -> Result<Pending<'d>, AllocError>
     ensures bytes { OnOk result (out.new ≡ out.old ++ after_blank elements.now (elements_bytes elements.now (pending_of names.now pending.entry))) }
-    ensures left { IfOk result (λ left. pending_of names.now left ≡ left_behind_all elements.now (pending_of names.now pending.entry)) }
+    ensures left { IfOk result (λ left. pending_of names.now left ≡ left_after_all elements.now (pending_of names.now pending.entry)) }
 {
     if !elements.is_empty() {
         out.push(b' ')?;

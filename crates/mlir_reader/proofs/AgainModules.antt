@@ -19,7 +19,7 @@ use Rattle.mlir_syntax.specs.Reads.{want}
 use Rattle.mlir_syntax.specs.TypeText.{most_open}
 use Rattle.mlir_syntax.specs.AttributeText.{dictionary_text, is_symbol}
 use Rattle.mlir_operations.specs.OperationText.{module_name, class_of}
-use Rattle.mlir_operations.specs.ModuleText.{header, PortText, port_name, port_type, input_port, output_port, port_text, older_input, older_outputs, older_ports, ports_text, ModuleText, attributes_text, private_text, body_text, module_behind, classed_module, module_text, modules_text, file_symbol, want_end, wrapped_text, is_file_name, file_text}
+use Rattle.mlir_operations.specs.ModuleText.{header, PortText, port_name, port_type, input_port, output_port, port_text, older_input, older_outputs, older_ports, ports_text, ModuleText, attributes_text, private_text, body_text, module_after, classed_module, module_text, modules_text, file_symbol, want_end, wrapped_text, is_file_name, file_text}
 use Rattle.canonical_form.specs.Dictionaries.{module_keys}
 use Rattle.mlir_syntax.specs.Spelling.{Phrase, One, Mark, Word, Holding, Then, Either, Where, Nothing, Commas, Between, NamePhrase, SymbolPhrase, TypePhrase, DictionaryPhrase}
 use Rattle.mlir_operations.specs.Spelling.{ValueName, OperationsPhrase, PortPhrase, OlderInputPhrase, OlderOutputPhrase, OlderOutputsPhrase, OlderPortsPhrase, PortsPhrase, AttributesPhrase, PrivatePhrase, ModulePhrase, ModulesPhrase, FileWord, WrappedPhrase, FilePhrase, IsPlaceOf, token_of}
@@ -52,11 +52,11 @@ port_name_at v name {s} {left} clear (inr a) =
     if_false _ (ap (is_next kind.StringLiteral) nothing ∙ clear) (ap (λ y. Ok (v, y)) nothing ∙ ap (λ x. Ok (x, left)) (sym same))
 
 -- a port after `in`
-abbrev InputBehind : PortText → Name → Phrase
-InputBehind p v =
+abbrev InputAfter : PortText → Name → Phrase
+InputAfter p v =
     Then (ValueName v) (Then (Either (Holding kind.StringLiteral p.name) (Where (p.name ≡ v) Nothing)) (Then (Mark kind.Colon) (TypePhrase most_open p.type)))
 
-input_at : (p : PortText) (v : Name) {s left : List Symbol} → p.value ≡ Some v → At (InputBehind p v) s left → input_port s ≡ Ok (p, left)
+input_at : (p : PortText) (v : Name) {s left : List Symbol} → p.value ≡ Some v → At (InputAfter p v) s left → input_port s ≡ Ok (p, left)
 unfolding input_port
 input_at p v {s} {left} same a =
     let (m, b, c) = at_then a in
@@ -75,22 +75,22 @@ output_at p {s} {left} same a =
     (on_ok _ (port_type_at p.type c) (ap (λ o. Ok (record { value = o; name = p.name; type = p.type }, left)) (sym same)))
 
 port_at : (p : PortText) {s left : List Symbol}
-    → At (λ ts. (v : Name) × (p.value ≡ Some v) × Then (Word (codes "in")) (InputBehind p v) ts) s left
+    → At (λ ts. (v : Name) × (p.value ≡ Some v) × Then (Word (codes "in")) (InputAfter p v) ts) s left
     ⊎ At (Where (p.value ≡ None) (Then (Word (codes "out")) (Then (NamePhrase p.name) (Then (Mark kind.Colon) (TypePhrase most_open p.type))))) s left
     → port_text s ≡ Ok (p, left)
 unfolding port_text
 port_at p {s} {left} (inl a) =
     let (v, same, q) = a.says in
-    let inside : At (Then (Word (codes "in")) (InputBehind p v)) s left = record { passed = a.passed; same = a.same; says = q } in
+    let inside : At (Then (Word (codes "in")) (InputAfter p v)) s left = record { passed = a.passed; same = a.same; says = q } in
     let (m, b, c) = at_then inside in
-    let (next, behind) = word_first b in
-    if_true _ next (ap input_port behind ∙ input_at p v same c)
+    let (next, following) = word_first b in
+    if_true _ next (ap input_port following ∙ input_at p v same c)
 port_at p {s} {left} (inr a) =
     let (same, q) = at_where a in
     let (m, b, c) = at_then q in
-    let (next, behind) = word_first b in
+    let (next, following) = word_first b in
     if_false _ (other_first (codes "in") (leads_one (λ t w. other_word (codes "in") (codes "out") refl t w.1)) b)
-    (if_true _ next (ap output_port behind ∙ output_at p same c))
+    (if_true _ next (ap output_port following ∙ output_at p same c))
 
 again_port : Again Any port_text PortPhrase
 again_port = record { gives = λ p s left a _. port_at p (at_either a) }
@@ -132,10 +132,10 @@ older_outputs_at : (outputs : List PortText) {s left : List Symbol} → is_next 
 unfolding older_outputs
 older_outputs_at outputs {s} {left} clear (inl a) =
     let (m, b, c) = at_then a in
-    let (next, behind) = next_at b in
+    let (next, following) = next_at b in
     let (k, d, e) = at_then c in
     let (t, opens) = mark_at header d in
-    if_true _ next (on_ok _ (ap (want header kind.LeftParenthesis) behind ∙ opens)
+    if_true _ next (on_ok _ (ap (want header kind.LeftParenthesis) following ∙ opens)
     (until_at header kind.RightParenthesis again_output (λ p. leads_where (leads_then (name_unlike kind.RightParenthesis refl refl))) (λ _ _ _. tt) (λ _ _ _. tt) refl outputs e))
 older_outputs_at outputs {s} {left} clear (inr a) =
     let (same, p) = at_where a in
@@ -159,7 +159,7 @@ older_told : {A : Type 0} (inputs : List PortText) {s left : List Symbol} (x y :
 older_told [] x y a =
     let (m, b, c) = at_then a in
     let same = at_nothing b in
-    let (next, behind) = next_at c in
+    let (next, following) = next_at c in
     if_false _ (ap (is_next kind.ValueName) same ∙ no_mark kind.ValueName refl c) (if_true _ (ap (is_next kind.RightParenthesis) same ∙ next) refl)
 older_told (p ∷ ps) x y a =
     let (m, b, c) = at_then a in
@@ -201,8 +201,8 @@ attributes_at : (op : OpName) (es : List Entry) {s left : List Symbol} → is_fi
 unfolding attributes_text
 attributes_at op es {s} {left} clear (inl a) =
     let (m, b, c) = at_then a in
-    let (next, behind) = word_first b in
-    if_true _ next (ap (dictionary_text op module_keys) behind ∙ (again_dictionary op module_keys).gives es m left c tt)
+    let (next, following) = word_first b in
+    if_true _ next (ap (dictionary_text op module_keys) following ∙ (again_dictionary op module_keys).gives es m left c tt)
 attributes_at op es {s} {left} clear (inr a) =
     let (same, p) = at_where a in
     let nothing = at_nothing p in
@@ -210,7 +210,7 @@ attributes_at op es {s} {left} clear (inr a) =
 
 private_at : (b : Bool) {s left : List Symbol} → is_first (is_word (codes "private")) left ≡ false → At (PrivatePhrase b) s left → private_text s ≡ Ok (b, left)
 unfolding private_text
-private_at true clear a = let (next, behind) = word_first a in if_true _ next (ap (λ y. Ok (true, y)) behind)
+private_at true clear a = let (next, following) = word_first a in if_true _ next (ap (λ y. Ok (true, y)) following)
 private_at false clear a =
     let nothing = at_nothing a in
     if_false _ (ap (is_first (is_word (codes "private"))) nothing ∙ clear) (ap (λ y. Ok (false, y)) nothing)
@@ -253,11 +253,11 @@ body_no_arrow m {s} {left} a =
     (λ (x : At (Where (m.dictionary ≡ []) Nothing) s i). let (same, p) = at_where x in ap (is_next kind.Arrow) (at_nothing p) ∙ no_mark kind.Arrow refl d)
     (at_either b)
 
-module_behind_at : (m : ModuleText) {s left : List Symbol}
+module_after_at : (m : ModuleText) {s left : List Symbol}
     → At (Then (PrivatePhrase m.is_private) (Then (SymbolPhrase m.symbol) (Then (PortsPhrase m.ports) (BodyPhrase m)))) s left
-    → module_behind m.place s ≡ Ok (m, left)
-unfolding module_behind
-module_behind_at m {s} {left} a =
+    → module_after m.place s ≡ Ok (m, left)
+unfolding module_after
+module_after_at m {s} {left} a =
     let (i, b, c) = at_then a in
     let (j, d, e) = at_then c in
     let (k, x, y) = at_then e in
@@ -275,7 +275,7 @@ module_at m {s} {left} a =
     let (i, b, c) = at_then a in
     let (t, same, p) = at_one b in
     ap module_text same ∙ if_true _ (is_kind_of p.0)
-    (ap (classed_module (token t ∷ i) t) (ap class_of p.1 ∙ module_class) ∙ ap (λ x. module_behind x i) p.2 ∙ module_behind_at m c)
+    (ap (classed_module (token t ∷ i) t) (ap class_of p.1 ∙ module_class) ∙ ap (λ x. module_after x i) p.2 ∙ module_after_at m c)
 
 leads_module : {T : Lexeme → Type 0} (m : ModuleText) → ((t : Lexeme) → t.kind ≡ kind.BareName → t.text ≡ name_of_listed listed.HwModule → T t)
     → Leads T (ModulePhrase IsPlaceOf m)
@@ -300,7 +300,7 @@ modules_at ends not_one (suc n) (m ∷ ms) last some a le =
     let (k, b, c) = at_then a in
     let short = shorter {T = λ _. Unit {0}} (leads_module m (λ t _ _. tt)) b in
     let begun = starts {T = λ t. t.kind ≡ kind.BareName} (leads_module m (λ t e _. e)) b in
-    if_false _ (ap ends begun.same ∙ not_one begun.first begun.behind begun.says)
+    if_false _ (ap ends begun.same ∙ not_one begun.first begun.following begun.says)
     (on_ok _ (module_at m b) (on_ok _ (modules_at ends not_one n ms last some c (omega (arith, short, le))) refl))
 
 -- ---- files
@@ -338,12 +338,12 @@ end_no_module : IsNoModule is_end
 end_no_module t s k = refl
 
 -- what is after the word of a file's module
-abbrev WrappedBehind : List ModuleText → List Entry → Phrase
-WrappedBehind ms es =
+abbrev WrappedAfter : List ModuleText → List Entry → Phrase
+WrappedAfter ms es =
     Then (Either (λ (a : List Lexeme). (name : Name) × SymbolPhrase name a) Nothing)
     (Then (AttributesPhrase es) (Between kind.LeftBrace kind.RightBrace (ModulesPhrase IsPlaceOf ms)))
 
-wrapped_at : (ms : List ModuleText) (es : List Entry) (place : Place) {s : List Symbol} → At (WrappedBehind ms es) s (End place) → wrapped_text s ≡ Ok (ms, End place)
+wrapped_at : (ms : List ModuleText) (es : List Entry) (place : Place) {s : List Symbol} → At (WrappedAfter ms es) s (End place) → wrapped_text s ≡ Ok (ms, End place)
 unfolding wrapped_text want_end
 wrapped_at ms es place a =
     let (i, b, c) = at_then a in
@@ -352,7 +352,7 @@ wrapped_at ms es place a =
     let (l, x, y) = at_then g in
     let (t, et) = mark_at op.File f in
     let (u, eu) = mark_at op.File y in
-    let (next, behind) = next_at y in
+    let (next, following) = next_at y in
     let short = shorter {T = λ _. Unit {0}} (leads_one (λ t k. tt)) y in
     on_ok _ (file_symbol_at (no_symbol_at es f (at_either d)) (at_either b))
     (on_ok _ (attributes_at op.File es (mark_no_word (codes "attributes") kind.LeftBrace refl f) (at_either d))
@@ -379,10 +379,10 @@ unfolding file_text
 file_at ms place {s} (inl a) = if_false _ (no_file_name ms place a) (modules_at is_end end_no_module (length s) ms refl (omega arith) a (omega arith))
 file_at ms place {s} (inr a) =
     let (es, p) = a.says in
-    let inside : At (Then FileWord (WrappedBehind ms es)) s (End place) = record { passed = a.passed; same = a.same; says = p } in
+    let inside : At (Then FileWord (WrappedAfter ms es)) s (End place) = record { passed = a.passed; same = a.same; says = p } in
     let (m, b, c) = at_then inside in
-    let (next, behind) = file_word_first (at_either b) in
-    if_true _ next (ap wrapped_text behind ∙ wrapped_at ms es place c)
+    let (next, following) = file_word_first (at_either b) in
+    if_true _ next (ap wrapped_text following ∙ wrapped_at ms es place c)
 
 -- ---- texts
 

@@ -8,7 +8,7 @@ use Rattle.mlir_operations.specs.ModuleText.{file_text}
 use Rattle.mlir_reader.specs.Reading.{text_limit, design_read, read}
 use Rattle.mlir_reader.specs.Locality.{IsUnspelledFront}
 use Rattle.mlir_reader.specs.Spelling.{Spells}
-use Rattle.mlir_syntax.proofs.Local.{Whole, Same, Given, place_first, whole_behind}
+use Rattle.mlir_syntax.proofs.Local.{Whole, Same, Given, place_first, whole_after}
 use Rattle.mlir_reader.proofs.LocalModules.{whole_stream, read_is, first_place, where_refused}
 use Rattle.mlir_reader.proofs.AgainModules.{file_read}
 
@@ -27,17 +27,17 @@ not_spelled source r d refused spelled =
 
 front_of : (source : List ℕ) (r : Refusal) (front : List Lexeme) (u : List Symbol) → stream_of source ≡ map token front ++ u → place_first u ≡ r.place
     → ((v : List Symbol) → Whole v → Same u v → Given 0 (λ _. file_text) (map token front ++ v) (Err r)) → IsUnspelledFront source r
-front_of source r front [] e place f = absurd (whole_behind front [] (subst Whole e (whole_stream _ (tokens source))))
+front_of source r front [] e place f = absurd (whole_after front [] (subst Whole e (whole_stream _ (tokens source))))
 front_of source r front (symbol ∷ rest) e place f = (
   front,
   symbol,
   rest,
   e,
   first_place symbol rest ∙ place,
-  λ other behind d same.
-      let whole = whole_behind front (symbol ∷ behind) (subst Whole same (whole_stream _ (tokens other))) in
+  λ other following d same.
+      let whole = whole_after front (symbol ∷ following) (subst Whole same (whole_stream _ (tokens other))) in
       not_spelled other r d
-      (ap file_text same ∙ f (symbol ∷ behind) whole refl (length (map token front ++ (symbol ∷ behind))) (omega arith)),
+      (ap file_text same ∙ f (symbol ∷ following) whole refl (length (map token front ++ (symbol ∷ following))) (omega arith)),
 )
 
 -- no text that begins with the tokens before what is refused and with what is refused is spelled

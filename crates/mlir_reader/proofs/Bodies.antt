@@ -7,7 +7,7 @@ use Rattle.mlir_lexer.specs.Tokens.{Lexeme}
 use Rattle.mlir_lexer.specs.declared.token.TokenKind.TheVariants as kind
 use Rattle.mlir_syntax.specs.Stream.{Symbol, token, bad, end, first, is_next, after, unexpected_refusal}
 use Rattle.mlir_syntax.specs.Reads.{Read, Reads, on}
-use Rattle.mlir_operations.specs.OperationText.{OperationText, operation_text, operation_behind, no_operation, operations_text, is_last}
+use Rattle.mlir_operations.specs.OperationText.{OperationText, operation_text, operation_after, no_operation, operations_text, is_last}
 use Rattle.mlir_operations.specs.OperandText.{maybe_results}
 use Rattle.mlir_syntax.specs.Views.{ReadsAs}
 use Rattle.mlir_syntax.specs.declared.fail.ReadFail.{ReadFail}
@@ -31,7 +31,7 @@ abbrev then_others : ℕ → OperationText → Reads (List OperationText)
 then_others n o left =
     cond (is_last o.name)
     (cond (is_next kind.RightBrace left) (Ok (o ∷ [], left)) (Err (unexpected_refusal (op.Listed listed.HwModule) left)))
-    (on (operations_text n left) (λ os behind. Ok (o ∷ os, behind)))
+    (on (operations_text n left) (λ os following. Ok (o ∷ os, following)))
 
 -- some operations are read from the start on, and what is left gives the rest
 pub record Standing {B : Type 0} (view : B → OperationText) (start : List Symbol) (got : List B) (left : List Symbol) : Type 0 where
@@ -45,7 +45,7 @@ stands view start = record { n = length start; enough = omega arith; shorter = o
 
 operations_at : (n : ℕ) (left : List Symbol) → length left ≤ n → is_next kind.RightBrace left ≡ false
     → operations_text n left ≡ on (operation_text left) (then_others (n - 1))
-unfolding operations_text operation_text operation_behind no_operation maybe_results
+unfolding operations_text operation_text operation_after no_operation maybe_results
 operations_at zero [] enough more_left = refl
 operations_at zero (s ∷ ss) enough more_left = absurd (omega (arith, enough))
 operations_at (suc n) left enough more_left = let e : suc n - 1 ≡ n = omega arith in rw (e, more_left) refl
@@ -85,12 +85,12 @@ output_at {view = view} x past g more_left read last more = same_at (Ok (view x,
 
 -- what is read after an operation, where nothing but the end may stand after an output
 others : (n : ℕ) (o : OperationText) (past : List Symbol) → length past ≤ n → (is_last o.name && not (is_next kind.RightBrace past)) ≡ false
-    → then_others n o past ≡ on (operations_text n past) (λ os behind. Ok (o ∷ os, behind))
+    → then_others n o past ≡ on (operations_text n past) (λ os following. Ok (o ∷ os, following))
 others n o past enough more_left = go (is_last o.name) (is_next kind.RightBrace past) refl more_left
   where
     go : (last close : Bool) → is_next kind.RightBrace past ≡ close → (last && not close) ≡ false
-        → cond last (cond close (Ok (o ∷ [], past)) (Err (unexpected_refusal (op.Listed listed.HwModule) past))) (on (operations_text n past) (λ os behind. Ok (o ∷ os, behind)))
-        ≡ on (operations_text n past) (λ os behind. Ok (o ∷ os, behind))
+        → cond last (cond close (Ok (o ∷ [], past)) (Err (unexpected_refusal (op.Listed listed.HwModule) past))) (on (operations_text n past) (λ os following. Ok (o ∷ os, following)))
+        ≡ on (operations_text n past) (λ os following. Ok (o ∷ os, following))
     go true true close none = rw (ends_at n past enough close) refl
     go true false close none = cc
     go false b close none = refl

@@ -21,8 +21,8 @@ use Rattle.mlir_reader.proofs.Defining.{definitions_append}
 
 -- ---- one more operation
 
-behind_first : (i n : ℕ) → i + 1 + n ≡ i + suc n
-behind_first i n = omega arith
+after_first : (i n : ℕ) → i + 1 + n ≡ i + suc n
+after_first i n = omega arith
 
 from_first : (n : ℕ) → n ≡ 0 + n
 from_first n = omega arith
@@ -36,7 +36,7 @@ definitions_more i [] o = append-nil (operation_definitions i o) ∙ ap (λ j. o
 definitions_more i (p ∷ os) o =
     ap (λ ds. operation_definitions i p ++ ds) (definitions_more (i + 1) os o)
     ∙ sym (append_assoc (operation_definitions i p) (body_definitions (i + 1) os) (operation_definitions (i + 1 + length os) o))
-    ∙ ap (λ j. body_definitions i (p ∷ os) ++ operation_definitions j o) (behind_first i (length os))
+    ∙ ap (λ j. body_definitions i (p ∷ os) ++ operation_definitions j o) (after_first i (length os))
 
 pub operations_more : (later seen : Meanings) (i : ℕ) (os : List OperationText) (o : OperationText)
     → operations_from later seen i (os ++ o ∷ []) ≡ operations_from later seen i os ++ operation_at later (with_definitions seen (body_definitions i os)) (i + length os) o ∷ []
@@ -47,7 +47,7 @@ operations_more later seen i (p ∷ os) o =
     ap (λ ops. operation_at later seen i p ∷ ops)
     (operations_more later (with_definitions seen first) (i + 1) os o
     ∙ ap (λ means. operations_from later (with_definitions seen first) (i + 1) os ++ operation_at later means (i + 1 + length os) o ∷ []) (sym (definitions_append seen first others))
-    ∙ ap (λ j. operations_from later (with_definitions seen first) (i + 1) os ++ operation_at later (with_definitions seen (body_definitions i (p ∷ os))) j o ∷ []) (behind_first i (length os)))
+    ∙ ap (λ j. operations_from later (with_definitions seen first) (i + 1) os ++ operation_at later (with_definitions seen (body_definitions i (p ∷ os))) j o ∷ []) (after_first i (length os)))
 
 pub operations_counted : (later seen : Meanings) (i : ℕ) (os : List OperationText) → length (operations_from later seen i os) ≡ length os
 operations_counted later seen i [] = refl
@@ -180,9 +180,9 @@ module _ (seen : Meanings) (os : List OperationText) (o : OperationText) (old mi
   ops_more h r m later k =
       let before = meanings_of old.names in
       let defined : Keeps before (meanings_of mid.names) = subst (λ f. Keeps before f) (sym r.means) (definitions_kept before (operation_definitions old.count o)) in
-      let behind : Keeps (meanings_of mid.names) later = subst (λ (n : Names). Keeps (meanings_of n) later) m.names k in
-      let kept = keeps_then before (meanings_of mid.names) later defined behind in
-      m.ops later behind
+      let following : Keeps (meanings_of mid.names) later = subst (λ (n : Names). Keeps (meanings_of n) later) m.names k in
+      let kept = keeps_then before (meanings_of mid.names) later defined following in
+      m.ops later following
       ∙ ap (λ bs. draft_operations later mid ++ operation_marked later bs o ∷ []) r.marked
       ∙ ap (λ ops. (map (op_by (λ i. i)) ops ++ map (operation_of_draft later) mid.waiting.items) ++ operation_at later before old.count o ∷ []) r.ops
       ∙ ap (λ ds. (map (op_by (λ i. i)) (ops_of old.body) ++ map (operation_of_draft later) ds) ++ operation_at later before old.count o ∷ []) r.waiting

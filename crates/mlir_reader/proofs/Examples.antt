@@ -4,7 +4,7 @@ use Rattle.std.specs.Prelude.{codes}
 use Rattle.diag.specs.declared.refusal.OpName.TheVariants as op
 use Rattle.diag.specs.declared.cause.Cause.TheVariants.{Unexpected}
 use Rattle.mlir_lexer.specs.Fronts.{front_of, sign_front, mark_of}
-use Rattle.mlir_lexer.specs.Tokens.{tokens_behind}
+use Rattle.mlir_lexer.specs.Tokens.{tokens_after}
 use Rattle.mlir_syntax.specs.Stream.{end, refusal}
 use Rattle.mlir_operations.specs.OperationText.{no_operation}
 use Rattle.mlir_operations.specs.ModuleText.{modules_text, module_text, file_text}
@@ -16,7 +16,7 @@ use Rattle.mlir_reader.proofs.LocalModules.{refusal_is_local}
 
 -- an empty text is a design of no modules, and spells it
 empty_text : read [] ≡ Ok []
-unfolding tokens_behind file_text modules_text
+unfolding tokens_after file_text modules_text
 empty_text = refl
 
 empty_spelled : Spells [] []
@@ -27,7 +27,7 @@ place_of_end = refl
 
 -- a brace is no module: it is the symbol that is refused
 brace : read (codes "{") ≡ Err (refusal (record { line = 1; col = 1 }) op.File Unexpected)
-unfolding tokens_behind front_of sign_front mark_of file_text modules_text module_text no_operation
+unfolding tokens_after front_of sign_front mark_of file_text modules_text module_text no_operation
 brace = refl
 
 brace_alone : IsOfItsSymbol (codes "{") (refusal (record { line = 1; col = 1 }) op.File Unexpected)

@@ -17,11 +17,11 @@ use Rattle.mlir_syntax.specs.Reads.{Read, Reads}
 use Rattle.mlir_syntax.specs.TypeText.{any_type, most_open}
 use Rattle.mlir_syntax.specs.AttributeText.{is_symbol}
 use Rattle.mlir_operations.specs.OperationText.{NameClass, operation, module_name, file_name, locations, outside, unknown, class_of, no_operation, is_last, operations_text}
-use Rattle.mlir_operations.specs.ModuleText.{header, port_name, port_type, input_port, output_port, port_text, older_input, older_outputs, older_ports, ports_text, ModuleText, attributes_text, private_text, body_text, module_behind, classed_module, module_text, modules_text, file_symbol, want_end, wrapped_text, is_file_name, file_text}
+use Rattle.mlir_operations.specs.ModuleText.{header, port_name, port_type, input_port, output_port, port_text, older_input, older_outputs, older_ports, ports_text, ModuleText, attributes_text, private_text, body_text, module_after, classed_module, module_text, modules_text, file_symbol, want_end, wrapped_text, is_file_name, file_text}
 use Rattle.canonical_form.specs.Dictionaries.{module_keys}
 use Rattle.mlir_reader.specs.Reading.{text_limit, design_read, read}
 use Rattle.mlir_reader.specs.Locality.{symbol_place, IsOfItsSymbol}
-use Rattle.mlir_syntax.proofs.Local.{Whole, Same, place_first, whole_behind, same_of, same_is_first, Given, Near, Loc, Local, loc_same, loc_on, loc_on_less, loc_if, loc_next, loc_cond, loc_first, loc_after, loc_give, loc_unexpected, loc_zero, loc_step, local_all}
+use Rattle.mlir_syntax.proofs.Local.{Whole, Same, place_first, whole_after, same_of, same_is_first, Given, Near, Loc, Local, loc_same, loc_on, loc_on_less, loc_if, loc_next, loc_cond, loc_first, loc_after, loc_give, loc_unexpected, loc_zero, loc_step, local_all}
 use Rattle.mlir_syntax.proofs.LocalParts.{local_want, local_name, local_symbol, local_until, local_type, local_dictionary}
 use Rattle.mlir_operations.proofs.LocalOperands.{local_value_name}
 use Rattle.mlir_reader.proofs.LocalOperations.{local_module_symbol, loc_no_operation, loc_misplaced, local_operation, takes_operation, takes_module}
@@ -103,16 +103,16 @@ local_body c n =
     loc_on (local_all {R = operations_text} loc_operations c n) (λ os. loc_on (local_want header kind.RightBrace c n) (λ t.
     loc_give {y = record { dictionary = es; operations = os; close = t.place }}))))
 
-local_module_behind : (place : Place) → Local (module_behind place)
-unfolding module_behind
-local_module_behind place c n =
+local_module_after : (place : Place) → Local (module_after place)
+unfolding module_after
+local_module_after place c n =
     loc_on (local_private c n) (λ p. loc_on (local_module_symbol header c n) (λ x. loc_on (local_ports c n) (λ ports. loc_on (local_body c n) (λ b.
     loc_give {y = record { symbol = x; is_private = p; ports = ports; dictionary = b.dictionary; operations = b.operations; place = place; close = b.close }}))))
 
 local_classed_module : (t : Lexeme) (class : NameClass) → Local (λ s. classed_module s t class)
 unfolding classed_module
 local_classed_module t (operation o) c n = loc_misplaced op.File t (operation o)
-local_classed_module t module_name c n = loc_after (local_module_behind t.place c n)
+local_classed_module t module_name c n = loc_after (local_module_after t.place c n)
 local_classed_module t file_name c n = loc_misplaced op.File t file_name
 local_classed_module t locations c n = loc_misplaced op.File t locations
 local_classed_module t outside c n = loc_misplaced op.File t outside
@@ -191,17 +191,17 @@ first_place (end p) rest = refl
 
 refused_at : (source : List ℕ) (r : Refusal) (front : List Lexeme) (u : List Symbol) → stream_of source ≡ map token front ++ u → place_first u ≡ r.place
     → ((v : List Symbol) → Whole v → Same u v → Given 0 (λ _. file_text) (map token front ++ v) (Err r)) → IsOfItsSymbol source r
-refused_at source r front [] e place f = absurd (whole_behind front [] (subst Whole e (whole_stream _ (tokens source))))
+refused_at source r front [] e place f = absurd (whole_after front [] (subst Whole e (whole_stream _ (tokens source))))
 refused_at source r front (symbol ∷ rest) e place f = (
   front,
   symbol,
   rest,
   e,
   first_place symbol rest ∙ place,
-  λ other behind le same.
+  λ other following le same.
       read_is other le ∙ ap (λ s. design_read (file_text s)) same
-      ∙ ap design_read (f (symbol ∷ behind) (whole_behind front (symbol ∷ behind) (subst Whole same (whole_stream _ (tokens other)))) refl
-      (length (map token front ++ (symbol ∷ behind))) (omega arith)),
+      ∙ ap design_read (f (symbol ∷ following) (whole_after front (symbol ∷ following) (subst Whole same (whole_stream _ (tokens other)))) refl
+      (length (map token front ++ (symbol ∷ following))) (omega arith)),
 )
 
 refused_when : (P : Refusal → Type 0) (source : List ℕ) (r : Refusal) (m : Read (List ModuleText)) → Near (Given 0 (λ _. file_text)) (stream_of source) m

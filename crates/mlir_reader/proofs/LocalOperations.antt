@@ -26,7 +26,7 @@ use Rattle.assembly_format.specs.Formats.{text_of_keyword, format_of, front_elem
 use Rattle.mlir_operations.specs.ElementText.{InherentAttributes, Gathered, gathered_nothing, with_operands, with_types, with_inherent, truth_number, group_text, further_types, types_text, reset_operands, reset_text, reset_mode, sync_or_async_reset_text, input_text, output_text, inputs_text, outputs_text, instance_with, with_instance, instance_text, element_text, elements_text}
 use Rattle.mlir_syntax.specs.WordText.{predicate_named, bare_text, as_known, predicate_text, truth_named, truth_text, string_text, inner_symbol, module_symbol}
 use Rattle.mlir_operations.specs.ElementText.InherentAttributes.{with_reset, with_async_reset, predicate, position, number, literals, field_name}
-use Rattle.mlir_operations.specs.OperationText.{NameClass, operation, module_name, file_name, locations, outside, unknown, class_of, misplaced_refusal, is_outside, no_operation, bin_text, OperationText, given_entries, late_dictionary, form_text, named_operation, classed_operation, operation_behind, operation_text}
+use Rattle.mlir_operations.specs.OperationText.{NameClass, operation, module_name, file_name, locations, outside, unknown, class_of, misplaced_refusal, is_outside, no_operation, bin_text, OperationText, given_entries, late_dictionary, form_text, named_operation, classed_operation, operation_after, operation_text}
 use Rattle.canonical_form.specs.Dictionaries.{takes_bin, string_keys}
 use Rattle.mlir_operations.specs.ModuleText.{ModuleText, module_text}
 use Rattle.assembly_format.specs.declared.elements.FormatElement.{FormatElement}
@@ -215,8 +215,8 @@ OperationAt results None k s = Err (no_operation (op.Listed listed.HwModule) s)
 OperationAt results (Some t) k s =
     cond (is_kind t.kind kind.BareName) (classed_operation results s t (class_of t.text)) (Err (no_operation (op.Listed listed.HwModule) s))
 
-operation_same : (results : ResultNames) (k : ℕ) (s : List Symbol) → operation_behind results s ≡ OperationAt results (first s) k s
-unfolding operation_behind
+operation_same : (results : ResultNames) (k : ℕ) (s : List Symbol) → operation_after results s ≡ OperationAt results (first s) k s
+unfolding operation_after
 operation_same results k [] = refl
 operation_same results k (token t ∷ ts) = refl
 operation_same results k (bad p ∷ ts) = refl
@@ -227,12 +227,12 @@ loc_operation_at results None = loc_no_operation (op.Listed listed.HwModule)
 loc_operation_at {c} {n} results (Some t) =
     loc_cond (is_kind t.kind kind.BareName) (local_classed results t (class_of t.text) c n) (loc_no_operation (op.Listed listed.HwModule))
 
-local_behind : (results : ResultNames) → Local (operation_behind results)
-local_behind results c n = loc_same (operation_same results) (loc_first (OperationAt results) (loc_operation_at results))
+local_after : (results : ResultNames) → Local (operation_after results)
+local_after results c n = loc_same (operation_same results) (loc_first (OperationAt results) (loc_operation_at results))
 
 pub local_operation : Local operation_text
 unfolding operation_text
-local_operation c n = loc_on (local_maybe_results (op.Listed listed.HwModule) c n) (λ r. local_behind r c n)
+local_operation c n = loc_on (local_maybe_results (op.Listed listed.HwModule) c n) (λ r. local_after r c n)
 
 -- ---- what is read of an operation or a module is some token at least
 

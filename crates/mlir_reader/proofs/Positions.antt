@@ -21,9 +21,9 @@ use Rattle.mlir_reader.specs.Meanings.{numbers_from, numbers_below}
 
 -- ---- positions
 
-behind : (n f i x p : ℕ) → i < suc n → x ≡ f + i → (f ≡ x → ⊥) → ((j : ℕ) → j < n → x ≡ f + 1 + j → p ≡ j) → suc p ≡ i
-behind n f zero x p h e d r = absurd (d (omega arith))
-behind n f (suc i) x p h e d r = ap suc (r i (omega arith) (omega arith))
+following : (n f i x p : ℕ) → i < suc n → x ≡ f + i → (f ≡ x → ⊥) → ((j : ℕ) → j < n → x ≡ f + 1 + j → p ≡ j) → suc p ≡ i
+following n f zero x p h e d r = absurd (d (omega arith))
+following n f (suc i) x p h e d r = ap suc (r i (omega arith) (omega arith))
 
 position_from : (n f i x : ℕ) → i < n → x ≡ f + i → position_of (numbers_from f n) x ≡ i
 position_from zero f i x h e = absurd (omega arith)
@@ -32,7 +32,7 @@ position_from (suc n) f i x h e = go (nat_eq f x) refl (λ j k d. position_from 
     go : (b : Bool) → nat_eq f x ≡ b → ((j : ℕ) → j < n → x ≡ f + 1 + j → position_of (numbers_from (f + 1) n) x ≡ j) →
         cond b 0 (suc (position_of (numbers_from (f + 1) n) x)) ≡ i
     go true t r = let s : f ≡ x = eqb-true f x t in omega arith
-    go false t r = behind n f i x (position_of (numbers_from (f + 1) n) x) h e (eqb-false f x t) r
+    go false t r = following n f i x (position_of (numbers_from (f + 1) n) x) h e (eqb-false f x t) r
 
 -- the position of a number among those below a bound
 pub position_below : (n i : ℕ) → i < n → position_of (numbers_below n) i ≡ i

@@ -20,7 +20,7 @@ use Rattle.mlir_syntax.specs.Reads.{Read, Reads, on, give, want, items_until}
 use Rattle.mlir_syntax.specs.TypeText.{any_type, most_open}
 use Rattle.mlir_syntax.specs.AttributeText.{dictionary_text, is_symbol}
 use Rattle.mlir_operations.specs.OperationText.{NameClass, operation, module_name, file_name, locations, outside, unknown, class_of}
-use Rattle.mlir_operations.specs.ModuleText.{header, PortText, port_name, port_type, input_port, output_port, port_text, older_input, older_outputs, older_ports, ports_text, ModuleText, attributes_text, private_text, BodyText, body_text, module_behind, classed_module, module_text, modules_text, file_symbol, want_end, wrapped_text, is_file_name, file_text}
+use Rattle.mlir_operations.specs.ModuleText.{header, PortText, port_name, port_type, input_port, output_port, port_text, older_input, older_outputs, older_ports, ports_text, ModuleText, attributes_text, private_text, BodyText, body_text, module_after, classed_module, module_text, modules_text, file_symbol, want_end, wrapped_text, is_file_name, file_text}
 use Rattle.canonical_form.specs.Dictionaries.{module_keys}
 use Rattle.mlir_reader.specs.Reading.{text_limit, design_read, read}
 use Rattle.mlir_syntax.specs.Spelling.{Phrase, One, Mark, Holding, Then, Either, Where, Nothing, Commas, SymbolPhrase, TypePhrase}
@@ -139,13 +139,13 @@ sound_body =
     pair a (b ++ (c ++ d)) pa (pair b (c ++ d) (mark pb) (pair c d pc (t, pd.0, (pd.1, refl))))))))
 
 -- what is after a module's name
-abbrev BehindName : Place → ModuleText → Phrase
-BehindName place y ts =
+abbrev AfterName : Place → ModuleText → Phrase
+AfterName place y ts =
     (t : Lexeme) → t.kind ≡ kind.BareName → t.text ≡ name_of_listed listed.HwModule → t.place ≡ place → ModulePhrase IsPlaceOf y (t ∷ ts)
 
-sound_behind : (place : Place) → Sound (module_behind place) (BehindName place)
-unfolding module_behind
-sound_behind place =
+sound_after : (place : Place) → Sound (module_after place) (AfterName place)
+unfolding module_after
+sound_after place =
     sound_on sound_private (λ p. sound_on (sound_module_symbol header) (λ n. sound_on sound_ports (λ ports. sound_last
     (λ b. record { symbol = n; is_private = p; ports = ports; dictionary = b.dictionary; operations = b.operations; place = place; close = b.close }) sound_body
     (λ body e pe d pd c pc a pa t k w i.
@@ -156,7 +156,7 @@ classed_ok : (t : Lexeme) (ts left : List Symbol) (x : ModuleText) (class : Name
 unfolding classed_module
 classed_ok t ts left x (operation o) k says h = absurd cc
 classed_ok t ts left x module_name k says h =
-    one_more t ts left (ModulePhrase IsPlaceOf x) (let (a, ea, p) = (sound_behind t.place).said ts left x h in (a, ea, p t k (sym says) refl))
+    one_more t ts left (ModulePhrase IsPlaceOf x) (let (a, ea, p) = (sound_after t.place).said ts left x h in (a, ea, p t k (sym says) refl))
 classed_ok t ts left x file_name k says h = absurd cc
 classed_ok t ts left x locations k says h = absurd cc
 classed_ok t ts left x outside k says h = absurd cc
@@ -240,12 +240,12 @@ modules_end zero s left ms h = absurd cc
 modules_end (suc n) s left ms h = go (is_end s) refl h (modules_end n)
   where
     go : (b : Bool) → is_end s ≡ b
-        → cond {A = Read (List ModuleText)} b (Ok ([], s)) (on (module_text s) (λ m left. on (modules_text is_end n left) (λ ms behind. Ok (m ∷ ms, behind)))) ≡ Ok (ms, left)
+        → cond {A = Read (List ModuleText)} b (Ok ([], s)) (on (module_text s) (λ m left. on (modules_text is_end n left) (λ ms following. Ok (m ∷ ms, following)))) ≡ Ok (ms, left)
         → ((s left : List Symbol) (ms : List ModuleText) → modules_text is_end n s ≡ Ok (ms, left) → is_end left ≡ true) → is_end left ≡ true
     go true e h more = same_ok [] ms s left (λ _ l. is_end l ≡ true) h e
     go false e h more =
-        let (m, s1, e1, h1) = ok_of (module_text s) (λ m left. on (modules_text is_end n left) (λ ms behind. Ok (m ∷ ms, behind))) ms left h in
-        let (others, s2, e2, h2) = ok_of (modules_text is_end n s1) (λ ms behind. Ok (m ∷ ms, behind)) ms left h1 in
+        let (m, s1, e1, h1) = ok_of (module_text s) (λ m left. on (modules_text is_end n left) (λ ms following. Ok (m ∷ ms, following))) ms left h in
+        let (others, s2, e2, h2) = ok_of (modules_text is_end n s1) (λ ms following. Ok (m ∷ ms, following)) ms left h1 in
         same_ok (m ∷ others) ms s2 left (λ _ l. is_end l ≡ true) h2 (more s1 s2 others e2)
 
 file_ends : (s left : List Symbol) (ms : List ModuleText) → file_text s ≡ Ok (ms, left) → is_end left ≡ true

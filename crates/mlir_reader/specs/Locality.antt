@@ -18,10 +18,10 @@ symbol_place (end p) = p
 abbrev pub IsOfItsSymbol : List ℕ → Refusal → Type 0
 IsOfItsSymbol source r =
     (front : List Lexeme) × (symbol : Symbol) × (rest : List Symbol) × (stream_of source ≡ map token front ++ (symbol ∷ rest)) × (symbol_place symbol ≡ r.place)
-    × ((other : List ℕ) (behind : List Symbol) → length other ≤ text_limit → stream_of other ≡ map token front ++ (symbol ∷ behind) → read other ≡ Err r)
+    × ((other : List ℕ) (following : List Symbol) → length other ≤ text_limit → stream_of other ≡ map token front ++ (symbol ∷ following) → read other ≡ Err r)
 
 -- the refused symbol stands after some tokens, and no text that begins with these tokens and this symbol spells a design, however long it is
 abbrev pub IsUnspelledFront : List ℕ → Refusal → Type 0
 IsUnspelledFront source r =
     (front : List Lexeme) × (symbol : Symbol) × (rest : List Symbol) × (stream_of source ≡ map token front ++ (symbol ∷ rest)) × (symbol_place symbol ≡ r.place)
-    × ((other : List ℕ) (behind : List Symbol) (d : Design) → stream_of other ≡ map token front ++ (symbol ∷ behind) → Spells other d → ⊥)
+    × ((other : List ℕ) (following : List Symbol) (d : Design) → stream_of other ≡ map token front ++ (symbol ∷ following) → Spells other d → ⊥)

@@ -49,8 +49,8 @@ abbrev pub IsModule : text.ModuleText → Module → Type 0
 IsModule t m = store.numbered_module (store.module_of m) ≡ resolving.module_of t
 
 -- the design of modules after those of another
-abbrev pub designs_behind : hw.Design → Read (List text.ModuleText) → Read hw.Design
-designs_behind front read = on read (λ ms left. Ok (front ++ resolving.design_of ms, left))
+abbrev pub designs_after : hw.Design → Read (List text.ModuleText) → Read hw.Design
+designs_after front read = on read (λ ms left. Ok (front ++ resolving.design_of ms, left))
 
 -- `}` and the end of the text
 unfoldable pub closing_text : Reads (Unit {0})

@@ -2,7 +2,7 @@
 ghost use Rattle.std.specs.Prelude.{◌≡◌, ◌≤◌, [], length, OnOk};
 ghost use Rattle.ir_store.specs.Designs.{design_of};
 ghost use Rattle.mlir_reader.specs.EndViews.{ends_of};
-ghost use Rattle.mlir_reader.specs.ModuleViews.{designs_behind, braced_text, closing_text};
+ghost use Rattle.mlir_reader.specs.ModuleViews.{designs_after, braced_text, closing_text};
 ghost use Rattle.mlir_syntax.specs.AttributeText.{is_symbol};
 ghost use Rattle.mlir_operations.specs.ModuleText.{is_file_name, modules_text, file_symbol, want_end, wrapped_text, file_text};
 ghost use Rattle.mlir_syntax.specs.Stream.{is_first};
@@ -35,7 +35,7 @@ pub enum Ends {
 /// Refuses the first token that no file has there.
 #[tactic(auto, unfolding(mlir_operations::specs::ModuleText::file_text))]
 pub fn file_text(reader: &mut Reader<'_>) -> Result<Design, ReadFail>
-    ensures { ReadsAs design_of result reader.new (designs_behind [] (file_text reader.old)) }
+    ensures { ReadsAs design_of result reader.new (designs_after [] (file_text reader.old)) }
 {
     let mut design = Design::new(reader.alloc());
     if is_file_name(reader) {
@@ -60,7 +60,7 @@ fn is_file_name(reader: &Reader<'_>) -> bool
 // `[@N] [attributes {..}] { MODULES }` and the end, after the name of a file's module.
 #[tactic(auto, unfolding(mlir_operations::specs::ModuleText::wrapped_text, crate::specs::ModuleViews::braced_text))]
 fn wrapped_text(reader: &mut Reader<'_>, design: &mut Design) -> Result<(), ReadFail>
-    ensures { ReadsAs (λ (_ : Unit {0}). design_of design.new) result reader.new (designs_behind (design_of design.old) (wrapped_text reader.old)) }
+    ensures { ReadsAs (λ (_ : Unit {0}). design_of design.new) result reader.new (designs_after (design_of design.old) (wrapped_text reader.old)) }
 {
     file_symbol(reader)?;
     header_attributes(reader, OpName::File)?;
@@ -71,7 +71,7 @@ fn wrapped_text(reader: &mut Reader<'_>, design: &mut Design) -> Result<(), Read
 // `MODULES }` and the end.
 #[tactic(auto, unfolding(crate::specs::ModuleViews::braced_text))]
 fn braced_text(reader: &mut Reader<'_>, design: &mut Design) -> Result<(), ReadFail>
-    ensures { ReadsAs (λ (_ : Unit {0}). design_of design.new) result reader.new (designs_behind (design_of design.old) (braced_text reader.old)) }
+    ensures { ReadsAs (λ (_ : Unit {0}). design_of design.new) result reader.new (designs_after (design_of design.old) (braced_text reader.old)) }
 {
     match modules_text(reader, Ends::Brace, design) {
         Ok(()) => closing_text(reader),
@@ -124,7 +124,7 @@ fn see_end(reader: &Reader<'_>) -> Result<(), ReadFail>
 
 // Modules up to where they end, put after those of a design. Each will likely have as many operations as the one before.
 fn modules_text(reader: &mut Reader<'_>, ends: Ends, design: &mut Design) -> Result<(), ReadFail>
-    ensures gives { ReadsAs (λ (_ : Unit {0}). design_of design.new) result reader.new (designs_behind (design_of design.old) (modules_text (ends_of ends) (length reader.old) reader.old)) }
+    ensures gives { ReadsAs (λ (_ : Unit {0}). design_of design.new) result reader.new (designs_after (design_of design.old) (modules_text (ends_of ends) (length reader.old) reader.old)) }
     ensures shorter { OnOk result (length reader.new ≤ length reader.old) }
 {
     let mut likely = FIRST_LIKELY;

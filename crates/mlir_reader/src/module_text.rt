@@ -1,7 +1,7 @@
 //! Modules in a text, whose names are resolved as they are read (CIRCT, HW dialect: `hw.module`).
 ghost use Rattle.std.specs.Prelude.{◌≡◌, ◌<◌, ◌≤◌, length, Some, Ok, OnOk};
 ghost use Rattle.mlir_lexer.specs.Tokens.{lexeme_of};
-ghost use Rattle.mlir_operations.specs.ModuleText.{module_behind, classed_module, module_text};
+ghost use Rattle.mlir_operations.specs.ModuleText.{module_after, classed_module, module_text};
 ghost use Rattle.mlir_operations.specs.OperationText.{class_of};
 ghost use Rattle.mlir_syntax.specs.Stream.{first};
 ghost use Rattle.mlir_syntax.specs.Views.{ReadsFor};
@@ -50,7 +50,7 @@ fn classed_module<'s>(
     match class_of(token.text) {
         NameClass::Module => {
             reader.advance();
-            module_behind(reader, token.place, likely)
+            module_after(reader, token.place, likely)
         }
         NameClass::Operation(name) => {
             let class = NameClass::Operation(name);
@@ -72,8 +72,8 @@ fn classed_module<'s>(
 }
 
 // A module after its name.
-fn module_behind(reader: &mut Reader<'_>, place: Place, likely: u32) -> Result<Module, ReadFail>
-    ensures gives { ReadsFor IsModule result reader.new (module_behind place reader.old) }
+fn module_after(reader: &mut Reader<'_>, place: Place, likely: u32) -> Result<Module, ReadFail>
+    ensures gives { ReadsFor IsModule result reader.new (module_after place reader.old) }
     ensures shorter { OnOk result (length reader.new ≤ length reader.old) }
 {
     let private = private_text(reader);

@@ -5,7 +5,7 @@ use Rattle.mlir_lexer.specs.Tokens.{Lexeme}
 use Rattle.mlir_syntax.specs.Stream.{Symbol, token, is_first}
 use Rattle.mlir_syntax.specs.Reads.{Read, Reads, on}
 use Rattle.mlir_syntax.specs.Spelling.{Phrase, One, Nothing, Then, Either, Where}
-use Rattle.mlir_syntax.proofs.Local.{map_joined, behind_short}
+use Rattle.mlir_syntax.proofs.Local.{map_joined, after_short}
 
 -- ---- where phrases stand
 
@@ -62,8 +62,8 @@ if_false {b} x {y} e h = cond-false b x y e ∙ h
 -- a token stands first, and it is so
 pub record Starts (T : Lexeme → Type 0) (s : List Symbol) : Type 0 where
   pub first : Lexeme
-  pub behind : List Symbol
-  pub same : s ≡ token first ∷ behind
+  pub following : List Symbol
+  pub same : s ≡ token first ∷ following
   pub says : T first
 
 -- each text of a phrase begins with a token that is so
@@ -87,14 +87,14 @@ leads_either one other = record { lead = λ ts p. by_either (one.lead ts) (other
 pub starts : {T : Lexeme → Type 0} {P : Phrase} {s left : List Symbol} → Leads T P → At P s left → Starts T s
 starts {left} leads h =
     let (t, a, e, p) = leads.lead h.passed h.says in
-    record { first = t; behind = map token a ++ left; same = h.same ∙ ap (λ x. map token x ++ left) e; says = p }
+    record { first = t; following = map token a ++ left; same = h.same ∙ ap (λ x. map token x ++ left) e; says = p }
 
 -- a phrase with a first token passes one at least
 pub shorter : {T : Lexeme → Type 0} {P : Phrase} {s left : List Symbol} → Leads T P → At P s left → length left < length s
 shorter {s} {left} leads h =
     let (t, a, e, p) = leads.lead h.passed h.says in
     let same : s ≡ token t ∷ (map token a ++ left) = h.same ∙ ap (λ x. map token x ++ left) e in
-    let short = behind_short a left in
+    let short = after_short a left in
     rw same (omega (arith, short))
 
 pub starts_test : {T : Lexeme → Type 0} {s : List Symbol} (test : Lexeme → Bool) (b : Bool) → ((t : Lexeme) → T t → test t ≡ b) → Starts T s

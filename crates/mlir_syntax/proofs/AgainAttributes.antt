@@ -47,8 +47,8 @@ integer_type_at : (room : ℕ) (op : OpName) {x : HwType} {s left : List Symbol}
 unfolding integer_type
 integer_type_at room op {x} {s} {left} clear (inl h) =
     let (m, a, b) = at_then h in
-    let (next, behind) = next_at a in
-    if_true _ next (ap (type_text room op) behind ∙ (again_type room op).gives x m left b tt)
+    let (next, following) = next_at a in
+    if_true _ next (ap (type_text room op) following ∙ (again_type room op).gives x m left b tt)
 integer_type_at room op {x} {s} {left} clear (inr h) =
     let (e, p) = at_where h in
     let same = at_nothing p in
@@ -209,9 +209,9 @@ unfolding entry_text entry_value
 entry_at op strings keys e {s} {left} new clear (inl h) =
     let (m, a, b) = at_then h in
     let (k, c, d) = at_then b in
-    let (next, behind) = next_at c in
+    let (next, following) = next_at c in
     on_ok _ (key_at op keys e.key new a)
-    (on_ok _ (if_true _ next (ap (value_of_key 32 op strings e.key) behind ∙ value_at op strings e clear.0 (at_either d))) refl)
+    (on_ok _ (if_true _ next (ap (value_of_key 32 op strings e.key) following ∙ value_at op strings e clear.0 (at_either d))) refl)
 entry_at op strings keys e {s} {left} new clear (inr h) =
     let (is, p) = at_where h in
     on_ok _ (key_at op keys e.key new p) (on_ok _ (if_false _ clear.1 (if_false _ is.0 (ap (λ x. Ok (x, left)) (sym is.1)))) refl)
@@ -233,11 +233,11 @@ entries_at op strings keys zero e (f ∷ fs) s left once h end clear le =
 entries_at op strings keys (suc n) e (f ∷ fs) s left once h end clear le =
     let (m, a, b) = at_then h in
     let (k, c, d) = at_then b in
-    let (next, behind) = next_at c in
+    let (next, following) = next_at c in
     let short = shorter (any_entry strings e) a in
     let short2 = shorter (leads_one {U = λ _. Unit {0}} (λ t p. tt)) c in
     on_ok _ (entry_at op strings keys e once.0 (entry_end kind.Comma refl refl c) (at_either a))
-    (if_true _ next (on_ok _ (ap (entries 32 op strings (keys ++ e.key ∷ []) n) behind
+    (if_true _ next (on_ok _ (ap (entries 32 op strings (keys ++ e.key ∷ []) n) following
     ∙ entries_at op strings (keys ++ e.key ∷ []) n f fs k left once.1 d end clear (omega (arith, short, short2, le))) refl))
 
 dictionary_at : (op : OpName) (strings : List Name) (es : List Entry) {s left : List Symbol} → At (DictionaryPhrase strings es) s left
@@ -249,8 +249,8 @@ dictionary_at op strings [] {s} {left} h =
     let (k, c, d) = at_then b in
     let (t, e) = mark_at op a in
     let same = at_nothing c in
-    let (next, behind) = next_at d in
-    on_ok _ e (if_true _ (ap (is_next kind.RightBrace) same ∙ next) (ap (λ y. Ok ([], y)) (ap after same ∙ behind)))
+    let (next, following) = next_at d in
+    on_ok _ e (if_true _ (ap (is_next kind.RightBrace) same ∙ next) (ap (λ y. Ok ([], y)) (ap after same ∙ following)))
 dictionary_at op strings (f ∷ fs) {s} {left} h =
     let (once, p) = at_where h in
     let (m, a, b) = at_then p in
@@ -274,7 +274,7 @@ unfolding maybe_dictionary
 some_dictionary_at op strings es h =
     let (once, p) = at_where h in
     let (m, a, b) = at_then p in
-    let (next, behind) = next_at a in
+    let (next, following) = next_at a in
     if_true _ next (on_ok _ (dictionary_at op strings es h) refl)
 
 maybe_at : (op : OpName) (strings : List Name) (es : Option (List Entry)) {s left : List Symbol} → NoBrace left → At (MaybeDictionary strings es) s left

@@ -167,8 +167,8 @@ negative_at : (op : OpName) {z : ℤ} {s left : List Symbol} (n : ℕ) → z ≡
 unfolding integer
 negative_at op {z} {s} {left} n e h =
     let (m, minus, digits) = at_then h in
-    let (next, behind) = next_at minus in
-    if_true _ next (on_ok _ (ap (number_below number_limit op) behind ∙ (again_number number_limit op).gives n m left digits tt) (ap (λ x. Ok (x, left)) (sym e)))
+    let (next, following) = next_at minus in
+    if_true _ next (on_ok _ (ap (number_below number_limit op) following ∙ (again_number number_limit op).gives n m left digits tt) (ap (λ x. Ok (x, left)) (sym e)))
 
 integer_at : (op : OpName) {z : ℤ} {s left : List Symbol} (ts : List Lexeme) → s ≡ map token ts ++ left → IntegerPhrase z ts → integer op s ≡ Ok (z, left)
 integer_at op ts e (inl p) = positive_at op p.0 p.1 (record { passed = ts; same = e; says = p.2 })
@@ -195,11 +195,11 @@ items_again {P = P} op one lead comma zero x (y ∷ ys) s left h f clear le =
 items_again {item = item} {P = P} op one lead comma (suc n) x (y ∷ ys) s left h f clear le =
     let (m, a, b) = at_then h in
     let (k, c, d) = at_then b in
-    let (next, behind) = next_at c in
+    let (next, following) = next_at c in
     let short = shorter (lead x) a in
     let short2 = shorter (leads_one {U = λ _. Unit {0}} (λ t p. tt)) c in
     on_ok _ (one.gives x s m a (comma m k c))
-    (if_true _ next (on_ok _ (ap (items op item n) behind ∙ items_again op one lead comma n y ys k left d f clear (omega (arith, short, short2, le))) refl))
+    (if_true _ next (on_ok _ (ap (items op item n) following ∙ items_again op one lead comma n y ys k left d f clear (omega (arith, short, short2, le))) refl))
 
 pub again_some : {A : Type 0} {item : Reads A} {P : A → Phrase} {F : List Symbol → Type 0} {T : Lexeme → Type 0} (op : OpName) → Again F item P → ((x : A) → Leads T (P x)) → MayComma F
     → (x : A) (xs : List A) (s left : List Symbol) → At (Commas P (x ∷ xs)) s left → F left → is_next kind.Comma left ≡ false
@@ -218,8 +218,8 @@ unfolding items_until
 until_at op close one lead comma closing other [] {s} {left} h =
     let (m, a, b) = at_then h in
     let same = at_nothing a in
-    let (next, behind) = next_at b in
-    if_true _ (ap (is_next close) same ∙ next) (ap (λ x. Ok ([], x)) (ap after same ∙ behind))
+    let (next, following) = next_at b in
+    if_true _ (ap (is_next close) same ∙ next) (ap (λ x. Ok ([], x)) (ap after same ∙ following))
 until_at {P = P} op close one lead comma closing other (x ∷ xs) {s} {left} h =
     let (m, a, b) = at_then h in
     let (t, e) = mark_at op b in

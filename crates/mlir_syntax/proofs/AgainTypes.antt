@@ -14,7 +14,7 @@ use Rattle.mlir_lexer.specs.declared.token.TokenKind.TheVariants as kind
 use Rattle.mlir_syntax.specs.Stream.{Symbol, token, first, after}
 use Rattle.mlir_syntax.specs.Reads.{Reads, want}
 use Rattle.mlir_syntax.specs.Numerals.{number_in, count_limit}
-use Rattle.mlir_syntax.specs.TypeText.{width_digits, behind_x, bare_type, named_type, type_head, width_type, type_with, glued_element, x_rest, element_after, element_type, array_text, field_text, struct_text, too_deep, type_text, any_type, most_open}
+use Rattle.mlir_syntax.specs.TypeText.{width_digits, after_x, bare_type, named_type, type_head, width_type, type_with, glued_element, x_rest, element_after, element_type, array_text, field_text, struct_text, too_deep, type_text, any_type, most_open}
 use Rattle.mlir_syntax.specs.TypeText.TypeHead.{integer_type, array_type, struct_type}
 use Rattle.mlir_syntax.specs.Spelling.{Phrase, NamePhrase, Word, Then, Between, Commas, AreDigits, WidthPhrase, TypeWord, GluedPhrase, ElementPhrase, FieldPhrase, FieldsPhrase, PlainType, TypeWith, TypePhrase}
 use Rattle.mlir_syntax.proofs.Again.{At, at_then, at_one, at_either, by_either, on_ok, if_true, if_false, Leads, leads_then, Again, Any}
@@ -59,14 +59,14 @@ unfolding element_type element_after
 word_at element op inner x {s} {left} h =
     let (m, a, b) = at_then h in
     let (t, e, p) = at_one a in
-    let rest : x_rest (Some t) ≡ Some [] = if_true _ (is_kind_of p.0) (ap behind_x p.1) in
+    let rest : x_rest (Some t) ≡ Some [] = if_true _ (is_kind_of p.0) (ap after_x p.1) in
     ap (λ y. element_after element op y (x_rest (first y))) e ∙ ap (element_after element op (token t ∷ m)) rest ∙ inner.gives x m left b tt
 
 glued_at : (element : Reads HwType) (op : OpName) (x : HwType) {s left : List Symbol} → At (GluedPhrase x) s left → element_type element op s ≡ Ok (x, left)
 unfolding element_type element_after glued_element
 glued_at element op (int w) {s} {left} h =
     let (t, e, p) = at_one h in
-    let rest : x_rest (Some t) ≡ Some (105 ∷ p.1.0) = if_true _ (is_kind_of p.0) (ap behind_x p.1.1) in
+    let rest : x_rest (Some t) ≡ Some (105 ∷ p.1.0) = if_true _ (is_kind_of p.0) (ap after_x p.1.1) in
     ap (λ y. element_after element op y (x_rest (first y))) e ∙ ap (element_after element op (token t ∷ left)) rest
     ∙ ap (glued_element op (token t ∷ left)) (digits_known p.1.0 w p.1.2) ∙ width_is op t left w p.1.0 p.1.2
 glued_at element op clock h = absurd h.says

@@ -29,7 +29,7 @@ pub record Gathering (op : OpName) (strings : List Name) (start : List Symbol) (
 -- an entry, and further ones after a comma, so many at most
 abbrev then_more : OpName → List Name → List Name → ℕ → design.Entry → Reads (List design.Entry)
 then_more op strings keys n e left =
-    cond (is_next kind.Comma left) (on (entries 32 op strings (keys ++ e.key ∷ []) n (after left)) (λ es behind. Ok (e ∷ es, behind))) (Ok (e ∷ [], left))
+    cond (is_next kind.Comma left) (on (entries 32 op strings (keys ++ e.key ∷ []) n (after left)) (λ es following. Ok (e ∷ es, following))) (Ok (e ∷ [], left))
 
 entries_at : (op : OpName) (strings keys : List Name) (n : ℕ) (left : List Symbol) → length left ≤ n
     → entries 32 op strings keys n left ≡ on (entry_text 32 op strings keys left) (then_more op strings keys (n - 1))
@@ -50,38 +50,38 @@ same_at {op = op} {strings = strings} {got = got} {keys = keys} {left = left} re
 
 -- an entry that is refused
 pub fails : {C : Type 0} {op : OpName} {strings : List Name} {start : List Symbol} {got : List Entry} {keys : List Name} {left : List Symbol}
-    (whole : C → List design.Entry) (fail : ReadFail) (behind left_over : List Symbol)
-    → Gathering op strings start got keys left → ReadsAs entry_of (Err fail) behind (entry_text 32 op strings keys left)
+    (whole : C → List design.Entry) (fail : ReadFail) (following left_over : List Symbol)
+    → Gathering op strings start got keys left → ReadsAs entry_of (Err fail) following (entry_text 32 op strings keys left)
     → ReadsAs whole (Err fail) left_over (entries 32 op strings [] (length start) start)
-fails whole (Refused r) behind left_over g read = same_at (Err r) g read
-fails whole NoMemory behind left_over g read = tt
+fails whole (Refused r) following left_over g read = same_at (Err r) g read
+fails whole NoMemory following left_over g read = tt
 
 -- an entry after which no comma stands
 pub ends : {op : OpName} {strings : List Name} {start : List Symbol} {got : List Entry} {keys : List Name} {left : List Symbol}
-    (x : Entry) (xs : List Entry) (behind new : List Symbol) (passed : Bool)
-    → Gathering op strings start got keys left → entry_text 32 op strings keys left ≡ Ok (entry_of x, behind) → xs ≡ got ++ x ∷ []
-    → passed ≡ is_next kind.Comma behind → new ≡ cond passed (after behind) behind → passed ≡ false
+    (x : Entry) (xs : List Entry) (following new : List Symbol) (passed : Bool)
+    → Gathering op strings start got keys left → entry_text 32 op strings keys left ≡ Ok (entry_of x, following) → xs ≡ got ++ x ∷ []
+    → passed ≡ is_next kind.Comma following → new ≡ cond passed (after following) following → passed ≡ false
     → entries 32 op strings [] (length start) start ≡ Ok (map entry_of xs, new)
-ends {got = got} x xs behind new passed g read pushed is moved no_comma =
-    same_at (Ok (entry_of x, behind)) g read ∙ rw (sym is, moved, no_comma, pushed, map_push entry_of got x) refl
+ends {got = got} x xs following new passed g read pushed is moved no_comma =
+    same_at (Ok (entry_of x, following)) g read ∙ rw (sym is, moved, no_comma, pushed, map_push entry_of got x) refl
 
 pub ends-shorter : {op : OpName} {strings : List Name} {start : List Symbol} {got : List Entry} {keys : List Name} {left : List Symbol}
-    (behind new : List Symbol) (passed : Bool)
-    → Gathering op strings start got keys left → new ≡ cond passed (after behind) behind → passed ≡ false → length behind ≤ length left
+    (following new : List Symbol) (passed : Bool)
+    → Gathering op strings start got keys left → new ≡ cond passed (after following) following → passed ≡ false → length following ≤ length left
     → length new ≤ length start
-ends-shorter behind new passed g moved no_comma within =
+ends-shorter following new passed g moved no_comma within =
     let before = g.shorter in
-    let same : new ≡ behind = moved ∙ ap (λ b. cond b (after behind) behind) no_comma in
+    let same : new ≡ following = moved ∙ ap (λ b. cond b (after following) following) no_comma in
     rw same (omega (arith, before, within))
 
 -- an entry after which a comma stands, and whose key is noted
 pub goes_on : {op : OpName} {strings : List Name} {start : List Symbol} {got : List Entry} {keys : List Name} {left : List Symbol}
-    (x : Entry) (xs : List Entry) (key : Name) (noted : List Name) (behind new : List Symbol) (passed : Bool)
-    → Gathering op strings start got keys left → entry_text 32 op strings keys left ≡ Ok (entry_of x, behind) → xs ≡ got ++ x ∷ []
-    → passed ≡ is_next kind.Comma behind → new ≡ cond passed (after behind) behind → passed ≡ true
-    → length behind ≤ length left → length new < length behind
+    (x : Entry) (xs : List Entry) (key : Name) (noted : List Name) (following new : List Symbol) (passed : Bool)
+    → Gathering op strings start got keys left → entry_text 32 op strings keys left ≡ Ok (entry_of x, following) → xs ≡ got ++ x ∷ []
+    → passed ≡ is_next kind.Comma following → new ≡ cond passed (after following) following → passed ≡ true
+    → length following ≤ length left → length new < length following
     → is_among x.key keys ≡ false → key ≡ x.key → noted ≡ insert_key same_name keys key → Gathering op strings start xs noted new
-goes_on {op = op} {strings = strings} {got = got} {keys = keys} x xs key noted behind new passed g read pushed is moved comma within less fresh copied noted_is =
+goes_on {op = op} {strings = strings} {got = got} {keys = keys} x xs key noted following new passed g read pushed is moved comma within less fresh copied noted_is =
     let most = g.enough in
     let before = g.shorter in
     let all : noted ≡ keys ++ x.key ∷ [] = noted_is ∙ (ap (insert_key same_name keys) copied ∙ insert_new x.key keys fresh) in
@@ -90,7 +90,7 @@ goes_on {op = op} {strings = strings} {got = got} {keys = keys} x xs key noted b
       enough = omega (arith, most, within, less);
       shorter = omega (arith, before, within, less);
       same =
-          same_at (Ok (entry_of x, behind)) g read
+          same_at (Ok (entry_of x, following)) g read
           ∙ rw (sym is, moved, comma, pushed, all, map_push entry_of got x)
-          (with_front-more (map entry_of got) (entry_of x) (entries 32 op strings (keys ++ x.key ∷ []) (g.n - 1) (after behind)));
+          (with_front-more (map entry_of got) (entry_of x) (entries 32 op strings (keys ++ x.key ∷ []) (g.n - 1) (after following)));
     }

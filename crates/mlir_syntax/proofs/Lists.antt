@@ -30,14 +30,14 @@ with_front-nothing (Err e) = refl
 with_front-nothing (Ok p) = refl
 
 pub with_front-more : {A : Type 0} (front : List A) (x : A) (read : Read (List A))
-    → with_front front (on read (λ xs behind. Ok (x ∷ xs, behind))) ≡ with_front (front ++ x ∷ []) read
+    → with_front front (on read (λ xs following. Ok (x ∷ xs, following))) ≡ with_front (front ++ x ∷ []) read
 with_front-more front x (Err e) = refl
 with_front-more front x (Ok p) = ap (λ l. Ok (l, p.1)) (sym (append_assoc front (x ∷ []) p.0))
 
 -- an item, and further ones after a comma, so many at most
 abbrev then_more : {A : Type 0} → OpName → Reads A → ℕ → A → Reads (List A)
 then_more op item n x left =
-    cond (is_next kind.Comma left) (on (items op item n (after left)) (λ xs behind. Ok (x ∷ xs, behind))) (Ok (x ∷ [], left))
+    cond (is_next kind.Comma left) (on (items op item n (after left)) (λ xs following. Ok (x ∷ xs, following))) (Ok (x ∷ [], left))
 
 items_at : {A : Type 0} (op : OpName) (item : Reads A) (n : ℕ) (left : List Symbol) → IsItem op item → length left ≤ n
     → items op item n left ≡ on (item left) (then_more op item (n - 1))
@@ -59,29 +59,29 @@ same_at {view = view} {op = op} {item = item} {got = got} {left = left} read non
 
 -- an item that is refused
 pub fails : {A B C : Type 0} {view : B → A} {op : OpName} {item : Reads A} {start : List Symbol} {got : List B} {left : List Symbol}
-    (whole : C → List A) (fail : ReadFail) (behind left_over : List Symbol)
-    → IsItem op item → Gathering view op item start got left → ReadsAs view (Err fail) behind (item left)
+    (whole : C → List A) (fail : ReadFail) (following left_over : List Symbol)
+    → IsItem op item → Gathering view op item start got left → ReadsAs view (Err fail) following (item left)
     → ReadsAs whole (Err fail) left_over (items op item (length start) start)
-fails whole (Refused r) behind left_over none g read = same_at (Err r) none g read
-fails whole NoMemory behind left_over none g read = tt
+fails whole (Refused r) following left_over none g read = same_at (Err r) none g read
+fails whole NoMemory following left_over none g read = tt
 
 -- an item after which no comma stands
 pub ends : {A B : Type 0} {view : B → A} {op : OpName} {item : Reads A} {start : List Symbol} {got : List B} {left : List Symbol}
-    (x : B) (xs : List B) (behind new : List Symbol) (passed : Bool)
-    → IsItem op item → Gathering view op item start got left → item left ≡ Ok (view x, behind) → xs ≡ got ++ x ∷ []
-    → passed ≡ is_next kind.Comma behind → new ≡ cond passed (after behind) behind → passed ≡ false
+    (x : B) (xs : List B) (following new : List Symbol) (passed : Bool)
+    → IsItem op item → Gathering view op item start got left → item left ≡ Ok (view x, following) → xs ≡ got ++ x ∷ []
+    → passed ≡ is_next kind.Comma following → new ≡ cond passed (after following) following → passed ≡ false
     → items op item (length start) start ≡ Ok (map view xs, new)
-ends {view = view} {got = got} x xs behind new passed none g read pushed is moved no_comma =
-    same_at (Ok (view x, behind)) none g read
+ends {view = view} {got = got} x xs following new passed none g read pushed is moved no_comma =
+    same_at (Ok (view x, following)) none g read
     ∙ rw (sym is, moved, no_comma, pushed, map_push view got x) refl
 
 -- an item after which a comma stands
 pub goes_on : {A B : Type 0} {view : B → A} {op : OpName} {item : Reads A} {start : List Symbol} {got : List B} {left : List Symbol}
-    (x : B) (xs : List B) (behind new : List Symbol) (passed : Bool)
-    → IsItem op item → Gathering view op item start got left → item left ≡ Ok (view x, behind) → xs ≡ got ++ x ∷ []
-    → passed ≡ is_next kind.Comma behind → new ≡ cond passed (after behind) behind → passed ≡ true
-    → length behind ≤ length left → length new < length behind → Gathering view op item start xs new
-goes_on {view = view} {op = op} {item = item} {got = got} x xs behind new passed none g read pushed is moved comma within shorter =
+    (x : B) (xs : List B) (following new : List Symbol) (passed : Bool)
+    → IsItem op item → Gathering view op item start got left → item left ≡ Ok (view x, following) → xs ≡ got ++ x ∷ []
+    → passed ≡ is_next kind.Comma following → new ≡ cond passed (after following) following → passed ≡ true
+    → length following ≤ length left → length new < length following → Gathering view op item start xs new
+goes_on {view = view} {op = op} {item = item} {got = got} x xs following new passed none g read pushed is moved comma within shorter =
     let most = g.enough in
     let before = g.shorter in
     record {
@@ -89,15 +89,15 @@ goes_on {view = view} {op = op} {item = item} {got = got} x xs behind new passed
       enough = omega (arith, most, within, shorter);
       shorter = omega (arith, before, within, shorter);
       same =
-          same_at (Ok (view x, behind)) none g read
-          ∙ rw (sym is, moved, comma, pushed, map_push view got x) (with_front-more (map view got) (view x) (items op item (g.n - 1) (after behind)));
+          same_at (Ok (view x, following)) none g read
+          ∙ rw (sym is, moved, comma, pushed, map_push view got x) (with_front-more (map view got) (view x) (items op item (g.n - 1) (after following)));
     }
 
 pub ends-shorter : {A B : Type 0} {view : B → A} {op : OpName} {item : Reads A} {start : List Symbol} {got : List B} {left : List Symbol}
-    (behind new : List Symbol) (passed : Bool)
-    → Gathering view op item start got left → new ≡ cond passed (after behind) behind → passed ≡ false → length behind ≤ length left
+    (following new : List Symbol) (passed : Bool)
+    → Gathering view op item start got left → new ≡ cond passed (after following) following → passed ≡ false → length following ≤ length left
     → length new ≤ length start
-ends-shorter behind new passed g moved no_comma within =
+ends-shorter following new passed g moved no_comma within =
     let before = g.shorter in
-    let same : new ≡ behind = moved ∙ ap (λ b. cond b (after behind) behind) no_comma in
+    let same : new ≡ following = moved ∙ ap (λ b. cond b (after following) following) no_comma in
     rw same (omega (arith, before, within))

@@ -34,9 +34,9 @@ place_first (token t ∷ s) = t.place
 place_first (bad p ∷ s) = p
 place_first (end p ∷ s) = p
 
-pub whole_behind : (a : List Lexeme) (w : List Symbol) → Whole (map token a ++ w) → Whole w
-whole_behind [] w h = h
-whole_behind (t ∷ a) w h = whole_behind a w h
+pub whole_after : (a : List Lexeme) (w : List Symbol) → Whole (map token a ++ w) → Whole w
+whole_after [] w h = h
+whole_after (t ∷ a) w h = whole_after a w h
 
 pub whole_front : (a : List Lexeme) (w : List Symbol) → Whole w → Whole (map token a ++ w)
 whole_front [] w h = h
@@ -76,9 +76,9 @@ same_first = same_of first go
     go (bad p) a b = refl
     go (end p) a b = refl
 
-pub behind_short : (a : List Lexeme) (w : List Symbol) → length w ≤ length (map token a ++ w)
-behind_short [] w = omega arith
-behind_short (t ∷ a) w = let h = behind_short a w in omega (arith, h)
+pub after_short : (a : List Lexeme) (w : List Symbol) → length w ≤ length (map token a ++ w)
+after_short [] w = omega arith
+after_short (t ∷ a) w = let h = after_short a w in omega (arith, h)
 
 pub map_joined : (a b : List Lexeme) (v : List Symbol) → map token (a ++ b) ++ v ≡ map token a ++ (map token b ++ v)
 map_joined a b v = ap (λ x. x ++ v) (map-append token a b) ∙ append_assoc (map token a) (map token b) v
@@ -151,13 +151,13 @@ on_near : {A B : Type 0} (c d n : ℕ) (R : ℕ → Reads A) (F : A → ℕ → 
 on_near c d n R F drop rest s w l (Err e) same h = (h.0, h.1, h.2, h.3, λ v wv sv k le. ap (λ m. on m (λ x. F x k)) (h.4 v wv sv k le))
 on_near c d n R F drop rest s w l (Ok p) same h =
     then_near c d R F p.0 s p.1 h.0 (λ k w. drop k h.0 w p.0) h.1 h.2 (F p.0 n p.1)
-    ((rest p.0).near p.1 (whole_behind h.0 p.1 (subst Whole h.1 w))
+    ((rest p.0).near p.1 (whole_after h.0 p.1 (subst Whole h.1 w))
     (drop n h.0 p.1 p.0 (subst (λ y. R n y ≡ Ok p) h.1 same) (subst (λ y. length y ≤ c + n) h.1 l)))
 
 pub loc_on : {A B : Type 0} {c n : ℕ} {R : ℕ → Reads A} {F : A → ℕ → Reads B} → Loc c n R → ((x : A) → Loc c n (F x))
     → Loc c n (λ k s. on (R k s) (λ x. F x k))
 loc_on {c} {n} {R} {F} one rest = record {
-  near = λ s w l. on_near c c n R F (λ k a w x _ le. let h = behind_short a w in omega (arith, h, le)) rest s w l (R n s) refl (one.near s w l);
+  near = λ s w l. on_near c c n R F (λ k a w x _ le. let h = after_short a w in omega (arith, h, le)) rest s w l (R n s) refl (one.near s w l);
 }
 
 -- a reader that passes a token at least, and then one with less fuel

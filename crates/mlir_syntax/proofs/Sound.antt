@@ -16,8 +16,8 @@ pub record Sound {A : Type 0} (r : Reads A) (P : A → Phrase) : Type 0 where
   pub said : (s left : List Symbol) (x : A) → r s ≡ Ok (x, left) → Said (P x) s left
 
 -- what says the rest, where the front is said so
-abbrev pub Behind : Phrase → Phrase → Phrase
-Behind P Q ts = (a : List Lexeme) → P a → Q (a ++ ts)
+abbrev pub Reading : Phrase → Phrase → Phrase
+Reading P Q ts = (a : List Lexeme) → P a → Q (a ++ ts)
 
 -- what says the rest, where a token stands before
 abbrev pub Past : Lexeme → Phrase → Phrase
@@ -45,7 +45,7 @@ joined s m left a b e f =
 -- ---- readers made of readers
 
 pub sound_on : {A B : Type 0} {r : Reads A} {f : A → Reads B} {P : A → Phrase} {Q : B → Phrase} → Sound r P
-    → ((x : A) → Sound (f x) (λ y. Behind (P x) (Q y))) → Sound (λ s. on (r s) f) Q
+    → ((x : A) → Sound (f x) (λ y. Reading (P x) (Q y))) → Sound (λ s. on (r s) f) Q
 sound_on {r} {f} {P} {Q} first rest = record {
   said = λ s left y h.
       let (x, m, e, g) = ok_of (r s) f y left h in

@@ -69,10 +69,10 @@ sound_typed L room op =
 
 -- ---- attributes
 
-list_behind : {value : Reads Attribute} {P : Attribute → Phrase} (room : ℕ) (op : OpName) (t0 : Lexeme) → Mark kind.LeftBracket (t0 ∷ []) → Sound value P
+list_after : {value : Reads Attribute} {P : Attribute → Phrase} (room : ℕ) (op : OpName) (t0 : Lexeme) → Mark kind.LeftBracket (t0 ∷ []) → Sound value P
     → Sound (λ s. on (items_until op kind.RightBracket value s) (λ vs left. Ok (list_value (in_order vs), left)))
     (λ y. Past t0 (AttributeWith (λ l. Between kind.LeftBracket kind.RightBracket (Commas P l)) room y))
-list_behind room op t0 m one =
+list_after room op t0 m one =
     sound_last (λ vs. list_value (in_order vs)) (sound_until op kind.RightBracket one) (λ vs a pa. (vs, refl, pair (t0 ∷ []) a m pa))
 
 with_ok : (L : List Attribute → Phrase) (lists : Reads Attribute) (room : ℕ) (op : OpName) (t : Lexeme) (ts left : List Symbol) (x : Attribute) (head : AttributeHead)
@@ -103,7 +103,7 @@ unfolding attribute_with list_text
 suc_ok room op inner [] left x h = absurd cc
 suc_ok room op inner (token t ∷ ts) left x h =
     with_ok (λ l. Between kind.LeftBracket kind.RightBracket (Commas (AttributePhrase room) l)) (list_text (attribute_text room op) op) (suc room) op t ts left x
-    (attribute_head (Some t)) (λ w e. one_more t ts left (AttributePhrase (suc room) x) ((list_behind (suc room) op t w inner).said ts left x e)) (head_says t) h
+    (attribute_head (Some t)) (λ w e. one_more t ts left (AttributePhrase (suc room) x) ((list_after (suc room) op t w inner).said ts left x e)) (head_says t) h
 suc_ok room op inner (bad p ∷ ts) left x h = absurd cc
 suc_ok room op inner (end p ∷ ts) left x h = absurd cc
 
@@ -147,22 +147,22 @@ sound_value op strings key = go (is_among key strings) refl
     go false e = sound_as (sound_attribute 32 op) (λ v a p. inl (e, p))
 
 -- what stands after a key
-abbrev BehindKey : List Name → Name → Attribute → Phrase
-BehindKey strings key v ts =
+abbrev AfterKey : List Name → Name → Attribute → Phrase
+AfterKey strings key v ts =
     Then (Mark kind.Equals) (ValuePhrase strings (entry_of key v)) ts ⊎ ((is_among key strings ≡ false) × (v ≡ unit_value) × (ts ≡ []))
 
 sound_absent : (op : OpName) (strings : List Name) (key : Name) (b : Bool) → is_among key strings ≡ b
-    → Sound (λ s. cond b (Err (unexpected_refusal op s)) (Ok (unit_value, s))) (BehindKey strings key)
+    → Sound (λ s. cond b (Err (unexpected_refusal op s)) (Ok (unit_value, s))) (AfterKey strings key)
 sound_absent op strings key true e = sound_refused
 sound_absent op strings key false e = sound_give {y = unit_value} (inr (e, refl, refl))
 
-sound_entry_value : (op : OpName) (strings : List Name) (key : Name) → Sound (entry_value 32 op strings key) (BehindKey strings key)
+sound_entry_value : (op : OpName) (strings : List Name) (key : Name) → Sound (entry_value 32 op strings key) (AfterKey strings key)
 unfolding entry_value
 sound_entry_value op strings key =
     sound_past {r = value_of_key 32 op strings key} (λ t h. sound_as (sound_value op strings key) (λ v a p. inl (pair (t ∷ []) a (said_mark h) p)))
     (sound_absent op strings key (is_among key strings) refl)
 
-said_entry : (strings : List Name) (key : Name) (v : Attribute) (a b : List Lexeme) → NamePhrase key a → BehindKey strings key v b
+said_entry : (strings : List Name) (key : Name) (v : Attribute) (a b : List Lexeme) → NamePhrase key a → AfterKey strings key v b
     → EntryPhrase strings (entry_of key v) (a ++ b)
 said_entry strings key v a b p (inl q) = inl (pair a b p q)
 said_entry strings key v a b p (inr q) = inr ((q.0, q.1), subst (NamePhrase key) (sym (ap (λ y. a ++ y) q.2 ∙ append-nil a)) p)

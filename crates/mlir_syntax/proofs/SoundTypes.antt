@@ -17,7 +17,7 @@ use Rattle.mlir_syntax.specs.Stream.{Symbol, token, bad, end}
 use Rattle.mlir_lexer.specs.TokenKinds.{is_kind}
 use Rattle.mlir_syntax.specs.Reads.{Read, Reads, on, want, items_until}
 use Rattle.mlir_syntax.specs.Numerals.{number_in, below_limit, number_below, count_limit}
-use Rattle.mlir_syntax.specs.TypeText.{TypeHead, width_digits, behind_x, bare_type, named_type, type_head, width_type, type_with, glued_element, element_after, element_type, array_text, field_text, struct_text, too_deep, type_text}
+use Rattle.mlir_syntax.specs.TypeText.{TypeHead, width_digits, after_x, bare_type, named_type, type_head, width_type, type_with, glued_element, element_after, element_type, array_text, field_text, struct_text, too_deep, type_text}
 use Rattle.mlir_syntax.specs.TypeText.TypeHead.{integer_type, clock_type, array_type, struct_type, foreign_type, no_type}
 use Rattle.mlir_syntax.specs.Spelling.{Phrase, Then, WidthPhrase, TypeWord, ElementPhrase, FieldPhrase, PlainType, TypeWith, TypePhrase}
 use Rattle.mlir_syntax.proofs.Sound.{Said, Sound, Past, ok_of, same_ok, one_more, sound_on, sound_last}
@@ -96,12 +96,12 @@ rest_ok Inner element op inner t ts left [] x k e h =
     one_more t ts left (ElementPhrase Inner x) (let (a, ea, p) = inner.said ts left x h in (a, ea, inl (pair (t ∷ []) a (t, refl, (k, e)) p)))
 rest_ok Inner element op inner t ts left (b ∷ bs) x k e h = glued_ok (ElementPhrase Inner) op t ts left (b ∷ bs) x (λ w a p. inr p) k e h
 
-behind_ok : (Inner : HwType → Phrase) (element : Reads HwType) (op : OpName) → Sound element Inner → (t : Lexeme) (ts left : List Symbol) (text : List ℕ) (x : HwType)
-    → t.kind ≡ kind.BareName → t.text ≡ text → element_after element op (token t ∷ ts) (behind_x text) ≡ Ok (x, left)
+after_ok : (Inner : HwType → Phrase) (element : Reads HwType) (op : OpName) → Sound element Inner → (t : Lexeme) (ts left : List Symbol) (text : List ℕ) (x : HwType)
+    → t.kind ≡ kind.BareName → t.text ≡ text → element_after element op (token t ∷ ts) (after_x text) ≡ Ok (x, left)
     → Said (ElementPhrase Inner x) (token t ∷ ts) left
 unfolding element_after
-behind_ok Inner element op inner t ts left [] x k e h = absurd cc
-behind_ok Inner element op inner t ts left (b ∷ bs) x k e h =
+after_ok Inner element op inner t ts left [] x k e h = absurd cc
+after_ok Inner element op inner t ts left (b ∷ bs) x k e h =
     cond_both (b == 120) (Some bs) None (λ o. element_after element op (token t ∷ ts) o ≡ Ok (x, left) → Said (ElementPhrase Inner x) (token t ∷ ts) left)
     (λ c g. rest_ok Inner element op inner t ts left bs x k (e ∙ ap (λ y. y ∷ bs) (eqb-true b 120 c)) g) (λ _ g. absurd cc) h
 
@@ -110,9 +110,9 @@ element_ok : (Inner : HwType → Phrase) (element : Reads HwType) (op : OpName) 
 unfolding element_type element_after
 element_ok Inner element op inner [] left x h = absurd cc
 element_ok Inner element op inner (token t ∷ ts) left x h =
-    cond_both (is_kind t.kind kind.BareName) (behind_x t.text) None
+    cond_both (is_kind t.kind kind.BareName) (after_x t.text) None
     (λ o. element_after element op (token t ∷ ts) o ≡ Ok (x, left) → Said (ElementPhrase Inner x) (token t ∷ ts) left)
-    (λ c g. behind_ok Inner element op inner t ts left t.text x (kind_is t.kind kind.BareName c) refl g) (λ _ g. absurd cc) h
+    (λ c g. after_ok Inner element op inner t ts left t.text x (kind_is t.kind kind.BareName c) refl g) (λ _ g. absurd cc) h
 element_ok Inner element op inner (bad p ∷ ts) left x h = absurd cc
 element_ok Inner element op inner (end p ∷ ts) left x h = absurd cc
 
@@ -124,10 +124,10 @@ sound_element {Inner} {element} op inner = record { said = element_ok Inner elem
 pub then_left : {P Q R : Phrase} (a b c : List Lexeme) → P a → Q b → R c → Then (Then P Q) R (a ++ (b ++ c))
 then_left a b c p q r = (a ++ b, c, sym (Rattle.std.proofs.lemmas.List.append_assoc a b c), (a, b, refl, p, q), r)
 
-array_behind : {Inner : HwType → Phrase} {element : Reads HwType} (op : OpName) (t0 : Lexeme) → TypeWord (codes "hw.array") (t0 ∷ []) → Sound element Inner
+array_after : {Inner : HwType → Phrase} {element : Reads HwType} (op : OpName) (t0 : Lexeme) → TypeWord (codes "hw.array") (t0 ∷ []) → Sound element Inner
     → Sound (λ s. on (want op kind.Less s) (λ _ s1. on (number_below count_limit op s1) (λ n s2.
     on (element_type element op s2) (λ t s3. on (want op kind.Greater s3) (λ _ s4. Ok (array n t, s4)))))) (λ y. Past t0 (TypeWith Inner y))
-array_behind {Inner} {element} op t0 word inner =
+array_after {Inner} {element} op t0 word inner =
     sound_on (sound_want op kind.Less) (λ _. sound_on (sound_number count_limit op) (λ n. sound_on (sound_element op inner) (λ t.
     sound_last (λ _. array n t) (sound_want op kind.Greater) (λ _ d pd c pc b pb a pa.
     pair (t0 ∷ []) (a ++ (b ++ (c ++ d))) word (pair a (b ++ (c ++ d)) (mark pa) (then_left b c d pb pc (mark pd)))))))
@@ -138,10 +138,10 @@ sound_field {Inner} {element} op inner =
     sound_on (sound_name op) (λ name. sound_on (sound_want op kind.Colon) (λ _.
     sound_last (λ t. record { name = name; type = t }) inner (λ t c pc b pb a pa. pair a (b ++ c) pa (pair b c (mark pb) pc))))
 
-struct_behind : {Inner : HwType → Phrase} {element : Reads HwType} (op : OpName) (t0 : Lexeme) → TypeWord (codes "hw.struct") (t0 ∷ []) → Sound element Inner
+struct_after : {Inner : HwType → Phrase} {element : Reads HwType} (op : OpName) (t0 : Lexeme) → TypeWord (codes "hw.struct") (t0 ∷ []) → Sound element Inner
     → Sound (λ s. on (want op kind.Less s) (λ _ s1. on (items_until op kind.Greater (field_text element op) s1) (λ fs s2. Ok (struct (fields_of fs), s2))))
     (λ y. Past t0 (TypeWith Inner y))
-struct_behind {Inner} {element} op t0 word inner =
+struct_after {Inner} {element} op t0 word inner =
     sound_on (sound_want op kind.Less) (λ _. sound_last (λ fs. struct (fields_of fs)) (sound_until op kind.Greater (sound_field op inner)) (λ fs b pb a pa.
     pair (t0 ∷ []) (a ++ b) word (fs, refl, pair a b (mark pa) pb)))
 
@@ -177,8 +177,8 @@ suc_ok room op inner [] left x h = absurd cc
 suc_ok room op inner (token t ∷ ts) left x h =
     with_ok (TypeWith (TypePhrase room)) (array_text (type_text room op) op) (struct_text (type_text room op) op) op t ts left x (type_head (Some t))
     (λ w a p. p) (λ a p. p)
-    (λ w e. one_more t ts left (TypeWith (TypePhrase room) x) ((array_behind op t w inner).said ts left x e))
-    (λ w e. one_more t ts left (TypeWith (TypePhrase room) x) ((struct_behind op t w inner).said ts left x e)) (head_says t) h
+    (λ w e. one_more t ts left (TypeWith (TypePhrase room) x) ((array_after op t w inner).said ts left x e))
+    (λ w e. one_more t ts left (TypeWith (TypePhrase room) x) ((struct_after op t w inner).said ts left x e)) (head_says t) h
 suc_ok room op inner (bad p ∷ ts) left x h = absurd cc
 suc_ok room op inner (end p ∷ ts) left x h = absurd cc
 

@@ -61,7 +61,7 @@ integer_type room op s = cond (is_next kind.Colon s) (type_text room op (after s
 
 -- an integer and its type
 unfoldable pub typed_integer : ℕ → OpName → Reads Attribute
-typed_integer room op s = on (stored_integer op s) (λ z left. on (integer_type room op left) (λ t behind. Ok (integer_value z t, behind)))
+typed_integer room op s = on (stored_integer op s) (λ z left. on (integer_type room op left) (λ t following. Ok (integer_value z t, following)))
 
 -- attributes in order
 abbrev pub in_order : List Attribute → Attributes
@@ -115,14 +115,14 @@ entry_value room op strings key s =
 -- an entry whose key no earlier one has
 unfoldable pub entry_text : ℕ → OpName → List Name → List Name → Reads Entry
 entry_text room op strings keys s =
-    on (new_key op keys s) (λ key left. on (entry_value room op strings key left) (λ v behind. Ok (record { key = key; value = v }, behind)))
+    on (new_key op keys s) (λ key left. on (entry_value room op strings key left) (λ v following. Ok (record { key = key; value = v }, following)))
 
 -- entries with commas between them after those of some keys, so many at most
 unfoldable pub entries : ℕ → OpName → List Name → List Name → ℕ → Reads (List Entry)
 entries room op strings keys zero s = Err (unexpected_refusal op s)
 entries room op strings keys (suc n) s =
     on (entry_text room op strings keys s) (λ e left.
-    cond (is_next kind.Comma left) (on (entries room op strings (keys ++ e.key ∷ []) n (after left)) (λ es behind. Ok (e ∷ es, behind))) (Ok (e ∷ [], left)))
+    cond (is_next kind.Comma left) (on (entries room op strings (keys ++ e.key ∷ []) n (after left)) (λ es following. Ok (e ∷ es, following))) (Ok (e ∷ [], left)))
 
 -- `{K = V, ..}`, where the values of some keys are strings
 unfoldable pub dictionary_text : OpName → List Name → Reads (List Entry)

@@ -13,6 +13,6 @@ stream_left cursor = stream (place_of cursor.source (length cursor.source)) (tok
 
 -- a head and what stands after it; nothing stands after the end
 abbrev pub symbols : Head → List Symbol → List Symbol
-symbols (head.Token t) behind = token (lexeme_of t) ∷ behind
-symbols (head.Bad p) behind = bad p ∷ []
-symbols (head.End p) behind = end p ∷ []
+symbols (head.Token t) following = token (lexeme_of t) ∷ following
+symbols (head.Bad p) following = bad p ∷ []
+symbols (head.End p) following = end p ∷ []

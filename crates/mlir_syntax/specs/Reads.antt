@@ -48,7 +48,7 @@ want_word op name (end p ∷ ts) = Err (unexpected_refusal op (end p ∷ ts))
 unfoldable pub items : {A : Type 0} → OpName → Reads A → ℕ → Reads (List A)
 items op item zero s = Err (unexpected_refusal op s)
 items op item (suc n) s =
-    on (item s) (λ x left. cond (is_next kind.Comma left) (on (items op item n (after left)) (λ xs behind. Ok (x ∷ xs, behind))) (Ok (x ∷ [], left)))
+    on (item s) (λ x left. cond (is_next kind.Comma left) (on (items op item n (after left)) (λ xs following. Ok (x ∷ xs, following))) (Ok (x ∷ [], left)))
 
 -- one item or more, with commas between them
 abbrev pub some_items : {A : Type 0} → OpName → Reads A → Reads (List A)
@@ -57,7 +57,7 @@ some_items op item s = items op item (length s) s
 -- items with commas between them up to a closing token
 unfoldable pub items_until : {A : Type 0} → OpName → TokenKind → Reads A → Reads (List A)
 items_until op close item s =
-    cond (is_next close s) (Ok ([], after s)) (on (some_items op item s) (λ xs left. on (want op close left) (λ _ behind. Ok (xs, behind))))
+    cond (is_next close s) (Ok ([], after s)) (on (some_items op item s) (λ xs left. on (want op close left) (λ _ following. Ok (xs, following))))
 
 -- ---- what code gives is what is read
 

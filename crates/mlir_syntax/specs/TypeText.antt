@@ -27,9 +27,9 @@ width_digits (b ∷ []) = None
 width_digits (b ∷ d ∷ ds) = cond (b == 105 && run is_digit (d ∷ ds) == length (d ∷ ds)) (Some (d ∷ ds)) None
 
 -- what after the `x` of an array's length belongs to the element's type
-abbrev pub behind_x : List ℕ → Option (List ℕ)
-behind_x [] = None
-behind_x (b ∷ bs) = cond (b == 120) (Some bs) None
+abbrev pub after_x : List ℕ → Option (List ℕ)
+after_x [] = None
+after_x (b ∷ bs) = cond (b == 120) (Some bs) None
 
 -- what a token begins a type as
 pub data TypeHead : Type 0 where
@@ -75,7 +75,7 @@ glued_element op s (Some digits) = width_type op s digits
 -- what the first token has after an `x`
 abbrev pub x_rest : Option Lexeme → Option (List ℕ)
 x_rest None = None
-x_rest (Some t) = cond (is_kind t.kind kind.BareName) (behind_x t.text) None
+x_rest (Some t) = cond (is_kind t.kind kind.BareName) (after_x t.text) None
 
 -- an element's type after an `x`; nothing more may stand in the token of the `x`, or an integer type
 unfoldable pub element_after : Reads HwType → OpName → List Symbol → Option (List ℕ) → Read HwType

@@ -8,7 +8,7 @@ ghost use Rattle.mlir_lexer.specs.Tokens.{lexeme_of};
 ghost use Rattle.mlir_lexer.specs.declared.token.TokenKind.TheVariants as kind;
 ghost use Rattle.mlir_syntax.specs.Stream.{first};
 ghost use Rattle.mlir_syntax.specs.Reads.{some_items, items_until};
-ghost use Rattle.mlir_syntax.specs.TypeText.{type_text, any_type, array_text, element_type, element_after, glued_element, width_type, width_digits, behind_x, x_rest, named_type, bare_type, type_head, is_name, name_text, field_text, struct_text};
+ghost use Rattle.mlir_syntax.specs.TypeText.{type_text, any_type, array_text, element_type, element_after, glued_element, width_type, width_digits, after_x, x_rest, named_type, bare_type, type_head, is_name, name_text, field_text, struct_text};
 ghost use Rattle.mlir_syntax.specs.TypeHeads.{head_of};
 ghost use Rattle.mlir_syntax.specs.Views.{ReadsAs};
 
@@ -250,7 +250,7 @@ fn type_head<'s>(token: Token<'s>) -> TypeHead<'s>
             None => TypeHead::Nothing,
         }
     } else if is_kind(token.kind, TokenKind::TypeName) {
-        named_type(behind_sign(token.text))
+        named_type(after_sign(token.text))
     } else {
         TypeHead::Nothing
     }
@@ -288,14 +288,14 @@ fn x_rest<'s>(token: Option<Token<'s>>) -> Option<&'s [u8]>
     ensures { option_map (λ rest. rest.now) result ≡ x_rest (option_map lexeme_of token.entry) }
 {
     match token {
-        Some(token) if is_kind(token.kind, TokenKind::BareName) => behind_x(token.text),
+        Some(token) if is_kind(token.kind, TokenKind::BareName) => after_x(token.text),
         Some(_) | None => None,
     }
 }
 
 // What stands after an `x`.
-fn behind_x(name: &[u8]) -> Option<&[u8]>
-    ensures { option_map (λ rest. rest.now) result ≡ behind_x name.now }
+fn after_x(name: &[u8]) -> Option<&[u8]>
+    ensures { option_map (λ rest. rest.now) result ≡ after_x name.now }
 {
     match name {
         [b'x', rest @ ..] => Some(rest),
@@ -311,7 +311,7 @@ fn is_name(token: Token) -> bool
 }
 
 /// What stands after the sign of a name.
-pub fn behind_sign(text: &[u8]) -> &[u8]
+pub fn after_sign(text: &[u8]) -> &[u8]
     ensures { result.now ≡ drop 1 text.now }
 {
     match text {

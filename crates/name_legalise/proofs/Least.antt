@@ -5,7 +5,7 @@ use Rattle.hw_model.specs.Types.{Name}
 use Rattle.fresh_names.specs.Fresh.{is_taken, with_suffix, free_name}
 use Rattle.fresh_names.proofs.Free.{name_free, name_stays}
 use Rattle.fresh_names.proofs.Giving.{name_least}
-use Rattle.name_legalise.proofs.Members.{free_both, taken_behind}
+use Rattle.name_legalise.proofs.Members.{free_both, taken_after}
 
 -- the least free suffixed name of a taken one is its free name
 pub least_is : (ts : List Name) (w : Name) (m : ℕ) → length ts + 1 < 2 ^ 64 → is_taken ts w ≡ true → is_taken ts (with_suffix w m) ≡ false
@@ -50,5 +50,5 @@ name_beyond rs ts w less small free = go (is_taken ts w) refl where
       let given : is_taken rs (with_suffix w found.0) ≡ false = ap (is_taken rs) (sym found.1) ∙ free in
       let alone : is_taken ts (with_suffix w found.0) ≡ false = ap (is_taken ts) (sym found.1) ∙ name_free ts w less in
       found.1
-      ∙ sym (least_is (rs ++ ts) w found.0 small (taken_behind rs ts w e) (free_both rs ts (with_suffix w found.0) given alone)
-      (λ k lt. taken_behind rs ts (with_suffix w k) (found.2 k lt)))
+      ∙ sym (least_is (rs ++ ts) w found.0 small (taken_after rs ts w e) (free_both rs ts (with_suffix w found.0) given alone)
+      (λ k lt. taken_after rs ts (with_suffix w k) (found.2 k lt)))

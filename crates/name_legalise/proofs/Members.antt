@@ -33,5 +33,5 @@ free_second ts us q e = neither_second (is_taken ts q) (is_taken us q) (sym (is_
 pub free_both : (ts us : List Name) (q : Name) → is_taken ts q ≡ false → is_taken us q ≡ false → is_taken (ts ++ us) q ≡ false
 free_both ts us q e f = is_taken-append ts us q ∙ or_from (is_taken ts q) (is_taken us q) e f
 
-pub taken_behind : (ts us : List Name) (q : Name) → is_taken us q ≡ true → is_taken (ts ++ us) q ≡ true
-taken_behind ts us q e = is_taken-append ts us q ∙ or_right (is_taken ts q) (is_taken us q) e
+pub taken_after : (ts us : List Name) (q : Name) → is_taken us q ≡ true → is_taken (ts ++ us) q ≡ true
+taken_after ts us q e = is_taken-append ts us q ∙ or_right (is_taken ts q) (is_taken us q) e

@@ -39,16 +39,16 @@ numbered_free q (w ∷ ws) h none = go (pointwise nat_eq w q) refl (numbered_fre
   go true e r = absurd (true≢false (sym h ∙ ap is_numbered (sym (same_is w q e)) ∙ not_true (is_numbered w) (and_first (not (is_numbered w)) (none_numbered ws) none)))
   go false e r = r
 
-numbered_behind : (w ds : List ℕ) → IsTrue (all_bytes is_digit ds) → IsTrue (is_numbered (w ++ (95 ∷ ds)))
-numbered_behind [] ds h = or_left (all_bytes is_digit ds) (is_numbered ds) h
-numbered_behind (b ∷ w) ds h = or_right (b == 95 && all_bytes is_digit (w ++ (95 ∷ ds))) (is_numbered (w ++ (95 ∷ ds))) (numbered_behind w ds h)
+numbered_after : (w ds : List ℕ) → IsTrue (all_bytes is_digit ds) → IsTrue (is_numbered (w ++ (95 ∷ ds)))
+numbered_after [] ds h = or_left (all_bytes is_digit ds) (is_numbered ds) h
+numbered_after (b ∷ w) ds h = or_right (b == 95 && all_bytes is_digit (w ++ (95 ∷ ds))) (is_numbered (w ++ (95 ∷ ds))) (numbered_after w ds h)
 
 -- (a number of 2^64 or more is no number of code)
 pub suffixed_unreserved : (w : Name) (k : ℕ) → k < 2 ^ 64 → is_taken reserved_words (with_suffix w k) ≡ false
 unfolding with_suffix
 suffixed_unreserved w k small =
     let digits = and_second (is_nonempty (decimal k)) (all_bytes is_digit (decimal k)) (is_decimal-decimal k small) in
-    numbered_free (w ++ (95 ∷ decimal k)) reserved_words (numbered_behind w (decimal k) digits) reserved_unnumbered
+    numbered_free (w ++ (95 ∷ decimal k)) reserved_words (numbered_after w (decimal k) digits) reserved_unnumbered
 
 -- the number of the name that is found, which is at most the last one that is tried
 least_from : (ts : List Name) (w : Name) (n k : ℕ) → ((j : ℕ) → j < k → is_taken ts (with_suffix w j) ≡ true)

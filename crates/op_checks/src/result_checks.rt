@@ -110,6 +110,6 @@ fn is_no_array_of(own: &Ty, length: Option<u32>, element: Option<&Ty>) -> bool
 fn differ_after(results: &[NewResult], types: &[Ty], count: usize) -> bool
     ensures { result ≡ differ (known_types (map (λ r. type_of r.ty) results.now)) (known_types (drop count (map type_of types.now))) }
 {
-    let (_, behind) = types.split_at(count.min(types.len()));
-    results_differ_from_types(results, behind)
+    let (_, following) = types.split_at(count.min(types.len()));
+    results_differ_from_types(results, following)
 }

@@ -23,12 +23,12 @@ named_before q zero (m ∷ ms) = sym (never_before (symbol_place q (map (λ (m :
     never_before (Some i) = le-ltb i 0 (omega arith)
 named_before q (suc n) (m ∷ ms) = rw (same_name_back m.symbol q) (go (same_name q m.symbol) (named_before q n ms))
   where
-    behind : (p : Option ℕ) → is_before (option_map suc p) (suc n) ≡ is_before p n
-    behind None = refl
-    behind (Some i) = rw (compare.suc-suc (suc i) n) refl
+    following : (p : Option ℕ) → is_before (option_map suc p) (suc n) ≡ is_before p n
+    following None = refl
+    following (Some i) = rw (compare.suc-suc (suc i) n) refl
 
     go : (b : Bool) → is_some (find_module (take n (map numbered_module ms)) q) ≡ is_before (symbol_place q (map (λ (m : StoredModule). m.symbol) ms)) n
         → is_some (cond b (Some (numbered_module m)) (find_module (take n (map numbered_module ms)) q))
         ≡ is_before (cond b (Some 0) (option_map suc (symbol_place q (map (λ (m : StoredModule). m.symbol) ms)))) (suc n)
     go true r = sym (lt-ltb 0 (suc n) (omega arith))
-    go false r = r ∙ sym (behind (symbol_place q (map (λ (m : StoredModule). m.symbol) ms)))
+    go false r = r ∙ sym (following (symbol_place q (map (λ (m : StoredModule). m.symbol) ms)))

@@ -15,8 +15,8 @@ module _ (P : Name → Type 0) where
   those_were x (z ∷ xs) ys (inl (rest, is, meets, more)) here = go (subst (In x) is here) (those_were x xs rest more)
     where
       go : In x (z ∷ rest) → (In x rest → In x xs) → In x (z ∷ xs)
-      go (inl same) behind = inl same
-      go (inr later) behind = inr (behind later)
+      go (inl same) following = inl same
+      go (inr later) following = inr (following later)
   those_were x (z ∷ xs) ys (inr (fails, more)) here = inr (those_were x xs ys more here)
 
   -- they meet it
@@ -25,8 +25,8 @@ module _ (P : Name → Type 0) where
   those_meet x (z ∷ xs) ys (inl (rest, is, meets, more)) here = go (subst (In x) is here) (those_meet x xs rest more)
     where
       go : In x (z ∷ rest) → (In x rest → P x) → P x
-      go (inl same) behind = subst P (sym same) meets
-      go (inr later) behind = behind later
+      go (inl same) following = subst P (sym same) meets
+      go (inr later) following = following later
   those_meet x (z ∷ xs) ys (inr (fails, more)) here = those_meet x xs ys more here
 
   -- each member that meets it is one of those
@@ -56,8 +56,8 @@ module _ (P Q : Name → Type 0) where
       first_here = subst (In x) (sym is) (inl refl)
 
       go : AreThose Q (x ∷ rest) zs → ((others : List Name) → AreThose Q rest others → AreThose R xs others) → AreThose R (x ∷ xs) zs
-      go (inl (others, are, holds, these)) behind = inl (others, are, to x first_here meets holds, behind others these)
-      go (inr (fails, these)) behind = inr (λ r. fails (also x first_here r), behind zs these)
+      go (inl (others, are, holds, these)) following = inl (others, are, to x first_here meets holds, following others these)
+      go (inr (fails, these)) following = inr (λ r. fails (also x first_here r), following zs these)
   those_then R (x ∷ xs) ys zs to back also (inr (fails, more)) second = inr (λ r. fails (back x r), those_then R xs ys zs to back also more second)
 
 -- ---- lists within others
@@ -71,8 +71,8 @@ within_then xs ys [] first second = subst (AreWithin xs) second first
 within_then xs ys (z ∷ zs) first (inl (rest, is, more)) = go (subst (AreWithin xs) is first) (λ front inside. within_then front rest zs inside more)
   where
     go : AreWithin xs (z ∷ rest) → ((front : List Name) → AreWithin front rest → AreWithin front zs) → AreWithin xs (z ∷ zs)
-    go (inl (front, are, inside)) behind = inl (front, are, behind front inside)
-    go (inr inside) behind = inr (behind xs inside)
+    go (inl (front, are, inside)) following = inl (front, are, following front inside)
+    go (inr inside) following = inr (following xs inside)
 within_then xs ys (z ∷ zs) first (inr more) = inr (within_then xs ys zs first more)
 
 -- members that all meet something stand within those that meet it

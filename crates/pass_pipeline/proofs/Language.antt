@@ -5,8 +5,8 @@ use Rattle.std.specs.Cmp.Lexicographic.{same_text}
 use Rattle.pass_pipeline.specs.Symbols.{is_space, symbol_in, is_name}
 use Rattle.pass_pipeline.specs.Passes.{same_bytes, pass_name, runs_on, pass_named}
 use Rattle.pass_pipeline.specs.Steps.{mark, closed, misplaced, root, opening, pass_item, nested, named_item, item, first_item, separator, step_over}
-use Rattle.pass_pipeline.specs.Pipelines.{added, ended, after, passes_behind, passes}
-use Rattle.pass_pipeline.specs.Grammar.{symbols_behind, symbols, Item, more_passes, passes_spelled, item_spelled, more_items, items_spelled, pipeline_spelled, passes_of, passes_in, IsOffered, RunOnModules, MayStand, AllMayStand}
+use Rattle.pass_pipeline.specs.Pipelines.{added, ended, after, passes_after, passes}
+use Rattle.pass_pipeline.specs.Grammar.{symbols_after, symbols, Item, more_passes, passes_spelled, item_spelled, more_items, items_spelled, pipeline_spelled, passes_of, passes_in, IsOffered, RunOnModules, MayStand, AllMayStand}
 use Rattle.pass_pipeline.specs.Grammar.Item.{on_design, on_modules}
 use Rattle.pass_pipeline.specs.declared.pass.Pass.{Pass}
 use Rattle.pass_pipeline.specs.declared.pass.Pass.TheVariants.{Canonicalize, Cse, SeqLowerRegs, HwLowerAggregates, HwFlattenModules, SymbolDce}
@@ -418,9 +418,9 @@ module _ (offered : List Pass) where
   end_forth got (expected.Separator a) at all h = cc
   end_forth got expected.End at all h = let same : got ≡ all = cc in ([], sym same ∙ none_added got, (refl, refl))
 
-  read_forth : (got : List Pass) (e : Expected) (k at : ℕ) (bs : List ℕ) (all : List Pass) → passes_behind offered got e k at bs ≡ Ok all
-      → (out : List Pass) × (all ≡ got ++ out) × Rest e (symbols_behind k bs) out
-  unfolding passes_behind symbols_behind
+  read_forth : (got : List Pass) (e : Expected) (k at : ℕ) (bs : List ℕ) (all : List Pass) → passes_after offered got e k at bs ≡ Ok all
+      → (out : List Pass) × (all ≡ got ++ out) × Rest e (symbols_after k bs) out
+  unfolding passes_after symbols_after
   read_forth got e k at [] all h = end_forth got e at all h
   read_forth got e (suc k) at (b ∷ bs) all h = read_forth got e k (at + 1) bs all h
   read_forth got e zero at (b ∷ bs) all h =
@@ -428,29 +428,29 @@ module _ (offered : List Pass) where
     where
       After_symbol : List Pass → Expected → Type 0
       After_symbol more next =
-          passes_behind offered more next (length (symbol_in (b ∷ bs)) - 1) (at + 1) bs ≡ Ok all
-          → (out : List Pass) × (all ≡ more ++ out) × Rest next (symbols_behind (length (symbol_in (b ∷ bs)) - 1) bs) out
+          passes_after offered more next (length (symbol_in (b ∷ bs)) - 1) (at + 1) bs ≡ Ok all
+          → (out : List Pass) × (all ≡ more ++ out) × Rest next (symbols_after (length (symbol_in (b ∷ bs)) - 1) bs) out
 
       by_step : ((more : List Pass) (next : Expected) → After_symbol more next) → (r : Result Step PipelineFail) → step_over offered e at (symbol_in (b ∷ bs)) ≡ r
-          → after got r (λ more next. passes_behind offered more next (length (symbol_in (b ∷ bs)) - 1) (at + 1) bs) ≡ Ok all
-          → (out : List Pass) × (all ≡ got ++ out) × Rest e (symbol_in (b ∷ bs) ∷ symbols_behind (length (symbol_in (b ∷ bs)) - 1) bs) out
-      by_step behind (Err fail) is g = cc
-      by_step behind (Ok s) is g =
-          let (rest, same, there) = behind (added got s.pass) s.next g in (
+          → after got r (λ more next. passes_after offered more next (length (symbol_in (b ∷ bs)) - 1) (at + 1) bs) ≡ Ok all
+          → (out : List Pass) × (all ≡ got ++ out) × Rest e (symbol_in (b ∷ bs) ∷ symbols_after (length (symbol_in (b ∷ bs)) - 1) bs) out
+      by_step following (Err fail) is g = cc
+      by_step following (Ok s) is g =
+          let (rest, same, there) = following (added got s.pass) s.next g in (
             passes_told s.pass ++ rest,
             same ∙ added_told got s.pass rest,
-            step_forth e at (symbol_in (b ∷ bs)) (symbols_behind (length (symbol_in (b ∷ bs)) - 1) bs) (passes_told s.pass ++ rest)
-                (subst (After (symbols_behind (length (symbol_in (b ∷ bs)) - 1) bs) (passes_told s.pass ++ rest)) (sym is) (rest, refl, there)),
+            step_forth e at (symbol_in (b ∷ bs)) (symbols_after (length (symbol_in (b ∷ bs)) - 1) bs) (passes_told s.pass ++ rest)
+                (subst (After (symbols_after (length (symbol_in (b ∷ bs)) - 1) bs) (passes_told s.pass ++ rest)) (sym is) (rest, refl, there)),
           )
 
-      by_space : (passes_behind offered got e zero (at + 1) bs ≡ Ok all → (out : List Pass) × (all ≡ got ++ out) × Rest e (symbols_behind zero bs) out)
+      by_space : (passes_after offered got e zero (at + 1) bs ≡ Ok all → (out : List Pass) × (all ≡ got ++ out) × Rest e (symbols_after zero bs) out)
           → ((more : List Pass) (next : Expected) → After_symbol more next) → (x : Bool)
-          → cond x (passes_behind offered got e zero (at + 1) bs)
-          (after got (step_over offered e at (symbol_in (b ∷ bs))) (λ more next. passes_behind offered more next (length (symbol_in (b ∷ bs)) - 1) (at + 1) bs)) ≡ Ok all
+          → cond x (passes_after offered got e zero (at + 1) bs)
+          (after got (step_over offered e at (symbol_in (b ∷ bs))) (λ more next. passes_after offered more next (length (symbol_in (b ∷ bs)) - 1) (at + 1) bs)) ≡ Ok all
           → (out : List Pass) × (all ≡ got ++ out)
-          × Rest e (cond x (symbols_behind zero bs) (symbol_in (b ∷ bs) ∷ symbols_behind (length (symbol_in (b ∷ bs)) - 1) bs)) out
-      by_space past behind true g = past g
-      by_space past behind false g = by_step behind (step_over offered e at (symbol_in (b ∷ bs))) refl g
+          × Rest e (cond x (symbols_after zero bs) (symbol_in (b ∷ bs) ∷ symbols_after (length (symbol_in (b ∷ bs)) - 1) bs)) out
+      by_space past following true g = past g
+      by_space past following false g = by_step following (step_over offered e at (symbol_in (b ∷ bs))) refl g
 
   end_back : (got : List Pass) (e : Expected) (at : ℕ) (out : List Pass) → Rest e [] out → ended got e at ≡ Ok (got ++ out)
   end_back got expected.Root at out (is, spelled, out_is, stand) = cc
@@ -470,9 +470,9 @@ module _ (offered : List Pass) where
   end_back got (expected.Separator HwModule) at out (p ∷ ps, is, spelled, out_is, run, stand) = cc
   end_back got expected.End at out (none, nothing) = ap Ok (none_added got ∙ ap (λ z. got ++ z) (sym nothing))
 
-  read_back : (got : List Pass) (e : Expected) (k at : ℕ) (bs : List ℕ) (out : List Pass) → Rest e (symbols_behind k bs) out
-      → passes_behind offered got e k at bs ≡ Ok (got ++ out)
-  unfolding passes_behind symbols_behind
+  read_back : (got : List Pass) (e : Expected) (k at : ℕ) (bs : List ℕ) (out : List Pass) → Rest e (symbols_after k bs) out
+      → passes_after offered got e k at bs ≡ Ok (got ++ out)
+  unfolding passes_after symbols_after
   read_back got e k at [] out h = end_back got e at out h
   read_back got e (suc k) at (b ∷ bs) out h = read_back got e k (at + 1) bs out h
   read_back got e zero at (b ∷ bs) out h =
@@ -480,25 +480,25 @@ module _ (offered : List Pass) where
     where
       Read_after : List Pass → Expected → List Pass → Type 0
       Read_after more next rest =
-          Rest next (symbols_behind (length (symbol_in (b ∷ bs)) - 1) bs) rest
-          → passes_behind offered more next (length (symbol_in (b ∷ bs)) - 1) (at + 1) bs ≡ Ok (more ++ rest)
+          Rest next (symbols_after (length (symbol_in (b ∷ bs)) - 1) bs) rest
+          → passes_after offered more next (length (symbol_in (b ∷ bs)) - 1) (at + 1) bs ≡ Ok (more ++ rest)
 
       by_step : ((more : List Pass) (next : Expected) (rest : List Pass) → Read_after more next rest) → (r : Result Step PipelineFail)
-          → After (symbols_behind (length (symbol_in (b ∷ bs)) - 1) bs) out r
-          → after got r (λ more next. passes_behind offered more next (length (symbol_in (b ∷ bs)) - 1) (at + 1) bs) ≡ Ok (got ++ out)
-      by_step behind (Err fail) never = absurd never
-      by_step behind (Ok s) (rest, told, there) =
-          behind (added got s.pass) s.next rest there ∙ ap Ok (added_told got s.pass rest ∙ ap (λ z. got ++ z) (sym told))
+          → After (symbols_after (length (symbol_in (b ∷ bs)) - 1) bs) out r
+          → after got r (λ more next. passes_after offered more next (length (symbol_in (b ∷ bs)) - 1) (at + 1) bs) ≡ Ok (got ++ out)
+      by_step following (Err fail) never = absurd never
+      by_step following (Ok s) (rest, told, there) =
+          following (added got s.pass) s.next rest there ∙ ap Ok (added_told got s.pass rest ∙ ap (λ z. got ++ z) (sym told))
 
-      by_space : (Rest e (symbols_behind zero bs) out → passes_behind offered got e zero (at + 1) bs ≡ Ok (got ++ out))
+      by_space : (Rest e (symbols_after zero bs) out → passes_after offered got e zero (at + 1) bs ≡ Ok (got ++ out))
           → ((more : List Pass) (next : Expected) (rest : List Pass) → Read_after more next rest) → (x : Bool)
-          → Rest e (cond x (symbols_behind zero bs) (symbol_in (b ∷ bs) ∷ symbols_behind (length (symbol_in (b ∷ bs)) - 1) bs)) out
-          → cond x (passes_behind offered got e zero (at + 1) bs)
-          (after got (step_over offered e at (symbol_in (b ∷ bs))) (λ more next. passes_behind offered more next (length (symbol_in (b ∷ bs)) - 1) (at + 1) bs)) ≡ Ok (got ++ out)
-      by_space past behind true g = past g
-      by_space past behind false g =
-          by_step behind (step_over offered e at (symbol_in (b ∷ bs)))
-          (step_back e at (symbol_in (b ∷ bs)) (symbols_behind (length (symbol_in (b ∷ bs)) - 1) bs) out g)
+          → Rest e (cond x (symbols_after zero bs) (symbol_in (b ∷ bs) ∷ symbols_after (length (symbol_in (b ∷ bs)) - 1) bs)) out
+          → cond x (passes_after offered got e zero (at + 1) bs)
+          (after got (step_over offered e at (symbol_in (b ∷ bs))) (λ more next. passes_after offered more next (length (symbol_in (b ∷ bs)) - 1) (at + 1) bs)) ≡ Ok (got ++ out)
+      by_space past following true g = past g
+      by_space past following false g =
+          by_step following (step_over offered e at (symbol_in (b ∷ bs)))
+          (step_back e at (symbol_in (b ∷ bs)) (symbols_after (length (symbol_in (b ∷ bs)) - 1) bs) out g)
 
 -- ---- whole texts
 

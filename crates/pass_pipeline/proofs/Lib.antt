@@ -1,3 +1,3 @@
 -- Lemmas that several proofs of this crate share.
-pub mod Behind
+pub mod Reading
 pub mod Language

@@ -8,15 +8,15 @@ use Rattle.pass_pipeline.specs.declared.pass.Anchor.TheVariants.{HwModule}
 -- ---- texts
 
 -- the symbols of bytes of which the first `skipped` ones are of a symbol before them: names and single bytes, without spaces
-unfoldable pub symbols_behind : ℕ → List ℕ → List (List ℕ)
-symbols_behind skipped [] = []
-symbols_behind (suc skipped) (b ∷ bs) = symbols_behind skipped bs
-symbols_behind zero (b ∷ bs) =
-    cond (is_space b) (symbols_behind zero bs) (symbol_in (b ∷ bs) ∷ symbols_behind (length (symbol_in (b ∷ bs)) - 1) bs)
+unfoldable pub symbols_after : ℕ → List ℕ → List (List ℕ)
+symbols_after skipped [] = []
+symbols_after (suc skipped) (b ∷ bs) = symbols_after skipped bs
+symbols_after zero (b ∷ bs) =
+    cond (is_space b) (symbols_after zero bs) (symbol_in (b ∷ bs) ∷ symbols_after (length (symbol_in (b ∷ bs)) - 1) bs)
 
 -- the symbols of a text
 abbrev pub symbols : List ℕ → List (List ℕ)
-symbols text = symbols_behind 0 text
+symbols text = symbols_after 0 text
 
 -- ---- pipelines
 

@@ -31,16 +31,16 @@ after got (Err fail) later = Err fail
 after got (Ok s) later = later (added got s.pass) s.next
 
 -- the passes got before and those of the bytes from this offset on, of which the first `skipped` ones are still of the last symbol
-unfoldable pub passes_behind : List Pass → List Pass → Expected → ℕ → ℕ → List ℕ → Result (List Pass) PipelineFail
-passes_behind offered got expected skipped at [] = ended got expected at
-passes_behind offered got expected (suc skipped) at (b ∷ bs) = passes_behind offered got expected skipped (at + 1) bs
-passes_behind offered got expected zero at (b ∷ bs) =
-    cond (is_space b) (passes_behind offered got expected zero (at + 1) bs)
-    (after got (step_over offered expected at (symbol_in (b ∷ bs))) (λ more next. passes_behind offered more next (length (symbol_in (b ∷ bs)) - 1) (at + 1) bs))
+unfoldable pub passes_after : List Pass → List Pass → Expected → ℕ → ℕ → List ℕ → Result (List Pass) PipelineFail
+passes_after offered got expected skipped at [] = ended got expected at
+passes_after offered got expected (suc skipped) at (b ∷ bs) = passes_after offered got expected skipped (at + 1) bs
+passes_after offered got expected zero at (b ∷ bs) =
+    cond (is_space b) (passes_after offered got expected zero (at + 1) bs)
+    (after got (step_over offered expected at (symbol_in (b ∷ bs))) (λ more next. passes_after offered more next (length (symbol_in (b ∷ bs)) - 1) (at + 1) bs))
 
 -- the passes of a text, where these are on offer
 unfoldable pub passes : List Pass → List ℕ → Result (List Pass) PipelineFail
-passes offered text = passes_behind offered [] Root 0 0 text
+passes offered text = passes_after offered [] Root 0 0 text
 
 -- an answer is what the text says, or out of memory
 abbrev pub Reads : Result (List Pass) PipelineFail → Result (List Pass) PipelineError → Type 0

@@ -90,10 +90,10 @@ pub fn read_pipeline(
     let mut passes = Vec::new(alloc);
     let mut expected = Expected::Root;
     // bytes of the last symbol that are still to pass
-    let mut behind: usize = 0;
+    let mut following: usize = 0;
     for (at, byte) in text.iter().enumerate() {
-        if behind > 0 {
-            behind -= 1;
+        if following > 0 {
+            following -= 1;
             continue;
         }
         if *byte == b' ' {
@@ -104,7 +104,7 @@ pub fn read_pipeline(
             Ok(step) => {
                 push_named(&mut passes, step.pass)?;
                 expected = step.next;
-                behind = symbol.len().saturating_sub(1);
+                following = symbol.len().saturating_sub(1);
             }
             Err(fail) => return Err(PipelineError::Bad(fail)),
         }

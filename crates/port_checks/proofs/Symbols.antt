@@ -12,14 +12,14 @@ module_place q [] = refl
 module_place q (m ∷ d) =
     go (same_name q m.symbol) (module_place q d) ∙ ap (λ b. cond b (Some m) (find_module d q)) (same_name_back q m.symbol)
   where
-    behind : (p : Option ℕ) → bind (option_map suc p) (slice_get (m ∷ d)) ≡ bind p (slice_get d)
-    behind None = refl
-    behind (Some n) = refl
+    following : (p : Option ℕ) → bind (option_map suc p) (slice_get (m ∷ d)) ≡ bind p (slice_get d)
+    following None = refl
+    following (Some n) = refl
 
     go : (b : Bool) → bind (symbol_place q (map (λ (m : Module). m.symbol) d)) (slice_get d) ≡ find_module d q
         → bind (cond b (Some 0) (option_map suc (symbol_place q (map (λ (m : Module). m.symbol) d)))) (slice_get (m ∷ d)) ≡ cond b (Some m) (find_module d q)
     go true rest = refl
-    go false rest = behind (symbol_place q (map (λ (m : Module). m.symbol) d)) ∙ rest
+    go false rest = following (symbol_place q (map (λ (m : Module). m.symbol) d)) ∙ rest
 
 -- a module that is found has a number
 pub found_place : (d : Design) (q : Name) (m : Module) → find_module d q ≡ Some m

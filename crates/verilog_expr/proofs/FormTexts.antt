@@ -11,7 +11,7 @@ use Rattle.verilog_expr.specs.Text.{question_text, operator_text, expr_text, exp
 use Rattle.verilog_expr.specs.Forms.{operator_of, before, operand_text, form_text}
 use Rattle.verilog_expr.specs.declared.form.Operator.{Operator}
 use Rattle.verilog_expr.specs.declared.form.Form.TheVariants.{Same, Chain, SignedPair, UnsignedShift, SignedShift, UnsignedDivision, SignedDivision, Parity, Braces, Copies, Choice}
-use Rattle.verilog_expr.proofs.TextParts.{text_behind}
+use Rattle.verilog_expr.proofs.TextParts.{text_append}
 
 nonzero : (i : ℕ) → 0 < i → (i == 0) ≡ false
 nonzero i some = ne_eqb i 0 (λ e. omega (arith, e, some))
@@ -30,7 +30,7 @@ unfolding expr_text
 chained_text o a [] i some = sym (append-nil (expr_text a []))
 chained_text o a (b ∷ bs) i some =
     chained_text o (binary (operator_of o) a (unsigned_at (suc (strength (operator_of o))) b)) bs (i + 1) (omega arith)
-    ∙ ap (λ x. x ++ form_text (Chain o) (i + 1) bs) (text_behind a (operator_text (operator_of o) ++ expr_text (unsigned_at (suc (strength (operator_of o))) b) []))
+    ∙ ap (λ x. x ++ form_text (Chain o) (i + 1) bs) (text_append a (operator_text (operator_of o) ++ expr_text (unsigned_at (suc (strength (operator_of o))) b) []))
     ∙ append_assoc (expr_text a []) (operator_text (operator_of o) ++ expr_text (unsigned_at (suc (strength (operator_of o))) b) []) (form_text (Chain o) (i + 1) bs)
     ∙ ap (λ x. expr_text a [] ++ x) (append_assoc (operator_text (operator_of o)) (expr_text (unsigned_at (suc (strength (operator_of o))) b) []) (form_text (Chain o) (i + 1) bs))
     ∙ sym (ap (λ x. expr_text a [] ++ (operator_text (operator_of o) ++ (x ++ form_text (Chain o) (i + 1) bs))) (chain_operand o i b some))
@@ -62,8 +62,8 @@ same_text a = sym (plain a) ∙ sym (append-nil (expr_text (parenthesize 0 a) []
 pub signed_pair_text : (o : Operator) (a b : Expr) → expr_text (signed_pair (operator_of o) a b) [] ≡ form_text (SignedPair o) 0 (a ∷ b ∷ [])
 unfolding expr_text
 signed_pair_text o a b =
-    ap (λ x. codes "$signed(" ++ x) (text_behind a (codes ")" ++ (operator_text (operator_of o) ++ (codes "$signed(" ++ expr_text b (codes ")")))))
-    ∙ ap (λ x. codes "$signed(" ++ (expr_text a [] ++ (codes ")" ++ (operator_text (operator_of o) ++ (codes "$signed(" ++ x))))) (text_behind b (codes ")"))
+    ap (λ x. codes "$signed(" ++ x) (text_append a (codes ")" ++ (operator_text (operator_of o) ++ (codes "$signed(" ++ expr_text b (codes ")")))))
+    ∙ ap (λ x. codes "$signed(" ++ (expr_text a [] ++ (codes ")" ++ (operator_text (operator_of o) ++ (codes "$signed(" ++ x))))) (text_append b (codes ")"))
     ∙ sym (ap (λ x. codes "$signed(" ++ (expr_text a [] ++ (codes ")" ++ x))) (append_assoc (operator_text (operator_of o)) (codes "$signed(") (expr_text b [] ++ codes ")")))
     ∙ sym (ap (λ x. codes "$signed(" ++ (expr_text a [] ++ (codes ")" ++ ((operator_text (operator_of o) ++ codes "$signed(") ++ (x ++ codes ")"))))) (plain b))
     ∙ sym (ap (λ x. codes "$signed(" ++ (x ++ (codes ")" ++ ((operator_text (operator_of o) ++ codes "$signed(") ++ (expr_text (parenthesize 0 b) [] ++ codes ")"))))) (plain a))
@@ -75,25 +75,25 @@ amount o b = sym (ap (λ l. expr_text (parenthesize l b) []) (plus_one (strength
 pub unsigned_shift_text : (o : Operator) (a b : Expr) → expr_text (unsigned_shift (operator_of o) a b) [] ≡ form_text (UnsignedShift o) 0 (a ∷ b ∷ [])
 unfolding expr_text
 unsigned_shift_text o a b =
-    text_behind (unsigned_at (strength (operator_of o)) a) (operator_text (operator_of o) ++ expr_text (parenthesize (suc (strength (operator_of o))) b) [])
+    text_append (unsigned_at (strength (operator_of o)) a) (operator_text (operator_of o) ++ expr_text (parenthesize (suc (strength (operator_of o))) b) [])
     ∙ ap (λ x. expr_text (unsigned_at (strength (operator_of o)) a) [] ++ (operator_text (operator_of o) ++ x)) (amount o b)
 
 pub signed_shift_text : (o : Operator) (a b : Expr) → expr_text (signed_shift (operator_of o) a b) [] ≡ form_text (SignedShift o) 0 (a ∷ b ∷ [])
 unfolding expr_text
 signed_shift_text o a b =
-    ap (λ x. codes "$signed(" ++ x) (text_behind a (codes ")" ++ (operator_text (operator_of o) ++ expr_text (parenthesize (suc (strength (operator_of o))) b) [])))
+    ap (λ x. codes "$signed(" ++ x) (text_append a (codes ")" ++ (operator_text (operator_of o) ++ expr_text (parenthesize (suc (strength (operator_of o))) b) [])))
     ∙ ap (λ x. codes "$signed(" ++ (expr_text a [] ++ (codes ")" ++ (operator_text (operator_of o) ++ x)))) (amount o b)
     ∙ sym (ap (λ x. codes "$signed(" ++ (x ++ (codes ")" ++ (operator_text (operator_of o) ++ (expr_text (parenthesize (strength (operator_of o) + 1) b) [] ++ []))))) (plain a))
 
 pub unsigned_division_text : (o : Operator) (w d : ℕ) (a : Expr) → expr_text (unsigned_division (operator_of o) w d a) [] ≡ form_text (UnsignedDivision o w d) 0 (a ∷ [])
 unfolding expr_text
 unsigned_division_text o w d a =
-    text_behind (unsigned_at (strength (operator_of o)) a) (operator_text (operator_of o) ++ expr_text (literal_of w false d) [])
+    text_append (unsigned_at (strength (operator_of o)) a) (operator_text (operator_of o) ++ expr_text (literal_of w false d) [])
 
 pub signed_division_text : (o : Operator) (w d : ℕ) (a : Expr) → expr_text (signed_division (operator_of o) w d a) [] ≡ form_text (SignedDivision o w d) 0 (a ∷ [])
 unfolding expr_text
 signed_division_text o w d a =
-    ap (λ x. codes "$signed(" ++ x) (text_behind a (codes ")" ++ (operator_text (operator_of o) ++ expr_text (literal_of w true d) [])))
+    ap (λ x. codes "$signed(" ++ x) (text_append a (codes ")" ++ (operator_text (operator_of o) ++ expr_text (literal_of w true d) [])))
     ∙ sym (ap (λ x. codes "$signed(" ++ (x ++ (codes ")" ++ (operator_text (operator_of o) ++ expr_text (literal_of w true d) [])))) (plain a))
 
 pub parity_text : (a : Expr) → expr_text (odd (parenthesize primary_level a)) [] ≡ form_text Parity 0 (a ∷ [])
@@ -105,9 +105,9 @@ braces_before i some = ap (λ b. cond b (codes "{") (codes ", ")) (nonzero i som
 
 braces_from : (a : Expr) (rest : List Expr) (i : ℕ) → 0 < i → exprs_text (exprs_of a rest) (codes "}") ≡ expr_text (parenthesize 0 a) [] ++ form_text Braces i rest
 unfolding expr_text
-braces_from a [] i some = text_behind a (codes "}") ∙ sym (ap (λ x. x ++ codes "}") (plain a))
+braces_from a [] i some = text_append a (codes "}") ∙ sym (ap (λ x. x ++ codes "}") (plain a))
 braces_from a (b ∷ bs) i some =
-    text_behind a (codes ", " ++ exprs_text (exprs_of b bs) (codes "}"))
+    text_append a (codes ", " ++ exprs_text (exprs_of b bs) (codes "}"))
     ∙ ap (λ x. expr_text a [] ++ (codes ", " ++ x)) (braces_from b bs (i + 1) (omega arith))
     ∙ sym (ap (λ x. expr_text a [] ++ (x ++ (expr_text (parenthesize 0 b) [] ++ form_text Braces (i + 1) bs))) (braces_before i some))
     ∙ sym (ap (λ x. x ++ (before Braces i ++ (expr_text (parenthesize 0 b) [] ++ form_text Braces (i + 1) bs))) (plain a))
@@ -119,14 +119,14 @@ braces_text a rest = ap (λ x. codes "{" ++ x) (braces_from a rest 1 (omega arit
 pub copies_text : (n : ℕ) (a : Expr) → expr_text (repeated (decimal n) (last a)) [] ≡ form_text (Copies n) 0 (a ∷ [])
 unfolding expr_text
 copies_text n a =
-    ap (λ x. codes "{" ++ (decimal n ++ (codes "{" ++ x))) (text_behind a (codes "}}"))
+    ap (λ x. codes "{" ++ (decimal n ++ (codes "{" ++ x))) (text_append a (codes "}}"))
     ∙ sym (ap (λ x. codes "{" ++ (decimal n ++ (codes "{" ++ (x ++ codes "}}")))) (plain a))
     ∙ sym (ap (λ x. codes "{" ++ x) (append_assoc (decimal n) (codes "{") (expr_text (parenthesize 0 a) [] ++ codes "}}")))
 
 pub choice_text : (c a b : Expr) → expr_text (conditional c a b) [] ≡ form_text Choice 0 (c ∷ a ∷ b ∷ [])
 unfolding expr_text
 choice_text c a b =
-    text_behind (parenthesize 2 c) (question_text ++ expr_text (unsigned a) (codes " : " ++ expr_text (unsigned_at 1 b) []))
-    ∙ ap (λ x. expr_text (parenthesize 2 c) [] ++ (question_text ++ x)) (text_behind (unsigned a) (codes " : " ++ expr_text (unsigned_at 1 b) []))
+    text_append (parenthesize 2 c) (question_text ++ expr_text (unsigned a) (codes " : " ++ expr_text (unsigned_at 1 b) []))
+    ∙ ap (λ x. expr_text (parenthesize 2 c) [] ++ (question_text ++ x)) (text_append (unsigned a) (codes " : " ++ expr_text (unsigned_at 1 b) []))
     ∙ sym (ap (λ x. expr_text (parenthesize 2 c) [] ++ (question_text ++ (x ++ (codes " : " ++ expr_text (unsigned_at 1 b) [])))) (plain (unsigned a)))
     ∙ sym (ap (λ x. expr_text (parenthesize 2 c) [] ++ (question_text ++ (expr_text (parenthesize 0 (unsigned a)) [] ++ (codes " : " ++ x)))) (append-nil (expr_text (unsigned_at 1 b) [])))

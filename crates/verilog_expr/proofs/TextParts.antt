@@ -12,30 +12,30 @@ moved E f h x bs = h (x ++ bs) ∙ sym (append_assoc E x bs) ∙ sym (ap (λ y. 
 mutual
   unfolding expr_text exprs_text
 
-  pub text_behind : (e : Expr) (bs : List ℕ) → expr_text e bs ≡ expr_text e [] ++ bs
-  text_behind (name n) bs = simp append_assoc
-  text_behind (bit_select n k) bs = simp append_assoc
-  text_behind (part_select n h l) bs = simp append_assoc
-  text_behind (literal w s h) bs = simp append_assoc
-  text_behind (joined es) bs = ap (λ x. codes "{" ++ x) (moved (exprs_text es []) (exprs_text es) (texts_behind es) (codes "}") bs)
-  text_behind (repeated n es) bs =
-      ap (λ x. codes "{" ++ (n ++ (codes "{" ++ x))) (moved (exprs_text es []) (exprs_text es) (texts_behind es) (codes "}}") bs)
+  pub text_append : (e : Expr) (bs : List ℕ) → expr_text e bs ≡ expr_text e [] ++ bs
+  text_append (name n) bs = simp append_assoc
+  text_append (bit_select n k) bs = simp append_assoc
+  text_append (part_select n h l) bs = simp append_assoc
+  text_append (literal w s h) bs = simp append_assoc
+  text_append (joined es) bs = ap (λ x. codes "{" ++ x) (moved (exprs_text es []) (exprs_text es) (texts_append es) (codes "}") bs)
+  text_append (repeated n es) bs =
+      ap (λ x. codes "{" ++ (n ++ (codes "{" ++ x))) (moved (exprs_text es []) (exprs_text es) (texts_append es) (codes "}}") bs)
       ∙ sym (ap (λ x. codes "{" ++ x) (append_assoc n (codes "{" ++ exprs_text es (codes "}}")) bs))
-  text_behind (as_signed e) bs = ap (λ x. codes "$signed(" ++ x) (moved (expr_text e []) (expr_text e) (text_behind e) (codes ")") bs)
-  text_behind (as_unsigned e) bs = ap (λ x. codes "$unsigned(" ++ x) (moved (expr_text e []) (expr_text e) (text_behind e) (codes ")") bs)
-  text_behind (paren e) bs = ap (λ x. codes "(" ++ x) (moved (expr_text e []) (expr_text e) (text_behind e) (codes ")") bs)
-  text_behind (odd e) bs = ap (λ x. codes "^" ++ x) (text_behind e bs)
-  text_behind (binary o a b) bs =
-      ap (λ x. expr_text a (operator_text o ++ x)) (text_behind b bs)
+  text_append (as_signed e) bs = ap (λ x. codes "$signed(" ++ x) (moved (expr_text e []) (expr_text e) (text_append e) (codes ")") bs)
+  text_append (as_unsigned e) bs = ap (λ x. codes "$unsigned(" ++ x) (moved (expr_text e []) (expr_text e) (text_append e) (codes ")") bs)
+  text_append (paren e) bs = ap (λ x. codes "(" ++ x) (moved (expr_text e []) (expr_text e) (text_append e) (codes ")") bs)
+  text_append (odd e) bs = ap (λ x. codes "^" ++ x) (text_append e bs)
+  text_append (binary o a b) bs =
+      ap (λ x. expr_text a (operator_text o ++ x)) (text_append b bs)
       ∙ sym (ap (expr_text a) (append_assoc (operator_text o) (expr_text b []) bs))
-      ∙ moved (expr_text a []) (expr_text a) (text_behind a) (operator_text o ++ expr_text b []) bs
-  text_behind (choice c a b) bs =
-      ap (λ x. expr_text c (question_text ++ expr_text a (codes " : " ++ x))) (text_behind b bs)
-      ∙ ap (λ x. expr_text c (question_text ++ x)) (moved (expr_text a []) (expr_text a) (text_behind a) (codes " : " ++ expr_text b []) bs)
-      ∙ moved (expr_text c []) (expr_text c) (text_behind c) (question_text ++ expr_text a (codes " : " ++ expr_text b [])) bs
+      ∙ moved (expr_text a []) (expr_text a) (text_append a) (operator_text o ++ expr_text b []) bs
+  text_append (choice c a b) bs =
+      ap (λ x. expr_text c (question_text ++ expr_text a (codes " : " ++ x))) (text_append b bs)
+      ∙ ap (λ x. expr_text c (question_text ++ x)) (moved (expr_text a []) (expr_text a) (text_append a) (codes " : " ++ expr_text b []) bs)
+      ∙ moved (expr_text c []) (expr_text c) (text_append c) (question_text ++ expr_text a (codes " : " ++ expr_text b [])) bs
 
-  pub texts_behind : (es : Exprs) (bs : List ℕ) → exprs_text es bs ≡ exprs_text es [] ++ bs
-  texts_behind (last e) bs = text_behind e bs
-  texts_behind (more e es) bs =
-      ap (λ x. expr_text e (codes ", " ++ x)) (texts_behind es bs)
-      ∙ moved (expr_text e []) (expr_text e) (text_behind e) (codes ", " ++ exprs_text es []) bs
+  pub texts_append : (es : Exprs) (bs : List ℕ) → exprs_text es bs ≡ exprs_text es [] ++ bs
+  texts_append (last e) bs = text_append e bs
+  texts_append (more e es) bs =
+      ap (λ x. expr_text e (codes ", " ++ x)) (texts_append es bs)
+      ∙ moved (expr_text e []) (expr_text e) (text_append e) (codes ", " ++ exprs_text es []) bs

@@ -26,7 +26,7 @@ use Rattle.verilog_expr.specs.declared.info.Wrap.TheVariants.{Bare, Paren}
 use Rattle.verilog_expr.specs.declared.template.Template.{Template}
 use Rattle.verilog_expr.specs.declared.template.Template.TheVariants.{Missing, Operands}
 use Rattle.verilog_expr.specs.declared.scope.Scope.{Scope}
-use Rattle.verilog_expr.proofs.TextParts.{text_behind}
+use Rattle.verilog_expr.proofs.TextParts.{text_append}
 use Rattle.verilog_expr.proofs.FormTemplates.{built_is}
 
 -- ---- what an operation makes
@@ -141,7 +141,7 @@ bare_or_paren l e = go (nat_lt (level e) l) refl (nat_le l (level e)) refl
         → open_text (cond a Paren Bare) ++ (expr_text e [] ++ close_text (cond a Paren Bare)) ≡ expr_text (cond b e (paren e)) []
     go true p true q = absurd (omega (arith, ltb-true (level e) l p, leb-true l (level e) q))
     go false p false q = absurd (omega (arith, ltb-false (level e) l p, leb-false l (level e) q))
-    go true p false q = ap (λ x. codes "(" ++ x) (sym (text_behind e (codes ")")))
+    go true p false q = ap (λ x. codes "(" ++ x) (sym (text_append e (codes ")")))
     go false p true q = append-nil (expr_text e [])
 
 pub wrapped : (u : Bool) (l : ℕ) (e : Expr) → l < 12
@@ -153,7 +153,7 @@ wrapped true l e low = go (is_signed e)
     go : (s : Bool) → open_text (wrap_for true l s (level e)) ++ (expr_text e [] ++ close_text (wrap_for true l s (level e))) ≡ expr_text (parenthesize l (cond s (as_unsigned e) e)) []
     go false = bare_or_paren l e
     go true =
-        ap (λ x. codes "$unsigned(" ++ x) (sym (text_behind e (codes ")")))
+        ap (λ x. codes "$unsigned(" ++ x) (sym (text_append e (codes ")")))
         ∙ ap (λ b. expr_text (cond b (as_unsigned e) (paren (as_unsigned e))) []) (room (nat_le l 11) refl)
       where
         room : (b : Bool) → nat_le l 11 ≡ b → true ≡ b

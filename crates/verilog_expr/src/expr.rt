@@ -8,7 +8,7 @@ ghost use Rattle.verilog_expr.specs.Forms.{in_position, form_text};
 ghost use Rattle.verilog_expr.specs.Templates.{template_text};
 ghost use Rattle.verilog_expr.specs.ExprNode.{expr_at, exprs_at, select_text, shown_values};
 
-use crate::form::{Form, asks_level, asks_unsigned, push_before, push_behind};
+use crate::form::{Form, asks_level, asks_unsigned, push_after, push_before};
 use crate::info::{info_at, only_name, push_close, push_open, wrap_for};
 use crate::literals::{push_decimal, push_literal};
 use crate::node::{constant_at, node_at};
@@ -161,7 +161,7 @@ fn push_form(
             depth,
         )?;
     }
-    push_behind(out, form)?;
+    push_after(out, form)?;
     Ok(())
 }
 

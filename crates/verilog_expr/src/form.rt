@@ -206,7 +206,7 @@ pub fn push_before(out: &mut Text, form: Form, number: usize) -> Result<(), Allo
 }
 
 /// Adds what stands after the last operand. The error is out of memory; a part of it may then stand in the text.
-pub fn push_behind(out: &mut Text, form: Form) -> Result<(), AllocError>
+pub fn push_after(out: &mut Text, form: Form) -> Result<(), AllocError>
     ensures { OnOk result (out.new ≡ out.old ++ text_after form) }
 {
     match form {

@@ -149,9 +149,9 @@ pub fn hexadecimal(numeral: &[u8]) -> Option<u128> {
 pub fn literal_parts(word: &[u8]) -> Option<(&[u8], bool, &[u8])> {
     for (at, byte) in word.iter().enumerate() {
         if *byte == b'\'' {
-            let behind = piece(word, at + 1, word.len());
+            let following = piece(word, at + 1, word.len());
             let width = piece(word, 0, at);
-            return match behind {
+            return match following {
                 [b's', b'h', digits @ ..] => Some((width, true, digits)),
                 [b'h', digits @ ..] => Some((width, false, digits)),
                 _ => None,

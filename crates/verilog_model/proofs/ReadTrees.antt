@@ -11,7 +11,7 @@ use Rattle.verilog_model.specs.Tree.Item.{wire, reg, assign, always, instance}
 use Rattle.verilog_model.specs.Grammar.{expr_spelled, load_spelled, if_spelled, block_spelled, more_connections_spelled, connections_spelled, range_spelled, direction, port_spelled, more_ports_spelled, ports_spelled, item_spelled, items_spelled, spell_tree, open_paren, close_paren, semicolon, arrow}
 use Rattle.verilog_model.specs.Reserved.{reserved_words}
 use Rattle.verilog_model.specs.Checks.{contains_name}
-use Rattle.verilog_model.proofs.TokenReader.{Rest, State, Class, class_of, next, run, on_word, load_behind, if_behind, with_block, block_word, clock_behind, else_word, after_if_word, item_word, instance_behind, connection_behind, first_connection, range_or_name, more_or_end, skip}
+use Rattle.verilog_model.proofs.TokenReader.{Rest, State, Class, class_of, next, run, on_word, load_after, if_after, with_block, block_word, clock_after, else_word, after_if_word, item_word, instance_after, connection_after, first_connection, range_or_name, more_or_end, skip}
 use Rattle.verilog_model.proofs.TokenReader.State.{take, operand, modules, port, items, connection, after_if}
 use Rattle.verilog_model.proofs.TokenReader.Class.{ends}
 use Rattle.verilog_model.proofs.TokenReader.Around.{bottom}
@@ -53,12 +53,12 @@ read_alone e k b ps h c =
 
 -- ---- blocks
 
-read_load : (l : Load) (k : Load → State) (ps : List Piece) → Clear l.value → run (load_behind k l.target) (arrow ∷ expr_spelled l.value (semicolon ∷ ps)) ≡ run (k l) ps
+read_load : (l : Load) (k : Load → State) (ps : List Piece) → Clear l.value → run (load_after k l.target) (arrow ∷ expr_spelled l.value (semicolon ∷ ps)) ≡ run (k l) ps
 read_load l k ps h = read_alone l.value (λ (e : Expr). k (record { target = l.target; value = e })) 59 ps h refl
 
 read_if : (c : Expr) (l : Load) (k : Expr → Load → State) (ps : List Piece) → Clear c → Clear l.value →
-    run (if_behind k) (open_paren ∷ expr_spelled c (close_paren ∷ load_spelled l ps)) ≡ run (k c l) ps
-read_if c l k ps h g = read_alone c (λ (d : Expr). take (on_word (load_behind (k d)))) 41 (load_spelled l ps) h refl ∙ read_load l (k c) ps g
+    run (if_after k) (open_paren ∷ expr_spelled c (close_paren ∷ load_spelled l ps)) ≡ run (k c l) ps
+read_if c l k ps h g = read_alone c (λ (d : Expr). take (on_word (load_after (k d)))) 41 (load_spelled l ps) h refl ∙ read_load l (k c) ps g
 
 -- what follows does not begin with `else`
 abbrev NoElse : List Piece → Type 0
@@ -75,13 +75,13 @@ if_ends clock c l k (operator w ∷ ps) h = refl
 if_ends clock c l k (mark b ∷ ps) h = refl
 if_ends clock c l k (gap ∷ ps) h = refl
 
-block_load : (clock : Name) (k : Rest) (w : Name) → same_name (codes "if") w ≡ false → block_word clock k w ≡ load_behind (λ (l : Load). with_block clock k (load l)) w
+block_load : (clock : Name) (k : Rest) (w : Name) → same_name (codes "if") w ≡ false → block_word clock k w ≡ load_after (λ (l : Load). with_block clock k (load l)) w
 block_load clock k w h = rw h refl
 
-else_load : (clock : Name) (c : Expr) (l : Load) (k : Rest) (w : Name) → same_name (codes "if") w ≡ false → else_word clock c l k w ≡ load_behind (λ (m : Load). with_block clock k (if_else c l m)) w
+else_load : (clock : Name) (c : Expr) (l : Load) (k : Rest) (w : Name) → same_name (codes "if") w ≡ false → else_word clock c l k w ≡ load_after (λ (m : Load). with_block clock k (if_else c l m)) w
 else_load clock c l k w h = rw h refl
 
-read_block : (b : Block) (clock : Name) (k : Rest) (ps : List Piece) → ClearBlock b → NoElse ps → run (take (clock_behind clock k)) (block_spelled b ps) ≡ run (with_block clock k b) ps
+read_block : (b : Block) (clock : Name) (k : Rest) (ps : List Piece) → ClearBlock b → NoElse ps → run (take (clock_after clock k)) (block_spelled b ps) ≡ run (with_block clock k b) ps
 unfolding reserved_words
 read_block (load l) clock k ps h g =
     ap (λ t. run t (arrow ∷ expr_spelled l.value (semicolon ∷ ps))) (block_load clock k l.target (h.0 (codes "if") refl))
@@ -95,13 +95,13 @@ read_block (if_else_if c l e m) clock k ps h g =
     read_if c l (λ (c : Expr) (l : Load). after_if clock c l k) (word (codes "else") ∷ if_spelled e (load_spelled m ps)) h.0.0 h.0.1
     ∙ read_if e m (λ (e : Expr) (m : Load). with_block clock k (if_else_if c l e m)) ps h.1.0 h.1.1
 read_block (async_reset n l m) clock k ps h g =
-    read_if (name n) l (λ (c : Expr) (l : Load). skip (take (on_word (load_behind (λ (m : Load). with_block clock k (async_reset n l m)))))) (word (codes "else") ∷ load_spelled m ps) h.0 h.1.0
+    read_if (name n) l (λ (c : Expr) (l : Load). skip (take (on_word (load_after (λ (m : Load). with_block clock k (async_reset n l m)))))) (word (codes "else") ∷ load_spelled m ps) h.0 h.1.0
     ∙ read_load m (λ (m : Load). with_block clock k (async_reset n l m)) ps h.1.1
 
 -- ---- instances
 
 read_connections : (c : Connection) (cs : List Connection) (k : List Connection → Rest) (ps : List Piece) → ClearConnections (c ∷ cs) →
-    run (connection_behind k) (word c.port ∷ open_paren ∷ expr_spelled c.value (close_paren ∷ more_connections_spelled cs (close_paren ∷ semicolon ∷ ps))) ≡ run (items (k (c ∷ cs))) ps
+    run (connection_after k) (word c.port ∷ open_paren ∷ expr_spelled c.value (close_paren ∷ more_connections_spelled cs (close_paren ∷ semicolon ∷ ps))) ≡ run (items (k (c ∷ cs))) ps
 read_connections c [] k ps h = read_alone c.value (λ (e : Expr). more_or_end connection k (record { port = c.port; value = e })) 41 (close_paren ∷ semicolon ∷ ps) h.0 refl
 read_connections c (d ∷ cs) k ps h =
     read_alone c.value (λ (e : Expr). more_or_end connection k (record { port = c.port; value = e })) 41 (more_connections_spelled (d ∷ cs) (close_paren ∷ semicolon ∷ ps)) h.0 refl
@@ -112,7 +112,7 @@ read_instance : (cs : List Connection) (k : List Connection → Rest) (ps : List
 read_instance [] k ps h = refl
 read_instance (c ∷ cs) k ps h = read_connections c cs k ps h
 
-instance_word : (k : Rest) (m : Name) → NoKeyword m → item_word k m ≡ instance_behind k m
+instance_word : (k : Rest) (m : Name) → NoKeyword m → item_word k m ≡ instance_after k m
 unfolding reserved_words
 instance_word k m h = rw (h (codes "endmodule") refl, h (codes "wire") refl, h (codes "reg") refl, h (codes "assign") refl, h (codes "always") refl) refl
 
@@ -149,19 +149,19 @@ read_item (instance m n cs) k ps h g =
     ap (λ t. run t (word n ∷ open_paren ∷ connections_spelled cs (close_paren ∷ semicolon ∷ ps))) (instance_word k m h.0)
     ∙ read_instance cs (λ (cs : List Connection) (is : List Item). k (instance m n cs ∷ is)) ps h.1
 
-no_else_behind : (is : List Item) (ps : List Piece) → ClearItems is → NoElse (items_spelled is (word (codes "endmodule") ∷ ps))
+no_else_after : (is : List Item) (ps : List Piece) → ClearItems is → NoElse (items_spelled is (word (codes "endmodule") ∷ ps))
 unfolding reserved_words
-no_else_behind [] ps h = refl
-no_else_behind (wire high n ∷ is) ps h = refl
-no_else_behind (reg high n ∷ is) ps h = refl
-no_else_behind (assign n e ∷ is) ps h = refl
-no_else_behind (always clock b ∷ is) ps h = refl
-no_else_behind (instance m n cs ∷ is) ps h = h.0.0 (codes "else") refl
+no_else_after [] ps h = refl
+no_else_after (wire high n ∷ is) ps h = refl
+no_else_after (reg high n ∷ is) ps h = refl
+no_else_after (assign n e ∷ is) ps h = refl
+no_else_after (always clock b ∷ is) ps h = refl
+no_else_after (instance m n cs ∷ is) ps h = h.0.0 (codes "else") refl
 
 read_items : (is : List Item) (k : Rest) (ps : List Piece) → ClearItems is → run (items k) (items_spelled is (word (codes "endmodule") ∷ ps)) ≡ run (modules (k is)) ps
 read_items [] k ps h = refl
 read_items (i ∷ is) k ps h =
-    read_item i k (items_spelled is (word (codes "endmodule") ∷ ps)) h.0 (no_else_behind is ps h.1) ∙ read_items is (λ (rest : List Item). k (i ∷ rest)) ps h.1
+    read_item i k (items_spelled is (word (codes "endmodule") ∷ ps)) h.0 (no_else_after is ps h.1) ∙ read_items is (λ (rest : List Item). k (i ∷ rest)) ps h.1
 
 -- ---- modules
 

@@ -100,20 +100,20 @@ push s e (joins o) = operand (left_of o e s)
 push s e _ = operand (tested e s)
 
 -- after a complete expression comes a token of the class
-abbrev pub behind : Class → (Class → State) → State → State
-behind (joins o) f s = f (joins o)
-behind ask f s = f ask
-behind _ f s = s
+abbrev pub following : Class → (Class → State) → State → State
+following (joins o) f s = f (joins o)
+following ask f s = f ask
+following _ f s = s
 
 abbrev pub next : Around → Expr → Class → State
-next (bottom k) e c = behind c (push (bottom k) e) (k e)
+next (bottom k) e c = following c (push (bottom k) e) (k e)
 next (left_of o a s) e c = cond (nat_le (weight c) (strength o)) (next s (binary o a e) c) (push (left_of o a s) e c)
-next (tested d s) e c = behind c (push (tested d s) e) (operand (chosen d e s))
+next (tested d s) e c = following c (push (tested d s) e) (operand (chosen d e s))
 next (chosen d a s) e c = cond (nat_le (weight c) 1) (next s (choice d a e) c) (push (chosen d a s) e c)
 next (odd_of s) e c = next s (odd e) c
-next (inside g s) e c = behind c (push (inside g s) e) (complete (g e) s)
+next (inside g s) e c = following c (push (inside g s) e) (complete (g e) s)
 next (listed k s) e comma = operand (listed (λ (es : Exprs). k (more e es)) s)
-next (listed k s) e c = behind c (push (listed k s) e) (k (last e))
+next (listed k s) e c = following c (push (listed k s) e) (k (last e))
 
 -- `[h:l]` or `[h]` after a name
 abbrev pub select_low : Name → Numeral → Around → Piece → State
@@ -175,27 +175,27 @@ begin s gap = lost
 -- ---- blocks
 
 -- after a load's target
-abbrev pub load_behind : (Load → State) → Name → State
-load_behind k n = skip (operand (bottom (λ (e : Expr). k (record { target = n; value = e }))))
+abbrev pub load_after : (Load → State) → Name → State
+load_after k n = skip (operand (bottom (λ (e : Expr). k (record { target = n; value = e }))))
 
-abbrev pub if_behind : (Expr → Load → State) → State
-if_behind k = skip (operand (bottom (λ (c : Expr). take (on_word (load_behind (k c))))))
+abbrev pub if_after : (Expr → Load → State) → State
+if_after k = skip (operand (bottom (λ (c : Expr). take (on_word (load_after (k c))))))
 
 abbrev pub with_block : Name → Rest → Block → State
 with_block clock k b = items (λ (is : List Item). k (always clock b ∷ is))
 
 abbrev pub block_word : Name → Rest → Name → State
-block_word clock k w = cond (same_name (codes "if") w) (if_behind (λ (c : Expr) (l : Load). after_if clock c l k)) (load_behind (λ (l : Load). with_block clock k (load l)) w)
+block_word clock k w = cond (same_name (codes "if") w) (if_after (λ (c : Expr) (l : Load). after_if clock c l k)) (load_after (λ (l : Load). with_block clock k (load l)) w)
 
 abbrev pub else_word : Name → Expr → Load → Rest → Name → State
-else_word clock c l k w = cond (same_name (codes "if") w) (if_behind (λ (e : Expr) (m : Load). with_block clock k (if_else_if c l e m))) (load_behind (λ (m : Load). with_block clock k (if_else c l m)) w)
+else_word clock c l k w = cond (same_name (codes "if") w) (if_after (λ (e : Expr) (m : Load). with_block clock k (if_else_if c l e m))) (load_after (λ (m : Load). with_block clock k (if_else c l m)) w)
 
 -- after the clock's name: `)` and the block, or after `or` the second event's name, an `if` and two loads
-abbrev pub clock_behind : Name → Rest → Piece → State
-clock_behind clock k (mark b) = take (on_word (block_word clock k))
-clock_behind clock k (word w) =
-    skip (take (on_word (λ (n : Name). skip (skip (if_behind (λ (c : Expr) (l : Load). skip (take (on_word (load_behind (λ (m : Load). with_block clock k (async_reset n l m)))))))))))
-clock_behind clock k _ = lost
+abbrev pub clock_after : Name → Rest → Piece → State
+clock_after clock k (mark b) = take (on_word (block_word clock k))
+clock_after clock k (word w) =
+    skip (take (on_word (λ (n : Name). skip (skip (if_after (λ (c : Expr) (l : Load). skip (take (on_word (load_after (λ (m : Load). with_block clock k (async_reset n l m)))))))))))
+clock_after clock k _ = lost
 
 -- ---- connections, ports
 
@@ -203,20 +203,20 @@ abbrev pub more_or_end : {A : Type 0} → ((List A → Rest) → State) → (Lis
 more_or_end again k a = take (on_mark 44 (again (λ more_as. k (a ∷ more_as))) (skip (items (k (a ∷ [])))))
 
 -- after the `.` of a connection
-abbrev pub connection_behind : (List Connection → Rest) → State
-connection_behind k = take (on_word (λ (n : Name). skip (operand (bottom (λ (e : Expr). more_or_end connection k (record { port = n; value = e }))))))
+abbrev pub connection_after : (List Connection → Rest) → State
+connection_after k = take (on_word (λ (n : Name). skip (operand (bottom (λ (e : Expr). more_or_end connection k (record { port = n; value = e }))))))
 
 -- after `(`
 abbrev pub first_connection : (List Connection → Rest) → Piece → State
-first_connection k p = on_mark 41 (skip (items (k []))) (connection_behind k) p
+first_connection k p = on_mark 41 (skip (items (k []))) (connection_after k) p
 
-abbrev pub port_behind : (List VPort → Rest) → Name → State
-port_behind k d = skip (take (range_or_name (λ (h : Option Numeral) (n : Name). more_or_end port k (record { is_output = same_name d (codes "output"); high = h; name = n }))))
+abbrev pub port_after : (List VPort → Rest) → Name → State
+port_after k d = skip (take (range_or_name (λ (h : Option Numeral) (n : Name). more_or_end port k (record { is_output = same_name d (codes "output"); high = h; name = n }))))
 
 -- ---- items, modules
 
-abbrev pub instance_behind : Rest → Name → State
-instance_behind k m = take (on_word (λ (n : Name). skip (take (first_connection (λ (cs : List Connection) (is : List Item). k (instance m n cs ∷ is))))))
+abbrev pub instance_after : Rest → Name → State
+instance_after k m = take (on_word (λ (n : Name). skip (take (first_connection (λ (cs : List Connection) (is : List Item). k (instance m n cs ∷ is))))))
 
 abbrev pub item_word : Rest → Name → State
 item_word k w =
@@ -224,14 +224,14 @@ item_word k w =
     (cond (same_name (codes "wire") w) (take (range_or_name (λ (h : Option Numeral) (n : Name). skip (items (λ (is : List Item). k (wire h n ∷ is))))))
     (cond (same_name (codes "reg") w) (take (range_or_name (λ (h : Option Numeral) (n : Name). skip (items (λ (is : List Item). k (reg h n ∷ is))))))
     (cond (same_name (codes "assign") w) (take (on_word (λ (n : Name). skip (operand (bottom (λ (e : Expr). items (λ (is : List Item). k (assign n e ∷ is))))))))
-    (cond (same_name (codes "always") w) (skip (skip (skip (take (on_word (λ (clock : Name). take (clock_behind clock k)))))))
-    (instance_behind k w)))))
+    (cond (same_name (codes "always") w) (skip (skip (skip (take (on_word (λ (clock : Name). take (clock_after clock k)))))))
+    (instance_after k w)))))
 
 abbrev pub after_if_word : Name → Expr → Load → Rest → Name → State
 after_if_word clock c l k w = cond (same_name (codes "else") w) (take (on_word (else_word clock c l k))) (item_word (λ (is : List Item). k (always clock (if_load c l) ∷ is)) w)
 
-abbrev pub module_behind : (Tree → Tree) → State
-module_behind f = take (on_word (λ (n : Name). take (on_mark 40
+abbrev pub module_after : (Tree → Tree) → State
+module_after f = take (on_word (λ (n : Name). take (on_mark 40
     (port (λ (ps : List VPort) (is : List Item) (t : Tree). f (record { name = n; ports = ps; items = is } ∷ t)))
     (items (λ (is : List Item) (t : Tree). f (record { name = n; ports = []; items = is } ∷ t))))))
 
@@ -243,10 +243,10 @@ step (take f) p = f p
 step (operand s) p = begin s p
 step (named n s) p = after_name n s (class_of p)
 step (complete e s) p = next s e (class_of p)
-step (modules f) p = module_behind f
-step (port k) p = on_word (port_behind k) p
+step (modules f) p = module_after f
+step (port k) p = on_word (port_after k) p
 step (items k) p = on_word (item_word k) p
-step (connection k) p = connection_behind k
+step (connection k) p = connection_after k
 step (after_if clock c l k) p = on_word (after_if_word clock c l k) p
 
 abbrev pub finish : State → Tree

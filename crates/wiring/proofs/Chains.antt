@@ -21,11 +21,11 @@ module _ {A : Type 0} where
   In-without x y (z ∷ zs) (inl same) (inl also) = inl (also ∙ sym same)
   In-without x y (z ∷ zs) (inl same) (inr there) = inr there
   In-without x y (z ∷ zs) (inr here) (inl also) = inr (inl also)
-  In-without x y (z ∷ zs) (inr here) (inr there) = behind (In-without x y zs here there)
+  In-without x y (z ∷ zs) (inr here) (inr there) = following (In-without x y zs here there)
     where
-      behind : (y ≡ x) ⊎ In y (without x zs here) → (y ≡ x) ⊎ In y (z ∷ without x zs here)
-      behind (inl same) = inl same
-      behind (inr stays) = inr (inr stays)
+      following : (y ≡ x) ⊎ In y (without x zs here) → (y ≡ x) ⊎ In y (z ∷ without x zs here)
+      following (inl same) = inl same
+      following (inr stays) = inr (inr stays)
 
 module _ {A : Type 0} (needs : A → List A) where
   pub Chain-append : (j k : ℕ) (a b c : A) → Chain needs j a b → Chain needs k b c → Chain needs (j + k) a c

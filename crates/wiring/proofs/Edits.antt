@@ -126,11 +126,11 @@ module _ {A : Type 0} where
   In-insert_cases [] (suc i) x y (inl same) = inl same
   In-insert_cases [] (suc i) x y (inr here) = absurd here
   In-insert_cases (z ∷ zs) (suc i) x y (inl same) = inr (inl same)
-  In-insert_cases (z ∷ zs) (suc i) x y (inr here) = behind (In-insert_cases zs i x y here)
+  In-insert_cases (z ∷ zs) (suc i) x y (inr here) = following (In-insert_cases zs i x y here)
     where
-      behind : (y ≡ x) ⊎ In y zs → (y ≡ x) ⊎ In y (z ∷ zs)
-      behind (inl same) = inl same
-      behind (inr before) = inr (inr before)
+      following : (y ≡ x) ⊎ In y zs → (y ≡ x) ⊎ In y (z ∷ zs)
+      following (inl same) = inl same
+      following (inr before) = inr (inr before)
 
   pub from_In-remove : (xs : List A) (i : ℕ) (y : A) → In y (remove xs i) → In y xs
   from_In-remove [] zero y here = absurd here
@@ -145,11 +145,11 @@ module _ {A : Type 0} where
   In-remove_cases (z ∷ zs) zero x y is (inl same) = let removed : z ≡ x = cc in inl (same ∙ removed)
   In-remove_cases (z ∷ zs) zero x y is (inr here) = inr here
   In-remove_cases (z ∷ zs) (suc i) x y is (inl same) = inr (inl same)
-  In-remove_cases (z ∷ zs) (suc i) x y is (inr here) = behind (In-remove_cases zs i x y is here)
+  In-remove_cases (z ∷ zs) (suc i) x y is (inr here) = following (In-remove_cases zs i x y is here)
     where
-      behind : (y ≡ x) ⊎ In y (remove zs i) → (y ≡ x) ⊎ In y (z ∷ remove zs i)
-      behind (inl same) = inl same
-      behind (inr stays) = inr (inr stays)
+      following : (y ≡ x) ⊎ In y (remove zs i) → (y ≡ x) ⊎ In y (z ∷ remove zs i)
+      following (inl same) = inl same
+      following (inr stays) = inr (inr stays)
 
 module _ {A B : Type 0} where
   pub map-insert : (f : A → B) (xs : List A) (i : ℕ) (x : A) → map f (insert xs i x) ≡ insert (map f xs) i (f x)

@@ -17,11 +17,11 @@ module _ {A : Type 0} where
   pub In-append_cases : (x : A) (xs ys : List A) → In x (xs ++ ys) → In x xs ⊎ In x ys
   In-append_cases x [] ys here = inr here
   In-append_cases x (z ∷ zs) ys (inl same) = inl (inl same)
-  In-append_cases x (z ∷ zs) ys (inr here) = behind (In-append_cases x zs ys here)
+  In-append_cases x (z ∷ zs) ys (inr here) = following (In-append_cases x zs ys here)
     where
-      behind : In x zs ⊎ In x ys → In x (z ∷ zs) ⊎ In x ys
-      behind (inl front) = inl (inr front)
-      behind (inr back) = inr back
+      following : In x zs ⊎ In x ys → In x (z ∷ zs) ⊎ In x ys
+      following (inl front) = inl (inr front)
+      following (inr back) = inr back
 
   pub from_In-take : (x : A) (n : ℕ) (xs : List A) → In x (take n xs) → In x xs
   from_In-take x zero xs here = absurd here
@@ -39,11 +39,11 @@ module _ {A : Type 0} where
   In-take_drop_cases x zero xs here = inr here
   In-take_drop_cases x (suc n) [] here = absurd here
   In-take_drop_cases x (suc n) (y ∷ ys) (inl same) = inl (inl same)
-  In-take_drop_cases x (suc n) (y ∷ ys) (inr here) = behind (In-take_drop_cases x n ys here)
+  In-take_drop_cases x (suc n) (y ∷ ys) (inr here) = following (In-take_drop_cases x n ys here)
     where
-      behind : In x (take n ys) ⊎ In x (drop n ys) → In x (y ∷ take n ys) ⊎ In x (drop n ys)
-      behind (inl front) = inl (inr front)
-      behind (inr back) = inr back
+      following : In x (take n ys) ⊎ In x (drop n ys) → In x (y ∷ take n ys) ⊎ In x (drop n ys)
+      following (inl front) = inl (inr front)
+      following (inr back) = inr back
 
   -- what was written, or a member of the list before
   pub In-set_cases : (x : A) (xs : List A) (i : ℕ) (y : A) → In x (set xs i y) → (x ≡ y) ⊎ In x xs
@@ -51,11 +51,11 @@ module _ {A : Type 0} where
   In-set_cases x (z ∷ zs) zero y (inl same) = inl same
   In-set_cases x (z ∷ zs) zero y (inr here) = inr (inr here)
   In-set_cases x (z ∷ zs) (suc i) y (inl same) = inr (inl same)
-  In-set_cases x (z ∷ zs) (suc i) y (inr here) = behind (In-set_cases x zs i y here)
+  In-set_cases x (z ∷ zs) (suc i) y (inr here) = following (In-set_cases x zs i y here)
     where
-      behind : (x ≡ y) ⊎ In x zs → (x ≡ y) ⊎ In x (z ∷ zs)
-      behind (inl same) = inl same
-      behind (inr before) = inr (inr before)
+      following : (x ≡ y) ⊎ In x zs → (x ≡ y) ⊎ In x (z ∷ zs)
+      following (inl same) = inl same
+      following (inr before) = inr (inr before)
 
   -- what stands at a position is a member
   pub In-slice_get : (x : A) (xs : List A) (i : ℕ) → slice_get xs i ≡ Some x → In x xs

@@ -26,10 +26,10 @@ none_of p (y ∷ xs) h x (inl same) = ap p same ∙ (neither (p y) (list_any p x
 none_of p (y ∷ xs) h x (inr here) = none_of p xs (neither (p y) (list_any p xs) h).1 x here
 
 -- nor of what is left after some
-pub none_behind : {A : Type 0} (p : A → Bool) (n : ℕ) (xs : List A) → list_any p xs ≡ false → list_any p (drop n xs) ≡ false
-none_behind p zero xs h = h
-none_behind p (suc n) [] h = h
-none_behind p (suc n) (x ∷ xs) h = none_behind p n xs (neither (p x) (list_any p xs) h).1
+pub none_after : {A : Type 0} (p : A → Bool) (n : ℕ) (xs : List A) → list_any p xs ≡ false → list_any p (drop n xs) ≡ false
+none_after p zero xs h = h
+none_after p (suc n) [] h = h
+none_after p (suc n) (x ∷ xs) h = none_after p n xs (neither (p x) (list_any p xs) h).1
 
 same_settled : (ts us : List HwType) → known_types ts ≡ known_types us → ts ≡ us
 same_settled [] [] h = refl
@@ -161,7 +161,7 @@ within_limits (array n t) plain h = cc
 within_limits (struct fs) plain h = cc
 
 outside_among : (kind : Kind) (ts : List HwType) → list_any is_outside ts ≡ false → list_any is_outside (value_types kind ts) ≡ false
-outside_among (instance i) ts h = none_behind is_outside (length i.inputs) ts h
+outside_among (instance i) ts h = none_after is_outside (length i.inputs) ts h
 outside_among _ ts h = h
 
 pub given_some : (kind : Kind) (ts : List HwType) (t : HwType) → is_aggregate t ≡ false → list_any is_outside ts ≡ false → IsGiven (value_types kind ts) t → HasSomeBits t

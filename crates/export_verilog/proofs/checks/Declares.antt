@@ -249,13 +249,13 @@ module _ (m : Module) where
     of_block i o there as_instance emission (inl e) = subst (λ z. In z (module_identifiers m)) (sym e) (instance_in_identifiers m i o there emission)
     of_block i o there as_instance emission (inr never) = absurd never
 
-    behind : In k (each (op_wires m) 0 m.body) ⊎ In k (each (op_blocks m) 0 m.body) → In k (module_identifiers m)
-    behind (inl h) = let e = from_each (op_wires m) m.body k h in of_wire e.0 e.1 e.2 (emission_of m.ports m.body e.0 e.1) refl e.3
-    behind (inr h) = let e = from_each (op_blocks m) m.body k h in of_block e.0 e.1 e.2 (emission_of m.ports m.body e.0 e.1) refl e.3
+    following : In k (each (op_wires m) 0 m.body) ⊎ In k (each (op_blocks m) 0 m.body) → In k (module_identifiers m)
+    following (inl h) = let e = from_each (op_wires m) m.body k h in of_wire e.0 e.1 e.2 (emission_of m.ports m.body e.0 e.1) refl e.3
+    following (inr h) = let e = from_each (op_blocks m) m.body k h in of_block e.0 e.1 e.2 (emission_of m.ports m.body e.0 e.1) refl e.3
 
     go : In k (port_identifiers_from 0 m.ports) ⊎ In k (each (op_wires m) 0 m.body ++ each (op_blocks m) 0 m.body) → In k (module_identifiers m)
     go (inl h) = port_identifiers_within m k h
-    go (inr h) = behind (in_append k (each (op_wires m) 0 m.body) (each (op_blocks m) 0 m.body) h)
+    go (inr h) = following (in_append k (each (op_wires m) 0 m.body) (each (op_blocks m) 0 m.body) h)
 
   identifiers_of : (are : AreNames m) (ks : List Identifier) → ((k : Identifier) → In k ks → In k (module_identifiers m)) → all_identifiers (map (identifier_text m) ks) ≡ true
   identifiers_of are [] within = refl

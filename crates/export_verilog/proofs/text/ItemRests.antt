@@ -82,10 +82,10 @@ unfolding items_text
 items_join [] js bs = refl
 items_join (i ∷ is) js bs = ap (item_text i) (items_join is js bs)
 
-pub items_behind : (is js : List Item) → items_text (is ++ js) [] ≡ items_text is [] ++ items_text js []
-items_behind is js = items_join is js [] ∙ items_rest is [] (items_text js [])
+pub items_after : (is js : List Item) → items_text (is ++ js) [] ≡ items_text is [] ++ items_text js []
+items_after is js = items_join is js [] ∙ items_rest is [] (items_text js [])
 
 -- items that are added after what is there
 pub items_added : (out one two : Text) (is js : List Item) → one ≡ out ++ items_text is [] → two ≡ one ++ items_text js [] → two ≡ out ++ items_text (is ++ js) []
 items_added out one two is js p q =
-    q ∙ ap (λ x. x ++ items_text js []) p ∙ append_assoc out (items_text is []) (items_text js []) ∙ ap (λ x. out ++ x) (sym (items_behind is js))
+    q ∙ ap (λ x. x ++ items_text js []) p ∙ append_assoc out (items_text is []) (items_text js []) ∙ ap (λ x. out ++ x) (sym (items_after is js))

@@ -19,7 +19,7 @@ use Rattle.mlir_printer.specs.Printable.{IsDefined, IsPrintableOp, IsPrintablePo
 use Rattle.mlir_printer.proofs.names.NameTables.{Among, Finds, finds_left, finds_right, AreNew, new_left, new_right, found, all_new}
 use Rattle.mlir_printer.proofs.names.NamedDefinitions.{name_of, map_append, firsts_add, firsts_all, ports_names, body_names}
 use Rattle.mlir_printer.proofs.names.ValuesFound.{port_found, result_found}
-use Rattle.mlir_printer.proofs.names.GivenNames.{Suits, given_suit, suit_first, suit_behind, wanted_length}
+use Rattle.mlir_printer.proofs.names.GivenNames.{Suits, given_suit, suit_first, suit_after, wanted_length}
 use Rattle.mlir_printer.proofs.again.EntriesKept.{kept_itself}
 use Rattle.mlir_printer.proofs.again.OperationsAgain.{are_counted, operation_again, last_output}
 
@@ -41,7 +41,7 @@ body_again ports body m earlier means i ns (o ∷ os) resolve new suits p =
     ∙ ap (λ l. op_without_place o ∷ l)
     (body_again ports body m later means (i + 1) (drop (name_count (parts_in o)) ns) os resolve
     (new_right earlier (operation_definitions i here) (body_definitions (i + 1) rest) new)
-    (suit_behind (name_hints (parts_in o)) (body_name_hints (map parts_in os)) ns suits) p.1)
+    (suit_after (name_hints (parts_in o)) (body_name_hints (map parts_in os)) ns suits) p.1)
 
 output_there : (means : Ref → ValueText) (ns : List Name) (os : List Op) → EndsWithOutput os
     → ends_with_output (map said_operation (operations_shown means ns os)) ≡ true
@@ -90,14 +90,14 @@ module _ (m : Module) (p : IsPrintableModule m) where
   given = names_given m.ports (map parts_in m.body)
 
   -- the names of results
-  abbrev behind : List Name
-  behind = drop (input_count m.ports) given
+  abbrev following : List Name
+  following = drop (input_count m.ports) given
 
   abbrev means : Ref → ValueText
   means = value_named given m.ports (map parts_in m.body)
 
   abbrev texts : List OperationText
-  texts = map said_operation (operations_shown means behind m.body)
+  texts = map said_operation (operations_shown means following m.body)
 
   abbrev port_defs : List Definition
   port_defs = port_definitions 0 (map said_port (ports_shown given m.ports))
@@ -114,7 +114,7 @@ module _ (m : Module) (p : IsPrintableModule m) where
   all_names =
       map_append name_of port_defs body_defs
       ∙ ap (λ l. l ++ map name_of body_defs) (ports_names 0 given m.ports)
-      ∙ ap (λ l. firsts (input_count m.ports) given ++ l) (body_names means 0 behind m.body)
+      ∙ ap (λ l. firsts (input_count m.ports) given ++ l) (body_names means 0 following m.body)
       ∙ sym (firsts_add (input_count m.ports) (length (body_name_hints (map parts_in m.body))) given)
       ∙ ap (λ k. firsts k given) (sym (length-append (port_name_hints m.ports) (body_name_hints (map parts_in m.body))) ∙ sym given_length)
       ∙ firsts_all given
@@ -144,7 +144,7 @@ module _ (m : Module) (p : IsPrintableModule m) where
       ∙ ap (λ k. port k) z
   resolves (result i k) h =
       let z : 0 + i ≡ i = omega arith in
-      result_found (meanings (inherent_view (module_shown m))) means behind m.body 0 i k h.0
+      result_found (meanings (inherent_view (module_shown m))) means following m.body 0 i k h.0
       (finds_right (meanings (inherent_view (module_shown m))) port_defs body_defs finds) h.1
       (λ x ms a. are_counted m.ports m.body x (each_among (IsPrintableOp m.ports m.body) m.body x p.operations a) means ms) h.2
       ∙ ap (λ j. result j k) z
@@ -155,10 +155,10 @@ module _ (m : Module) (p : IsPrintableModule m) where
       let os = operations_from (meanings (inherent_view (module_shown m))) (port_meanings (inherent_view (module_shown m)).ports) 0 texts in
       ap (λ b. map op_without_place (cond b os (cond (has_outputs (inherent_view (module_shown m)).ports) os
       (os ++ left_out_output (inherent_view (module_shown m)).close ∷ []))))
-      (output_there means behind m.body p.ends)
-      ∙ body_again m.ports m.body (meanings (inherent_view (module_shown m))) (port_meanings (inherent_view (module_shown m)).ports) means 0 behind m.body resolves
+      (output_there means following m.body p.ends)
+      ∙ body_again m.ports m.body (meanings (inherent_view (module_shown m))) (port_meanings (inherent_view (module_shown m)).ports) means 0 following m.body resolves
       (new_right no_meaning port_defs body_defs all_are_new)
-      (suit_behind (port_name_hints m.ports) (body_name_hints (map parts_in m.body)) given all_suit) p.operations
+      (suit_after (port_name_hints m.ports) (body_name_hints (map parts_in m.body)) given all_suit) p.operations
 
   pub module_again : module_without_places m ≡ module_without_places (module_of (inherent_view (module_shown m)))
   module_again =

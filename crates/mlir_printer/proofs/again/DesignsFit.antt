@@ -24,7 +24,7 @@ use Rattle.op_checks.specs.CountChecks.{operands_written, type_count}
 use Rattle.mlir_printer.specs.Printable.{IsDefined, IsPrintableOp, IsPrintablePort, EndsWithOutput, IsPrintableModule, Printable}
 use Rattle.mlir_printer.proofs.names.NameTables.{Among}
 use Rattle.mlir_printer.proofs.names.NamedDefinitions.{pack_named}
-use Rattle.mlir_printer.proofs.names.GivenNames.{Suits, digits_value, word_value, given_suit, suit_first, suit_behind}
+use Rattle.mlir_printer.proofs.names.GivenNames.{Suits, digits_value, word_value, given_suit, suit_first, suit_after}
 use Rattle.mlir_printer.proofs.again.OperationsAgain.{are_counted, last_output}
 use Rattle.mlir_printer.proofs.again.DesignsAgain.{each_among}
 use Rattle.mlir_printer.proofs.again.DictionariesFit.{kept_fits, shown_fits}
@@ -92,7 +92,7 @@ port_fits ns (q ∷ ps) zero p suits at input =
     go true e h = cc
     go false e h = record { name = name_at (Some q.name ∷ port_name_hints ps) ns 0 h (omega arith); number = tt }
 port_fits ns (q ∷ ps) (suc j) p suits at input =
-    port_fits (drop (length (port_name_hint q)) ns) ps j p (suit_behind (port_name_hint q) (port_name_hints ps) ns suits) at input
+    port_fits (drop (length (port_name_hint q)) ns) ps j p (suit_after (port_name_hint q) (port_name_hints ps) ns suits) at input
 
 result_fits : (ns : List Name) (os : List Op) (i k : ℕ) (o : Op) → Suits (body_name_hints (map parts_in os)) ns → slice_get os i ≡ Some o
     → ((x : Op) → Among x os → NamesFit (parts_in x)) → k < length o.results → IsOperand (value_in ns (map parts_in os) i k)
@@ -102,7 +102,7 @@ result_fits ns (x ∷ os) zero k o suits at fit lt =
     value_fits (parts_in x) ns k (fit x (inl refl)) (suit_first (name_hints (parts_in x)) (body_name_hints (map parts_in os)) ns suits)
     (subst (λ (y : Op). k < length y.results) (sym same) lt)
 result_fits ns (x ∷ os) (suc i) k o suits at fit lt =
-    result_fits (drop (name_count (parts_in x)) ns) os i k o (suit_behind (name_hints (parts_in x)) (body_name_hints (map parts_in os)) ns suits) at
+    result_fits (drop (name_count (parts_in x)) ns) os i k o (suit_after (name_hints (parts_in x)) (body_name_hints (map parts_in os)) ns suits) at
     (λ y h. fit y (inr h)) lt
 
 -- ---- operations
@@ -152,7 +152,7 @@ body_fits ports body means ns (o ∷ x ∷ os) f suits p ends = (
   op_fits ports body o p.0 means ns f (suit_first (name_hints (parts_in o)) (body_name_hints (map parts_in (x ∷ os))) ns suits),
   (λ last. absurd (false≢true (sym (last_output o.kind ∙ ends.0) ∙ last))),
   body_fits ports body means (drop (name_count (parts_in o)) ns) (x ∷ os) f
-      (suit_behind (name_hints (parts_in o)) (body_name_hints (map parts_in (x ∷ os))) ns suits) p.1 ends.1,
+      (suit_after (name_hints (parts_in o)) (body_name_hints (map parts_in (x ∷ os))) ns suits) p.1 ends.1,
 )
 
 -- ---- modules
@@ -161,7 +161,7 @@ ports_fit : (ns : List Name) (ps : List Port) → Suits (port_name_hints ps) ns 
 ports_fit ns [] suits p = tt
 ports_fit ns (q ∷ ps) suits p = (
   record { value = value q.is_output suits; name = p.0.name; type = p.0.type },
-  ports_fit (drop (length (port_name_hint q)) ns) ps (suit_behind (port_name_hint q) (port_name_hints ps) ns suits) p.1,
+  ports_fit (drop (length (port_name_hint q)) ns) ps (suit_after (port_name_hint q) (port_name_hints ps) ns suits) p.1,
 )
   where
     value : (b : Bool) → Suits (cond b [] (Some q.name ∷ []) ++ port_name_hints ps) ns → MayBeValue (cond b None (Some (first_name ns)))
@@ -173,7 +173,7 @@ module_fits m p =
     let ns = names_given m.ports (map parts_in m.body) in
     let all : Suits (port_name_hints m.ports ++ body_name_hints (map parts_in m.body)) ns = given_suit
     (port_name_hints m.ports ++ body_name_hints (map parts_in m.body)) p.few in
-    let behind : Suits (body_name_hints (map parts_in m.body)) (drop (input_count m.ports) ns) = suit_behind (port_name_hints m.ports)
+    let following : Suits (body_name_hints (map parts_in m.body)) (drop (input_count m.ports) ns) = suit_after (port_name_hints m.ports)
     (body_name_hints (map parts_in m.body)) ns all in
     record {
       symbol = p.symbol;
@@ -181,17 +181,17 @@ module_fits m p =
       dictionary = kept_fits listed.HwModule _ m.dictionary p.dictionary;
       operations =
           body_fits m.ports m.body (value_named ns m.ports (map parts_in m.body)) (drop (input_count m.ports) ns) m.body
-          (values ns all behind) behind p.operations p.ends;
+          (values ns all following) following p.operations p.ends;
     }
   where
     values : (ns : List Name) → Suits (port_name_hints m.ports ++ body_name_hints (map parts_in m.body)) ns
         → Suits (body_name_hints (map parts_in m.body)) (drop (input_count m.ports) ns)
         → (r : Ref) → IsDefined m.ports m.body r → IsOperand (value_named ns m.ports (map parts_in m.body) r)
-    values ns all behind (port j) h = port_fits ns m.ports j h.0 (suit_first (port_name_hints m.ports) (body_name_hints (map parts_in m.body)) ns all) h.1 h.2
-    values ns all behind (result i k) h =
-        result_fits (drop (input_count m.ports) ns) m.body i k h.0 behind h.1
+    values ns all following (port j) h = port_fits ns m.ports j h.0 (suit_first (port_name_hints m.ports) (body_name_hints (map parts_in m.body)) ns all) h.1 h.2
+    values ns all following (result i k) h =
+        result_fits (drop (input_count m.ports) ns) m.body i k h.0 following h.1
         (λ x a. op_names m.ports m.body x (each_among (IsPrintableOp m.ports m.body) m.body x p.operations a)) h.2
-    values ns all behind undefined h = absurd h
+    values ns all following undefined h = absurd h
 
 -- each module's text can be read again
 pub printable_designs_are_spellable : (d : Design) → Printable d → Each IsSpellable (modules_shown d)

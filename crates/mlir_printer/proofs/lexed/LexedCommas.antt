@@ -9,25 +9,25 @@ use Rattle.mlir_lexer.specs.declared.token.TokenKind.TheVariants as kind
 use Rattle.mlir_syntax.specs.Spelling.{Phrase, Mark, Commas, Between}
 use Rattle.mlir_printer.specs.Commas.{comma_bytes, items_from, commas}
 use Rattle.canonical_form.specs.Bytes.{Each}
-use Rattle.mlir_printer.proofs.lexed.LexedTexts.{Whole, Lexed, lexed, lexed_by, then, then_on, then_whole, closed, nothing, blank_behind, blank_on_whole, comma_mark, colon_mark, equals_mark, arrow_mark}
+use Rattle.mlir_printer.proofs.lexed.LexedTexts.{Whole, Lexed, lexed, lexed_by, then, then_on, then_whole, closed, nothing, blank_after, blank_on_whole, comma_mark, colon_mark, equals_mark, arrow_mark}
 use Rattle.mlir_printer.proofs.lexed.LexedNames.{none_zero}
 
 -- ---- marks with blanks
 
 pub comma_blank : Whole (Mark kind.Comma) (codes ", ")
-comma_blank = blank_behind (lexed comma_mark)
+comma_blank = blank_after (lexed comma_mark)
 
 pub colon_blank : Whole (Mark kind.Colon) (codes ": ")
-colon_blank = blank_behind (lexed colon_mark)
+colon_blank = blank_after (lexed colon_mark)
 
 pub blank_colon : Whole (Mark kind.Colon) (codes " : ")
 blank_colon = blank_on_whole colon_blank
 
 pub blank_equals : Whole (Mark kind.Equals) (codes " = ")
-blank_equals = blank_on_whole (blank_behind (lexed equals_mark))
+blank_equals = blank_on_whole (blank_after (lexed equals_mark))
 
 pub blank_arrow : Whole (Mark kind.Arrow) (codes " -> ")
-blank_arrow = blank_on_whole (blank_behind (lexed arrow_mark))
+blank_arrow = blank_on_whole (blank_after (lexed arrow_mark))
 
 -- ---- lists
 

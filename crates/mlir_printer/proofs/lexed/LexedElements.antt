@@ -14,11 +14,11 @@ use Rattle.assembly_format.specs.declared.elements.FormatElement.TheVariants as 
 use Rattle.mlir_printer.specs.Numbers.{is_one}
 use Rattle.mlir_printer.specs.Types.{type_bytes}
 use Rattle.mlir_printer.specs.Commas.{commas}
-use Rattle.mlir_printer.specs.Elements.{ValueText, Pending, first_operand, first_type_bytes, operand_bytes, predicate_said, position_said, truth_said, number_said, literals_said, field_said, reset_bytes, reset_said, sync_or_async_reset_said, instance_said, element_bytes, left_behind, elements_bytes}
+use Rattle.mlir_printer.specs.Elements.{ValueText, Pending, first_operand, first_type_bytes, operand_bytes, predicate_said, position_said, truth_said, number_said, literals_said, field_said, reset_bytes, reset_said, sync_or_async_reset_said, instance_said, element_bytes, left_after, elements_bytes}
 use Rattle.mlir_printer.specs.Spellable.{IsOperand, HasType, HasTwoOperands, MayReset, MaySyncOrAsyncReset, SaysPredicate, SaysPosition, SaysTruth, SaysInteger, SaysLiterals, SaysField, SaysInstance, Needs, NeedAll, first_type, gathered_operands_of_reset, gathered_reset, gathered_sync_or_async_reset, gathered_with, gathered_with_all, said_operand}
 use Rattle.canonical_form.specs.Bytes.{Each}
 use Rattle.canonical_form.specs.Limits.{IsAnyType}
-use Rattle.mlir_printer.proofs.lexed.LexedTexts.{Stops, Whole, Lexed, lexed, lexed_as, whole_as, then, then_on, then_whole, nothing, blank_behind, blank_on_whole, left_parenthesis, right_parenthesis}
+use Rattle.mlir_printer.proofs.lexed.LexedTexts.{Stops, Whole, Lexed, lexed, lexed_as, whole_as, then, then_on, then_whole, nothing, blank_after, blank_on_whole, left_parenthesis, right_parenthesis}
 use Rattle.mlir_printer.proofs.lexed.LexedStrings.{string_lexed}
 use Rattle.mlir_printer.proofs.lexed.LexedNames.{bare_lexed}
 use Rattle.mlir_printer.proofs.lexed.LexedNumbers.{count_lexed, integer_lexed}
@@ -73,13 +73,13 @@ reset_lexed Reset words whole e os g h =
     (then_on whole (then (operand_lexed (first_operand os) h.0) (then_on comma_blank (operand_lexed (first_operand (drop 1 os)) h.1)) refl))
 
 reset_word : Whole (Word (codes "reset")) (codes " reset ")
-reset_word = blank_on_whole (blank_behind (bare_lexed (codes "reset") refl))
+reset_word = blank_on_whole (blank_after (bare_lexed (codes "reset") refl))
 
 sync_words : Whole ResetSync (codes " reset sync ")
-sync_words = then_whole reset_word (blank_behind (bare_lexed (codes "sync") refl))
+sync_words = then_whole reset_word (blank_after (bare_lexed (codes "sync") refl))
 
 async_words : Whole ResetAsync (codes " reset async ")
-async_words = then_whole reset_word (blank_behind (bare_lexed (codes "async") refl))
+async_words = then_whole reset_word (blank_after (bare_lexed (codes "async") refl))
 
 -- a reset, or nothing
 reset_element : (e : InherentAttributes) (os : List ValueText) (g : Gathered) → MayReset e os
@@ -174,14 +174,14 @@ sync_or_async_reset_stops _ os rest stops = stops
 pub elements_stop : (xs : List FormatElement) (p : Pending) (g : Gathered) → NeedAll xs p g → stops_at xs ≡ true → Stops (elements_bytes xs p)
 unfolding element_bytes
 elements_stop [] p g h e = tt
-elements_stop (element.Mark k ∷ xs) p g h e = mark_stops k (elements_bytes xs (left_behind (element.Mark k) p)) h.0
-elements_stop (element.Word w ∷ xs) p g h e = word_stops w (elements_bytes xs (left_behind (element.Word w) p))
+elements_stop (element.Mark k ∷ xs) p g h e = mark_stops k (elements_bytes xs (left_after (element.Mark k) p)) h.0
+elements_stop (element.Word w ∷ xs) p g h e = word_stops w (elements_bytes xs (left_after (element.Word w) p))
 elements_stop (element.Reset ∷ xs) p g h e =
-    reset_stops p.inherent p.operands (elements_bytes xs (left_behind element.Reset p))
-    (elements_stop xs (left_behind element.Reset p) (gathered_with element.Reset p g) h.1 e)
+    reset_stops p.inherent p.operands (elements_bytes xs (left_after element.Reset p))
+    (elements_stop xs (left_after element.Reset p) (gathered_with element.Reset p g) h.1 e)
 elements_stop (element.SyncOrAsyncReset ∷ xs) p g h e =
-    sync_or_async_reset_stops p.inherent p.operands (elements_bytes xs (left_behind element.SyncOrAsyncReset p))
-    (elements_stop xs (left_behind element.SyncOrAsyncReset p) (gathered_with element.SyncOrAsyncReset p g) h.1 e)
+    sync_or_async_reset_stops p.inherent p.operands (elements_bytes xs (left_after element.SyncOrAsyncReset p))
+    (elements_stop xs (left_after element.SyncOrAsyncReset p) (gathered_with element.SyncOrAsyncReset p g) h.1 e)
 elements_stop (_ ∷ xs) p g h e = absurd cc
 
 -- whether each piece ends where the next begins
@@ -191,11 +191,11 @@ is_parted (x ∷ xs) = (is_closed x || stops_at xs) && is_parted xs
 
 -- a piece and those after it
 parted : (x : FormatElement) (xs : List FormatElement) (p : Pending) (g : Gathered) → NeedAll (x ∷ xs) p g → (c : Bool) → is_closed x ≡ c → (c || stops_at xs) ≡ true
-    → Lexed (ElementsPhrase xs (gathered_with x p g) (gathered_with_all xs (left_behind x p) (gathered_with x p g))) (elements_bytes xs (left_behind x p))
+    → Lexed (ElementsPhrase xs (gathered_with x p g) (gathered_with_all xs (left_after x p) (gathered_with x p g))) (elements_bytes xs (left_after x p))
     → Lexed (Then (FormatElementPhrase x g (gathered_with x p g)) (ElementsPhrase xs (gathered_with x p g) (gathered_with_all (x ∷ xs) p g)))
     (elements_bytes (x ∷ xs) p)
 parted x xs p g h true closed e more = then_on (closed_element x p g closed h.0) more
-parted x xs p g h false opened e more = then (element_lexed x p g h.0) more (elements_stop xs (left_behind x p) (gathered_with x p g) h.1 e)
+parted x xs p g h false opened e more = then (element_lexed x p g h.0) more (elements_stop xs (left_after x p) (gathered_with x p g) h.1 e)
 
 -- pieces are read as they are printed
 pub elements_lexed : (xs : List FormatElement) (p : Pending) (g : Gathered) → NeedAll xs p g → is_parted xs ≡ true
@@ -203,5 +203,5 @@ pub elements_lexed : (xs : List FormatElement) (p : Pending) (g : Gathered) → 
 elements_lexed [] p g h e = lexed_as (λ ts w. (refl, w)) (lexed nothing)
 elements_lexed (x ∷ xs) p g h e =
     let (here, later) = and_parts (is_closed x || stops_at xs) (is_parted xs) e in
-    let more = elements_lexed xs (left_behind x p) (gathered_with x p g) h.1 later in
+    let more = elements_lexed xs (left_after x p) (gathered_with x p g) h.1 later in
     lexed_as (λ ts w. (gathered_with x p g, w)) (parted x xs p g h (is_closed x) refl here more)

@@ -18,7 +18,7 @@ use Rattle.mlir_printer.specs.Elements.{ValueText, InputText, input_bytes, outpu
 use Rattle.mlir_printer.specs.Spellable.{IsOperand, IsInstance, said_operand}
 use Rattle.canonical_form.specs.Bytes.{Each, AreBytes, MayBeBytes}
 use Rattle.canonical_form.specs.Limits.{IsAnyType}
-use Rattle.mlir_printer.proofs.lexed.LexedTexts.{Stops, Whole, Lexed, lexed, lexed_as, lexed_by, then, then_on, then_whole, nothing, blank_on, blank_behind, left_parenthesis, right_parenthesis}
+use Rattle.mlir_printer.proofs.lexed.LexedTexts.{Stops, Whole, Lexed, lexed, lexed_as, lexed_by, then, then_on, then_whole, nothing, blank_on, blank_after, left_parenthesis, right_parenthesis}
 use Rattle.mlir_printer.proofs.lexed.LexedStrings.{string_lexed}
 use Rattle.mlir_printer.proofs.lexed.LexedNames.{bare_lexed, name_lexed, symbol_lexed}
 use Rattle.mlir_printer.proofs.lexed.LexedCommas.{colon_blank, blank_arrow, commas_lexed, between}
@@ -131,9 +131,9 @@ instance_says g i os ts h =
     let types = h.types_count in
     let inputs = inputs_say i.inputs os ts h.inputs_count (omega (arith, types)) in
     let left : length (drop (length i.inputs) ts) ≡ length i.outputs = rw (length-drop (length i.inputs) ts) (omega (arith, types)) in
-    let (names, behind) = outputs_say i.outputs (drop (length i.inputs) ts) left in
+    let (names, following) = outputs_say i.outputs (drop (length i.inputs) ts) left in
     let front : types_said (inputs_of i os ts) ++ types_out (outputs_of i ts) ≡ ts =
-    ap (λ x. x ++ types_out (outputs_of i ts)) inputs.types ∙ ap (λ x. take (length i.inputs) ts ++ x) behind
+    ap (λ x. x ++ types_out (outputs_of i ts)) inputs.types ∙ ap (λ x. take (length i.inputs) ts ++ x) following
     ∙ take-append-drop (length i.inputs) ts in
     let all : (g.types ++ types_said (inputs_of i os ts)) ++ types_out (outputs_of i ts) ≡ g.types ++ ts =
     append_assoc g.types (types_said (inputs_of i os ts)) (types_out (outputs_of i ts)) ∙ ap (λ x. g.types ++ x) front in
@@ -146,7 +146,7 @@ instance_says g i os ts h =
 inner_whole : (inner : Option Name) → MayBeBytes inner → Whole (InnerSymbol inner) (inner_bytes inner)
 unfolding inner_bytes
 inner_whole None h = nothing
-inner_whole (Some name) h = then_whole (blank_behind (bare_lexed (codes "sym") refl)) (blank_behind (symbol_lexed name h))
+inner_whole (Some name) h = then_whole (blank_after (bare_lexed (codes "sym") refl)) (blank_after (symbol_lexed name h))
 
 connections_stop : (ins outs : List Name) (os : List ValueText) (ts : List HwType) → Stops (connections_bytes ins outs os ts)
 unfolding connections_bytes
@@ -177,8 +177,8 @@ unfolding connections_bytes
 connections_lexed i os ts h =
     let ins = between 41 [] left_parenthesis (inputs_lexed i os ts h) right_parenthesis refl in
     let outs = between 41 [] left_parenthesis (outputs_lexed i os ts h) right_parenthesis refl in
-    let behind : List ℕ = codes " -> " ++ (codes "(" ++ (commas output_bytes (outputs_of i ts) ++ codes ")")) in
-    lexed_by (ap (λ x. codes "(" ++ x) (append_assoc (commas input_bytes (inputs_joined i.inputs os ts)) (codes ")") behind))
+    let following : List ℕ = codes " -> " ++ (codes "(" ++ (commas output_bytes (outputs_of i ts) ++ codes ")")) in
+    lexed_by (ap (λ x. codes "(" ++ x) (append_assoc (commas input_bytes (inputs_joined i.inputs os ts)) (codes ")") following))
     (then_on ins (then_on blank_arrow (lexed outs)))
 
 -- an instance is read as itself

@@ -8,7 +8,7 @@ use Rattle.opcode.specs.Listed.{name_of_listed}
 use Rattle.opcode.specs.declared.listed.Listed.TheVariants as listed
 use Rattle.hw_model.specs.Types.{Name, HwType}
 use Rattle.hw_model.specs.Design.{Entry, same_name}
-use Rattle.mlir_lexer.specs.Tokens.{Lexeme, tokens_behind}
+use Rattle.mlir_lexer.specs.Tokens.{Lexeme, tokens_after}
 use Rattle.mlir_lexer.specs.declared.token.TokenKind.TheVariants as kind
 use Rattle.mlir_syntax.specs.TypeText.{most_open}
 use Rattle.canonical_form.specs.Dictionaries.{module_keys}
@@ -22,7 +22,7 @@ use Rattle.mlir_printer.specs.Spellable.{IsDictionary, inherent_view, said_port}
 use Rattle.canonical_form.specs.Bytes.{Each, AreBytes}
 use Rattle.canonical_form.specs.Limits.{IsAnyType}
 use Rattle.mlir_printer.specs.SpellableModules.{MayBeValue, IsSpellablePort, IsSpellable, AreSpelled}
-use Rattle.mlir_printer.proofs.lexed.LexedTexts.{Stops, Whole, Lexed, lexed, lexed_as, whole_as, whole_by, then, then_on, then_whole, closed, nothing, blank_on, blank_on_whole, blank_behind, line_behind, left_brace, right_brace, left_parenthesis, right_parenthesis}
+use Rattle.mlir_printer.proofs.lexed.LexedTexts.{Stops, Whole, Lexed, lexed, lexed_as, whole_as, whole_by, then, then_on, then_whole, closed, nothing, blank_on, blank_on_whole, blank_after, line_after, left_brace, right_brace, left_parenthesis, right_parenthesis}
 use Rattle.mlir_printer.proofs.lexed.LexedStrings.{string_lexed}
 use Rattle.mlir_printer.proofs.lexed.LexedNames.{bare_lexed, name_lexed, symbol_lexed, value_name_lexed}
 use Rattle.mlir_printer.proofs.lexed.LexedCommas.{blank_colon, commas_lexed, between, each_of}
@@ -56,10 +56,10 @@ port_lexed : (value : Option Name) (name : Name) (type : HwType) → MayBeValue 
     → Lexed (PortPhrase (record { value = value; name = name; type = type })) (port_bytes_by value name type)
 unfolding input_port_bytes output_port_bytes
 port_lexed None name type h small t =
-    let word = blank_behind (bare_lexed (codes "out") refl) in
+    let word = blank_after (bare_lexed (codes "out") refl) in
     lexed_as (λ ts w. inr (refl, w)) (then_on word (then (name_lexed name small) (then_on blank_colon (type_lexed type most_open t)) refl))
 port_lexed (Some v) name type h small t =
-    let word = blank_behind (bare_lexed (codes "in") refl) in
+    let word = blank_after (bare_lexed (codes "in") refl) in
     let typed = then_on blank_colon (type_lexed type most_open t) in
     let named = then (port_name_lexed v name small) typed refl in
     lexed_as (λ ts w. inl (v, refl, w)) (then_on word (then (value_name_lexed v h) named (port_name_stops v name _ refl)))
@@ -78,24 +78,24 @@ attributes_lexed : (es : List Entry) → IsDictionary module_keys es → Lexed (
 unfolding dictionary_bytes
 attributes_lexed [] h = lexed_as (λ ts w. inr (refl, w)) (lexed nothing)
 attributes_lexed (e ∷ es) h =
-    let word = blank_on_whole (blank_behind (bare_lexed (codes "attributes") refl)) in
+    let word = blank_on_whole (blank_after (bare_lexed (codes "attributes") refl)) in
     lexed_as (λ ts w. inl w) (then_on word (lexed (dictionary_lexed module_keys (e ∷ es) h)))
 
 private_whole : (b : Bool) → Whole (PrivatePhrase b) (private_bytes b)
 unfolding private_bytes
-private_whole true = blank_behind (bare_lexed (codes "private") refl)
+private_whole true = blank_after (bare_lexed (codes "private") refl)
 private_whole false = nothing
 
 module_word :
     Whole (One (λ (t : Lexeme). (t.kind ≡ kind.BareName) × (t.text ≡ name_of_listed listed.HwModule) × Anywhere t start_place)) (codes "  hw.module ")
 unfolding name_of_listed
-module_word = blank_on_whole (blank_on_whole (blank_behind (operation_name listed.HwModule start_place)))
+module_word = blank_on_whole (blank_on_whole (blank_after (operation_name listed.HwModule start_place)))
 
 open_line : Whole (Mark kind.LeftBrace) (codes " {" ++ (10 ∷ []))
-open_line = blank_on_whole (line_behind (lexed left_brace))
+open_line = blank_on_whole (line_after (lexed left_brace))
 
 close_line : Whole (One (λ (t : Lexeme). (t.kind ≡ kind.RightBrace) × Anywhere t start_place)) (codes "  }" ++ (10 ∷ []))
-close_line = whole_as (λ ts w. (w.0, w.1, (w.2, tt))) (blank_on_whole (blank_on_whole (line_behind (lexed right_brace))))
+close_line = whole_as (λ ts w. (w.0, w.1, (w.2, tt))) (blank_on_whole (blank_on_whole (line_after (lexed right_brace))))
 
 -- the bytes of a module by its phrases
 regrouped : (a b c p d brace x : List ℕ)
@@ -124,15 +124,15 @@ modules_whole (m ∷ ms) h = then_whole (module_whole m h.0) (modules_whole ms h
 file_whole : (ms : List ModuleText) → Each IsSpellable ms → Whole (FilePhrase Anywhere (map inherent_view ms)) (file_bytes ms)
 unfolding file_bytes
 file_whole ms h =
-    let word : Whole FileWord (codes "module ") = whole_as (λ ts w. inl w) (blank_behind (bare_lexed (codes "module") refl)) in
+    let word : Whole FileWord (codes "module ") = whole_as (λ ts w. inl w) (blank_after (bare_lexed (codes "module") refl)) in
     let inside : Whole (Between kind.LeftBrace kind.RightBrace (ModulesPhrase Anywhere (map inherent_view ms)))
     (codes "{" ++ ((10 ∷ []) ++ (modules_bytes ms ++ (codes "}" ++ (10 ∷ []))))) =
-    then_whole (line_behind (lexed left_brace)) (then_whole (modules_whole ms h) (line_behind (lexed right_brace))) in
+    then_whole (line_after (lexed left_brace)) (then_whole (modules_whole ms h) (line_after (lexed right_brace))) in
     whole_as (λ ts w. inr ([], w)) (then_whole word (whole_as (λ ts w. ([], ts, refl, inr refl, ([], ts, refl, inr (refl, refl), w))) inside))
 
 -- the bytes of spellable texts are read as what they say
 pub spellable_texts_are_spelled : (ms : List ModuleText) → Each IsSpellable ms → AreSpelled (file_bytes ms) ms
-unfolding tokens_behind
+unfolding tokens_after
 spellable_texts_are_spelled ms h =
     let all = (file_whole ms h).lex [] start_place 0 in
-    (all.passed, ap (tokens_behind 0 start_place 0) (sym (append-nil (file_bytes ms))) ∙ all.same ∙ append-nil (map token_of all.passed), all.says)
+    (all.passed, ap (tokens_after 0 start_place 0) (sym (append-nil (file_bytes ms))) ∙ all.same ∙ append-nil (map token_of all.passed), all.says)

@@ -142,7 +142,7 @@ number_token limit n small (b ∷ bs) h rest ends place at =
     cond-false (b == 48 && is_hex_mark (bs ++ rest)) _ _ (and_right (b == 48) (is_hex_mark (bs ++ rest)) (no_base bs rest others ends)) in
     let one = one_token b bs rest place at (digit_front b (bs ++ rest) digit ∙ plain) (ap (λ n. n + 1) more)
     (λ t k e. (k, ap number_of e ∙ digits_number b bs h.whole ∙ h.value)) in
-    record { passed = one.passed; end = one.end; behind = one.behind; same = one.same; says = (small, one.says) }
+    record { passed = one.passed; end = one.end; following = one.following; same = one.same; says = (small, one.says) }
 
 -- a number is read as itself
 pub number_lexed : (limit n : ℕ) → n < limit → n < 10 ^ 64 → Lexed (NumberPhrase limit n) (count_bytes n)
@@ -221,7 +221,7 @@ minus_lexed n small = record {
   lex = λ rest place at stops.
       let h = numeral (n + 1) (omega (arith, small)) in
       let one = minus_token (decimal (n + 1)) rest h.some h.whole place at in
-      joined one (number_token number_limit (n + 1) (omega (arith, small)) (decimal (n + 1)) h rest (ends_number rest stops) one.end one.behind);
+      joined one (number_token number_limit (n + 1) (omega (arith, small)) (decimal (n + 1)) h rest (ends_number rest stops) one.end one.following);
 }
 
 -- an integer is read with its sign

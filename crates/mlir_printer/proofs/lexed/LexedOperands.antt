@@ -18,23 +18,23 @@ use Rattle.mlir_printer.specs.Commas.{commas}
 use Rattle.mlir_printer.specs.Elements.{ValueText, value_name_bytes, pack_number_bytes, operand_bytes, mark_bytes, word_bytes, predicate_bytes}
 use Rattle.mlir_printer.specs.Spellable.{IsValueName, IsNumber, IsOperand, IsMark, said_number, said_operand}
 use Rattle.canonical_form.specs.Bytes.{Each}
-use Rattle.mlir_printer.proofs.lexed.LexedTexts.{Stops, Whole, Lexed, lexed, lexed_as, then, nothing, blank_behind, blank_on_whole, left_parenthesis, right_parenthesis, left_brace, right_brace, left_bracket, right_bracket, less_mark, greater_mark}
+use Rattle.mlir_printer.proofs.lexed.LexedTexts.{Stops, Whole, Lexed, lexed, lexed_as, then, nothing, blank_after, blank_on_whole, left_parenthesis, right_parenthesis, left_brace, right_brace, left_bracket, right_bracket, less_mark, greater_mark}
 use Rattle.mlir_printer.proofs.lexed.LexedNames.{bare_lexed, value_name_lexed}
 use Rattle.mlir_printer.proofs.lexed.LexedNumbers.{pack_number_lexed}
 use Rattle.mlir_printer.proofs.lexed.LexedCommas.{comma_blank, blank_colon, blank_equals, blank_arrow, commas_lexed, each_of}
 
 -- ---- operands
 
-number_behind : (name : Name) (n : Option ℕ) → IsValueName name → IsNumber n
+number_after : (name : Name) (n : Option ℕ) → IsValueName name → IsNumber n
     → Lexed (OperandPhrase (record { name = name; number = said_number n })) (value_name_bytes name ++ pack_number_bytes n)
 unfolding pack_number_bytes
-number_behind name None h small = then (value_name_lexed name h) (lexed_as (λ ts p. inl (refl, p)) (lexed nothing)) tt
-number_behind name (Some n) h small = then (value_name_lexed name h) (lexed_as (λ ts p. inr (small, p)) (pack_number_lexed n small)) refl
+number_after name None h small = then (value_name_lexed name h) (lexed_as (λ ts p. inl (refl, p)) (lexed nothing)) tt
+number_after name (Some n) h small = then (value_name_lexed name h) (lexed_as (λ ts p. inr (small, p)) (pack_number_lexed n small)) refl
 
 -- an operand is read as itself
 pub operand_lexed : (o : ValueText) → IsOperand o → Lexed (OperandPhrase (said_operand o)) (operand_bytes o)
 unfolding operand_bytes
-operand_lexed o h = number_behind o.name o.number h.name h.number
+operand_lexed o h = number_after o.name o.number h.name h.number
 
 -- an operand begins with a sign
 pub operand_stops : (o : ValueText) (rest : List ℕ) → Stops (operand_bytes o ++ rest)
@@ -95,8 +95,8 @@ mark_stops _ rest h = absurd h
 -- a word with blanks round it
 pub word_whole : (w : Keyword) → Whole (Word (text_of_keyword w)) (word_bytes w)
 unfolding word_bytes
-word_whole From = blank_on_whole (blank_behind (bare_lexed (codes "from") refl))
-word_whole Clock = blank_on_whole (blank_behind (bare_lexed (codes "clock") refl))
+word_whole From = blank_on_whole (blank_after (bare_lexed (codes "from") refl))
+word_whole Clock = blank_on_whole (blank_after (bare_lexed (codes "clock") refl))
 
 pub word_stops : (w : Keyword) (rest : List ℕ) → Stops (word_bytes w ++ rest)
 unfolding word_bytes
@@ -141,4 +141,4 @@ predicate_back weq = refl
 predicate_back wne = refl
 
 pub predicate_word : (p : Predicate) → Whole (Word (predicate_bytes p)) (predicate_bytes p ++ codes " ")
-predicate_word p = blank_behind (bare_lexed (predicate_bytes p) (predicate_bare p))
+predicate_word p = blank_after (bare_lexed (predicate_bytes p) (predicate_bare p))

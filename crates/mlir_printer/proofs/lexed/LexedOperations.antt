@@ -24,10 +24,10 @@ use Rattle.assembly_format.specs.declared.elements.Format.TheVariants as format
 use Rattle.mlir_printer.specs.Strings.{is_bare}
 use Rattle.mlir_printer.specs.Attributes.{dictionary_bytes}
 use Rattle.mlir_printer.specs.Elements.{Pending, ValueText, value_name_bytes, elements_bytes}
-use Rattle.mlir_printer.specs.Operations.{OperationText, results_bytes, bin_bytes, is_truth_view, output_format, format_shown, after_blank, left_behind_all, form_bytes, shaped_bytes, operation_bytes, operation_line, operation_lines}
+use Rattle.mlir_printer.specs.Operations.{OperationText, results_bytes, bin_bytes, is_truth_view, output_format, format_shown, after_blank, left_after_all, form_bytes, shaped_bytes, operation_bytes, operation_line, operation_lines}
 use Rattle.mlir_printer.specs.Spellable.{IsDictionary, said_pending, said_operation}
 use Rattle.mlir_printer.specs.SpellableModules.{AreResults, gathered_front, IsViewAs, IsSpellableOperation, AreSpellable}
-use Rattle.mlir_printer.proofs.lexed.LexedTexts.{Stops, Whole, Lexed, lexed, lexed_as, whole_as, then, then_on, then_whole, closed, nothing, blank, blank_on, line_behind, behind_nothing, with_nothing, colon_mark}
+use Rattle.mlir_printer.proofs.lexed.LexedTexts.{Stops, Whole, Lexed, lexed, lexed_as, whole_as, then, then_on, then_whole, closed, nothing, blank, blank_on, line_after, after_nothing, with_nothing, colon_mark}
 use Rattle.mlir_printer.proofs.lexed.LexedNames.{bare_lexed, value_name_lexed}
 use Rattle.mlir_printer.proofs.lexed.LexedNumbers.{count_lexed}
 use Rattle.mlir_printer.proofs.lexed.LexedCommas.{blank_equals, commas_lexed, each_of}
@@ -141,29 +141,29 @@ front_stops [] p rest stops = stops
 front_stops (x ∷ xs) p rest stops = refl
 
 -- what stands after the pieces before the types
-behind_stops : (s : Format) (p : Pending) (es : List Entry) → IsViewAs s p
-    → Stops (dictionary_bytes (codes " ") es ++ elements_bytes (type_elements s) (left_behind_all (front_elements s) p))
-behind_stops s p es h =
-    dictionary_stops (codes " ") (λ rest. refl) es (elements_bytes (type_elements s) (left_behind_all (front_elements s) p))
-    (elements_stop (type_elements s) (left_behind_all (front_elements s) p) (gathered_front s p) h.types (format_parts s).2)
+after_stops : (s : Format) (p : Pending) (es : List Entry) → IsViewAs s p
+    → Stops (dictionary_bytes (codes " ") es ++ elements_bytes (type_elements s) (left_after_all (front_elements s) p))
+after_stops s p es h =
+    dictionary_stops (codes " ") (λ rest. refl) es (elements_bytes (type_elements s) (left_after_all (front_elements s) p))
+    (elements_stop (type_elements s) (left_after_all (front_elements s) p) (gathered_front s p) h.types (format_parts s).2)
 
 form_stops : (s : Format) (p : Pending) (es : List Entry) → IsViewAs s p → Stops (form_bytes (front_elements s) (type_elements s) p es)
 unfolding form_bytes
-form_stops s p es h = front_stops (front_elements s) p _ (behind_stops s p es h)
+form_stops s p es h = front_stops (front_elements s) p _ (after_stops s p es h)
 
 -- a form is read as itself
 form_lexed : (strings : List Name) (s : Format) (p : Pending) (es : List Entry) → IsViewAs s p → IsDictionary strings es
     → Lexed (FormPhrase strings s (said_pending p) es) (form_bytes (front_elements s) (type_elements s) p es)
 unfolding form_bytes
 form_lexed strings s p es h d =
-    let types = elements_lexed (type_elements s) (left_behind_all (front_elements s) p) (gathered_front s p) h.types (format_parts s).1 in
+    let types = elements_lexed (type_elements s) (left_after_all (front_elements s) p) (gathered_front s p) h.types (format_parts s).1 in
     let inherent_view = subst (λ x. Lexed (ElementsPhrase (type_elements s) (gathered_front s p) x)
-    (elements_bytes (type_elements s) (left_behind_all (front_elements s) p))) h.all types in
-    let behind = then (given_lexed strings es d) (lexed_as with_nothing inherent_view)
-    (elements_stop (type_elements s) (left_behind_all (front_elements s) p) (gathered_front s p) h.types (format_parts s).2) in
+    (elements_bytes (type_elements s) (left_after_all (front_elements s) p))) h.all types in
+    let following = then (given_lexed strings es d) (lexed_as with_nothing inherent_view)
+    (elements_stop (type_elements s) (left_after_all (front_elements s) p) (gathered_front s p) h.types (format_parts s).2) in
     let front = front_lexed (front_elements s) p gathered_nothing (gathered_front s p)
     (elements_lexed (front_elements s) p gathered_nothing h.front (format_parts s).0) in
-    lexed_as (λ ts w. (gathered_front s p, given es, None, given_once es, w)) (then front behind (behind_stops s p es h))
+    lexed_as (λ ts w. (gathered_front s p, given es, None, given_once es, w)) (then front following (after_stops s p es h))
 
 -- ---- operations
 
@@ -191,7 +191,7 @@ operation_lexed o h =
 line_whole : (o : OperationText) → IsSpellableOperation o → Whole (OperationPhrase Anywhere (said_operation o)) (operation_line o)
 unfolding operation_line
 line_whole o h =
-    whole_as behind_nothing (then_whole (blank (codes "    ") (inl refl, (inl refl, (inl refl, (inl refl, tt))))) (line_behind (operation_lexed o h)))
+    whole_as after_nothing (then_whole (blank (codes "    ") (inl refl, (inl refl, (inl refl, (inl refl, tt))))) (line_after (operation_lexed o h)))
 
 -- the operations of a body are read as themselves
 pub operations_whole : (os : List OperationText) → AreSpellable os → Whole (OperationsPhrase Anywhere (map said_operation os)) (operation_lines os)

@@ -10,7 +10,7 @@ use Rattle.diag.specs.declared.refusal.Refusal.{Refusal}
 use Rattle.mlir_lexer.specs.Classes.{is_space, is_suffix_byte}
 use Rattle.mlir_lexer.specs.Runs.{run}
 use Rattle.mlir_lexer.specs.Fronts.{front_of, sign_front, mark_of}
-use Rattle.mlir_lexer.specs.Tokens.{Lexeme, lex_front, tokens_behind}
+use Rattle.mlir_lexer.specs.Tokens.{Lexeme, lex_front, tokens_after}
 use Rattle.mlir_lexer.specs.declared.token.TokenKind.{TokenKind}
 use Rattle.mlir_lexer.specs.declared.token.TokenKind.TheVariants as kind
 use Rattle.mlir_lexer.specs.declared.fronts.Front.TheVariants.{LineEnd, Gap, Token}
@@ -34,8 +34,8 @@ stops_joined (x ∷ xs) b h g = h
 pub record IsLexed (P : Phrase) (bytes rest : List ℕ) (place : Place) (at : ℕ) : Type 0 where
   pub passed : List Lexeme
   pub end : Place
-  pub behind : ℕ
-  pub same : tokens_behind 0 place at (bytes ++ rest) ≡ map token_of passed ++ tokens_behind 0 end behind rest
+  pub following : ℕ
+  pub same : tokens_after 0 place at (bytes ++ rest) ≡ map token_of passed ++ tokens_after 0 end following rest
   pub says : P passed
 
 -- bytes say something, whatever stands after them
@@ -53,7 +53,7 @@ lexed h = record { lex = λ rest place at _. h.lex rest place at }
 
 is_lexed_as : {P Q : Phrase} {bytes rest : List ℕ} {place : Place} {at : ℕ} → ((ts : List Lexeme) → P ts → Q ts) → IsLexed P bytes rest place at
     → IsLexed Q bytes rest place at
-is_lexed_as to h = record { passed = h.passed; end = h.end; behind = h.behind; same = h.same; says = to h.passed h.says }
+is_lexed_as to h = record { passed = h.passed; end = h.end; following = h.following; same = h.same; says = to h.passed h.says }
 
 pub lexed_as : {P Q : Phrase} {bytes : List ℕ} → ((ts : List Lexeme) → P ts → Q ts) → Lexed P bytes → Lexed Q bytes
 lexed_as to h = record { lex = λ rest place at stops. is_lexed_as to (h.lex rest place at stops) }
@@ -70,15 +70,15 @@ whole_by {P} e h = subst (Whole P) e h
 map_joined : (a b : List Lexeme) (v : List (Result Lexeme Refusal)) → map token_of (a ++ b) ++ v ≡ map token_of a ++ (map token_of b ++ v)
 map_joined a b v = ap (λ x. x ++ v) (map-append token_of a b) ∙ append_assoc (map token_of a) (map token_of b) v
 
-pub joined : {P Q : Phrase} {a b rest : List ℕ} {place : Place} {at : ℕ} (h : IsLexed P a (b ++ rest) place at) → IsLexed Q b rest h.end h.behind
+pub joined : {P Q : Phrase} {a b rest : List ℕ} {place : Place} {at : ℕ} (h : IsLexed P a (b ++ rest) place at) → IsLexed Q b rest h.end h.following
     → IsLexed (Then P Q) (a ++ b) rest place at
 joined {a = a} {b} {rest} {place} {at} h g = record {
   passed = h.passed ++ g.passed;
   end = g.end;
-  behind = g.behind;
+  following = g.following;
   same =
-      ap (λ x. tokens_behind 0 place at x) (append_assoc a b rest) ∙ h.same ∙ ap (λ x. map token_of h.passed ++ x) g.same
-      ∙ sym (map_joined h.passed g.passed (tokens_behind 0 g.end g.behind rest));
+      ap (λ x. tokens_after 0 place at x) (append_assoc a b rest) ∙ h.same ∙ ap (λ x. map token_of h.passed ++ x) g.same
+      ∙ sym (map_joined h.passed g.passed (tokens_after 0 g.end g.following rest));
   says = (h.passed, g.passed, refl, h.says, g.says);
 }
 
@@ -86,35 +86,35 @@ joined {a = a} {b} {rest} {place} {at} h g = record {
 pub then : {P Q : Phrase} {a b : List ℕ} → Lexed P a → Lexed Q b → Stops b → Lexed (Then P Q) (a ++ b)
 then {a = a} {b} h g first = record {
   lex = λ rest place at stops.
-      let one = h.lex (b ++ rest) place at (stops_joined b rest first stops) in joined one (g.lex rest one.end one.behind stops);
+      let one = h.lex (b ++ rest) place at (stops_joined b rest first stops) in joined one (g.lex rest one.end one.following stops);
 }
 
 pub then_on : {P Q : Phrase} {a b : List ℕ} → Whole P a → Lexed Q b → Lexed (Then P Q) (a ++ b)
 then_on {a = a} {b} h g = record {
-  lex = λ rest place at stops. let one = h.lex (b ++ rest) place at in joined one (g.lex rest one.end one.behind stops);
+  lex = λ rest place at stops. let one = h.lex (b ++ rest) place at in joined one (g.lex rest one.end one.following stops);
 }
 
 pub then_whole : {P Q : Phrase} {a b : List ℕ} → Whole P a → Whole Q b → Whole (Then P Q) (a ++ b)
 then_whole {a = a} {b} h g = record {
-  lex = λ rest place at. let one = h.lex (b ++ rest) place at in joined one (g.lex rest one.end one.behind);
+  lex = λ rest place at. let one = h.lex (b ++ rest) place at in joined one (g.lex rest one.end one.following);
 }
 
 -- bytes that end a token of their own
 pub closed : {P Q : Phrase} {a : List ℕ} (b : ℕ) (bs : List ℕ) → Lexed P a → Whole Q (b ∷ bs) → is_suffix_byte b ≡ false
     → Whole (Then P Q) (a ++ (b ∷ bs))
 closed b bs h g first = record {
-  lex = λ rest place at. let one = h.lex ((b ∷ bs) ++ rest) place at first in joined one (g.lex rest one.end one.behind);
+  lex = λ rest place at. let one = h.lex ((b ∷ bs) ++ rest) place at first in joined one (g.lex rest one.end one.following);
 }
 
 -- nothing is no bytes
 pub nothing : Whole Nothing []
-nothing = record { lex = λ rest place at. record { passed = []; end = place; behind = at; same = refl; says = refl } }
+nothing = record { lex = λ rest place at. record { passed = []; end = place; following = at; same = refl; says = refl } }
 
 pub past_nothing : {P : Phrase} (ts : List Lexeme) → Then P Nothing ts → P ts
 past_nothing {P} ts h = subst P (sym (h.2 ∙ ap (λ x. h.0 ++ x) h.4 ∙ append-nil h.0)) h.3
 
-pub behind_nothing : {P : Phrase} (ts : List Lexeme) → Then Nothing P ts → P ts
-behind_nothing {P} ts h = subst P (sym (h.2 ∙ ap (λ x. x ++ h.1) h.3)) h.4
+pub after_nothing : {P : Phrase} (ts : List Lexeme) → Then Nothing P ts → P ts
+after_nothing {P} ts h = subst P (sym (h.2 ∙ ap (λ x. x ++ h.1) h.3)) h.4
 
 pub with_nothing : {P : Phrase} (ts : List Lexeme) → P ts → Then P Nothing ts
 with_nothing ts h = (ts, [], sym (append-nil ts), h, refl)
@@ -126,8 +126,8 @@ on_nothing ts h = ([], ts, refl, refl, h)
 
 -- the bytes of a token are passed
 passed_by : (bs rest : List ℕ) (place : Place) (at : ℕ)
-    → (end : Place) × (behind : ℕ) × (tokens_behind (length bs) place at (bs ++ rest) ≡ tokens_behind 0 end behind rest)
-unfolding tokens_behind
+    → (end : Place) × (following : ℕ) × (tokens_after (length bs) place at (bs ++ rest) ≡ tokens_after 0 end following rest)
+unfolding tokens_after
 passed_by [] rest place at = (place, at, refl)
 passed_by (b ∷ bs) rest place at = passed_by bs rest (next_place place b) (at + 1)
 
@@ -135,10 +135,10 @@ passed_by (b ∷ bs) rest place at = passed_by bs rest (next_place place b) (at 
 pub one_token : {T : Lexeme → Type 0} {k : TokenKind} {n : ℕ} (b : ℕ) (bs rest : List ℕ) (place : Place) (at : ℕ)
     → front_of b (bs ++ rest) ≡ Token k n
     → n ≡ length bs + 1 → ((t : Lexeme) → t.kind ≡ k → t.text ≡ b ∷ bs → T t) → IsLexed (One T) (b ∷ bs) rest place at
-unfolding tokens_behind
+unfolding tokens_after
 one_token {k = k} {n} b bs rest place at front count is =
-    let (end, behind, e) = passed_by bs rest (next_place place b) (at + 1) in
-    let later = λ (more : ℕ). tokens_behind more (next_place place b) (at + 1) (bs ++ rest) in
+    let (end, following, e) = passed_by bs rest (next_place place b) (at + 1) in
+    let later = λ (more : ℕ). tokens_after more (next_place place b) (at + 1) (bs ++ rest) in
     let t : Lexeme = record { kind = k; place = place; at = at; text = take n (b ∷ (bs ++ rest)) } in
     let text : take n (b ∷ (bs ++ rest)) ≡ b ∷ bs = ap (λ m. take m (b ∷ (bs ++ rest))) (count ∙ add-one (length bs))
     ∙ take-append_seam (b ∷ bs) rest in
@@ -146,7 +146,7 @@ one_token {k = k} {n} b bs rest place at front count is =
     record {
       passed = t ∷ [];
       end = end;
-      behind = behind;
+      following = following;
       same = ap (λ f. lex_front f place at (b ∷ (bs ++ rest)) later) front ∙ ap (λ m. Ok t ∷ later m) left ∙ ap (λ x. Ok t ∷ x) e;
       says = (t, refl, is t refl text);
     }
@@ -154,17 +154,17 @@ one_token {k = k} {n} b bs rest place at front count is =
 -- ---- blanks and line ends
 
 -- further blanks are passed one by one as well
-blanks_passed : (bs : List ℕ) (place : Place) (at : ℕ) → tokens_behind (run is_space bs) place at bs ≡ tokens_behind 0 place at bs
-unfolding tokens_behind front_of
+blanks_passed : (bs : List ℕ) (place : Place) (at : ℕ) → tokens_after (run is_space bs) place at bs ≡ tokens_after 0 place at bs
+unfolding tokens_after front_of
 blanks_passed [] place at = refl
 blanks_passed (b ∷ bs) place at = go (is_space b) refl (b == 10) refl
   where
     later : ℕ → List (Result Lexeme Refusal)
-    later more = tokens_behind more (next_place place b) (at + 1) bs
+    later more = tokens_after more (next_place place b) (at + 1) bs
 
     go : (s : Bool) → is_space b ≡ s → (e : Bool) → (b == 10) ≡ e
-        → tokens_behind (cond s (run is_space bs + 1) 0) place at (b ∷ bs)
-        ≡ lex_front (front_of b bs) place at (b ∷ bs) (λ more. tokens_behind more (next_place place b) (at + 1) bs)
+        → tokens_after (cond s (run is_space bs + 1) 0) place at (b ∷ bs)
+        ≡ lex_front (front_of b bs) place at (b ∷ bs) (λ more. tokens_after more (next_place place b) (at + 1) bs)
     go false h e g = refl
     go true h true g = let same : b ≡ 10 = eqb-true b 10 g in absurd (cc (ap is_space same))
     go true h false g =
@@ -172,16 +172,16 @@ blanks_passed (b ∷ bs) place at = go (is_space b) refl (b == 10) refl
         cond-false (b == 10) LineEnd _ g ∙ cond-true (is_space b) (Gap (run is_space bs + 1)) _ h in
         let count : run is_space bs + 1 ≡ suc (run is_space bs) = add-one (run is_space bs) in
         let less : run is_space bs + 1 - 1 ≡ run is_space bs = omega arith in
-        ap (λ n. tokens_behind n place at (b ∷ bs)) count ∙ ap later (sym less) ∙ ap (λ f. lex_front f place at (b ∷ bs) later) (sym front)
+        ap (λ n. tokens_after n place at (b ∷ bs)) count ∙ ap later (sym less) ∙ ap (λ f. lex_front f place at (b ∷ bs) later) (sym front)
 
-blank_passed : (rest : List ℕ) (place : Place) (at : ℕ) → tokens_behind 0 place at (32 ∷ rest) ≡ tokens_behind 0 (next_place place 32) (at + 1) rest
-unfolding tokens_behind front_of
+blank_passed : (rest : List ℕ) (place : Place) (at : ℕ) → tokens_after 0 place at (32 ∷ rest) ≡ tokens_after 0 (next_place place 32) (at + 1) rest
+unfolding tokens_after front_of
 blank_passed rest place at =
     let less : run is_space rest + 1 - 1 ≡ run is_space rest = omega arith in
-    ap (λ n. tokens_behind n (next_place place 32) (at + 1) rest) less ∙ blanks_passed rest (next_place place 32) (at + 1)
+    ap (λ n. tokens_after n (next_place place 32) (at + 1) rest) less ∙ blanks_passed rest (next_place place 32) (at + 1)
 
-line_passed : (rest : List ℕ) (place : Place) (at : ℕ) → tokens_behind 0 place at (10 ∷ rest) ≡ tokens_behind 0 (next_place place 10) (at + 1) rest
-unfolding tokens_behind front_of
+line_passed : (rest : List ℕ) (place : Place) (at : ℕ) → tokens_after 0 place at (10 ∷ rest) ≡ tokens_after 0 (next_place place 10) (at + 1) rest
+unfolding tokens_after front_of
 line_passed rest place at = refl
 
 -- blanks and ends of lines
@@ -190,7 +190,7 @@ AreBlank [] = ⊤
 AreBlank (b ∷ bs) = ((b ≡ 32) ⊎ (b ≡ 10)) × AreBlank bs
 
 gap_passed : {b : ℕ} → (b ≡ 32) ⊎ (b ≡ 10) → (rest : List ℕ) (place : Place) (at : ℕ)
-    → tokens_behind 0 place at (b ∷ rest) ≡ tokens_behind 0 (next_place place b) (at + 1) rest
+    → tokens_after 0 place at (b ∷ rest) ≡ tokens_after 0 (next_place place b) (at + 1) rest
 gap_passed (inl e) rest place at = rw e (blank_passed rest place at)
 gap_passed (inr e) rest place at = rw e (line_passed rest place at)
 
@@ -198,7 +198,7 @@ is_blank : (bs rest : List ℕ) (place : Place) (at : ℕ) → AreBlank bs → I
 is_blank [] rest place at h = nothing.lex rest place at
 is_blank (b ∷ bs) rest place at h =
     let more = is_blank bs rest (next_place place b) (at + 1) h.1 in
-    record { passed = more.passed; end = more.end; behind = more.behind; same = gap_passed h.0 (bs ++ rest) place at ∙ more.same; says = more.says }
+    record { passed = more.passed; end = more.end; following = more.following; same = gap_passed h.0 (bs ++ rest) place at ∙ more.same; says = more.says }
 
 -- blanks say nothing
 pub blank : (bs : List ℕ) → AreBlank bs → Whole Nothing bs
@@ -209,20 +209,20 @@ one_blank = blank (32 ∷ []) (inl refl, tt)
 
 -- after a blank
 pub blank_on : {P : Phrase} {bs : List ℕ} → Lexed P bs → Lexed P (32 ∷ bs)
-blank_on h = lexed_as behind_nothing (then_on one_blank h)
+blank_on h = lexed_as after_nothing (then_on one_blank h)
 
 pub blank_on_whole : {P : Phrase} {bs : List ℕ} → Whole P bs → Whole P (32 ∷ bs)
-blank_on_whole h = whole_as behind_nothing (then_whole one_blank h)
+blank_on_whole h = whole_as after_nothing (then_whole one_blank h)
 
 pub line_on : {P : Phrase} {bs : List ℕ} → Lexed P bs → Lexed P (10 ∷ bs)
-line_on h = lexed_as behind_nothing (then_on (blank (10 ∷ []) (inr refl, tt)) h)
+line_on h = lexed_as after_nothing (then_on (blank (10 ∷ []) (inr refl, tt)) h)
 
 -- before a blank
-pub blank_behind : {P : Phrase} {bs : List ℕ} → Lexed P bs → Whole P (bs ++ (32 ∷ []))
-blank_behind h = whole_as past_nothing (closed 32 [] h one_blank refl)
+pub blank_after : {P : Phrase} {bs : List ℕ} → Lexed P bs → Whole P (bs ++ (32 ∷ []))
+blank_after h = whole_as past_nothing (closed 32 [] h one_blank refl)
 
-pub line_behind : {P : Phrase} {bs : List ℕ} → Lexed P bs → Whole P (bs ++ (10 ∷ []))
-line_behind h = whole_as past_nothing (closed 10 [] h (blank (10 ∷ []) (inr refl, tt)) refl)
+pub line_after : {P : Phrase} {bs : List ℕ} → Lexed P bs → Whole P (bs ++ (10 ∷ []))
+line_after h = whole_as past_nothing (closed 10 [] h (blank (10 ∷ []) (inr refl, tt)) refl)
 
 -- ---- marks
 

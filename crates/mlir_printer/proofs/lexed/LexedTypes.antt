@@ -44,7 +44,7 @@ elements_lexed Inner n t small element = record {
   lex = λ rest place at stops.
       let ends : EndsNumber ((codes "x" ++ type_bytes t) ++ rest) = record { digits = refl; base = no_hex t rest } in
       let one = number_token count_limit n small _ (numeral n (omega (arith, small))) ((codes "x" ++ type_bytes t) ++ rest) ends place at in
-      joined one (element.lex rest one.end one.behind stops);
+      joined one (element.lex rest one.end one.following stops);
 }
 
 array_lexed : (Inner : HwType → Phrase) (n : ℕ) (t : HwType) → n < count_limit → Lexed (ElementPhrase Inner t) (codes "x" ++ type_bytes t)

@@ -231,11 +231,11 @@ wanted_length n (Some w ∷ ws) = ap suc (wanted_length n ws)
 
 -- ---- parts of the names
 
-pub suit_behind : (vs ws : List (Option Name)) (ns : List Name) → Suits (vs ++ ws) ns → Suits ws (drop (length vs) ns)
-suit_behind [] ws ns h = h
-suit_behind (v ∷ vs) ws [] h = absurd h
-suit_behind (None ∷ vs) ws (n ∷ ns) h = suit_behind vs ws ns h.1
-suit_behind (Some v ∷ vs) ws (n ∷ ns) h = suit_behind vs ws ns h.1
+pub suit_after : (vs ws : List (Option Name)) (ns : List Name) → Suits (vs ++ ws) ns → Suits ws (drop (length vs) ns)
+suit_after [] ws ns h = h
+suit_after (v ∷ vs) ws [] h = absurd h
+suit_after (None ∷ vs) ws (n ∷ ns) h = suit_after vs ws ns h.1
+suit_after (Some v ∷ vs) ws (n ∷ ns) h = suit_after vs ws ns h.1
 
 pub suit_first : (vs ws : List (Option Name)) (ns : List Name) → Suits (vs ++ ws) ns → Suits vs ns
 suit_first [] ws ns h = tt

@@ -23,11 +23,11 @@ first_at (suc n) [] x e = cc
 first_at zero (y ∷ ys) x e = some_is x y e
 first_at (suc n) (y ∷ ys) x e = first_at n ys x e
 
-pub none_behind : (n : ℕ) (xs : List Name) → length xs ≤ n → [] ≡ first_name (drop n xs)
-none_behind zero [] le = refl
-none_behind (suc n) [] le = refl
-none_behind zero (x ∷ xs) le = absurd (omega (arith, le))
-none_behind (suc n) (x ∷ xs) le = none_behind n xs (omega (arith, le))
+pub none_after : (n : ℕ) (xs : List Name) → length xs ≤ n → [] ≡ first_name (drop n xs)
+none_after zero [] le = refl
+none_after (suc n) [] le = refl
+none_after zero (x ∷ xs) le = absurd (omega (arith, le))
+none_after (suc n) (x ∷ xs) le = none_after n xs (omega (arith, le))
 
 pub drop_one : {A : Type 0} (n : ℕ) (xs : List A) → drop 1 (drop n xs) ≡ drop (n + 1) xs
 drop_one zero [] = refl

@@ -3,16 +3,16 @@ use Rattle.std.proofs.Common.{◌≡◌, ℕ, zero, suc, ◌+◌, List, [], ◌�
 use Rattle.ir_store.specs.BodyOps.{BodyOp}
 use Rattle.ir_store.specs.Designs.{StoredModule, with_ops}
 
-behind : (n : ℕ) (ops : List BodyOp) (ms : List StoredModule) → drop (suc n) (with_ops n ops ms) ≡ drop (suc n) ms
-behind zero ops [] = refl
-behind zero ops (m ∷ ms) = refl
-behind (suc n) ops [] = refl
-behind (suc n) ops (m ∷ ms) = behind n ops ms
+following : (n : ℕ) (ops : List BodyOp) (ms : List StoredModule) → drop (suc n) (with_ops n ops ms) ≡ drop (suc n) ms
+following zero ops [] = refl
+following zero ops (m ∷ ms) = refl
+following (suc n) ops [] = refl
+following (suc n) ops (m ∷ ms) = following n ops ms
 
-pub same_behind : (n : ℕ) (ops : List BodyOp) (ms : List StoredModule) → drop (n + 1) (with_ops n ops ms) ≡ drop (n + 1) ms
-same_behind n ops ms =
+pub same_after : (n : ℕ) (ops : List BodyOp) (ms : List StoredModule) → drop (n + 1) (with_ops n ops ms) ≡ drop (n + 1) ms
+same_after n ops ms =
     let e : n + 1 ≡ suc n = omega arith in
-    ap (λ k. drop k (with_ops n ops ms)) e ∙ behind n ops ms ∙ sym (ap (λ k. drop k ms) e)
+    ap (λ k. drop k (with_ops n ops ms)) e ∙ following n ops ms ∙ sym (ap (λ k. drop k ms) e)
 
 pub same_count : (n : ℕ) (ops : List BodyOp) (ms : List StoredModule) → length (with_ops n ops ms) ≡ length ms
 same_count zero ops [] = refl

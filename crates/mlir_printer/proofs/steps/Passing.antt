@@ -5,7 +5,7 @@ use Rattle.hw_model.specs.Types.{Name, HwType}
 use Rattle.hw_model.specs.TypeViews.{type_of}
 use Rattle.assembly_format.specs.declared.elements.FormatElement.{FormatElement}
 use Rattle.mlir_printer.specs.Commas.{comma_bytes, items_from}
-use Rattle.mlir_printer.specs.Elements.{ValueText, input_bytes, output_bytes, inputs_joined, outputs_joined, operands_taken, types_taken, left_behind}
+use Rattle.mlir_printer.specs.Elements.{ValueText, input_bytes, output_bytes, inputs_joined, outputs_joined, operands_taken, types_taken, left_after}
 use Rattle.mlir_printer.specs.Views.{value_held, pending_of, inherent_of}
 use Rattle.mlir_printer.specs.declared.value_names.ValueNames.{ValueNames}
 use Rattle.mlir_printer.specs.declared.inherent_view.Pending.{Pending}
@@ -45,9 +45,9 @@ outputs_step h ps ts i p t out one two whole lp lt ap' at inv e1 e2 =
     (sym (ap (λ l. out ++ items_from output_bytes i l) d) ∙ inv) e1 e2
 
 -- what is left after a piece, as it is seen
-pub pending_behind : (v : ValueNames) (p : FormatElement) (l m : Pending) → m.operands.now ≡ drop (operands_taken p) l.operands.now
-    → m.types.now ≡ drop (types_taken p) l.types.now → m.inherent_view ≡ l.inherent_view → pending_of v m ≡ left_behind p (pending_of v l)
-pending_behind v p l m e f g =
+pub pending_after : (v : ValueNames) (p : FormatElement) (l m : Pending) → m.operands.now ≡ drop (operands_taken p) l.operands.now
+    → m.types.now ≡ drop (types_taken p) l.types.now → m.inherent_view ≡ l.inherent_view → pending_of v m ≡ left_after p (pending_of v l)
+pending_after v p l m e f g =
     let os : map (value_held v) m.operands.now ≡ drop (operands_taken p) (map (value_held v) l.operands.now) =
     ap (map (value_held v)) e ∙ map_drop (value_held v) (operands_taken p) l.operands.now in
     let ts : map type_of m.types.now ≡ drop (types_taken p) (map type_of l.types.now) = ap (map type_of) f ∙ map_drop type_of (types_taken p) l.types.now in

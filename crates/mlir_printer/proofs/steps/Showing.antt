@@ -95,9 +95,9 @@ pub module_added : (means : Value → ValueText) (ns : List Name) (m : StoredMod
 module_added means ns m first out one two end small given same capped p q r =
     let position : ℕ → ℕ = position_of (ids_in m.ops) in
     let parts : map parts_in (ops_by_position m.ops) ≡ parts_in_body m.ops = parts_by position m.ops in
-    let behind : drop first ns ≡ drop (input_count m.ports) ns = ap (λ k. drop k ns) capped ∙ capped_drop (input_count m.ports) ns small in
+    let following : drop first ns ≡ drop (input_count m.ports) ns = ap (λ k. drop k ns) capped ∙ capped_drop (input_count m.ports) ns small in
     let lines : stored_shown means (drop first ns) m.ops ≡ operations_shown (value_named ns m.ports (map parts_in (ops_by_position m.ops))) (drop (input_count m.ports) ns) (ops_by_position m.ops) =
-    ap (λ l. stored_shown means l m.ops) behind
+    ap (λ l. stored_shown means l m.ops) following
     ∙ shown_by means (value_named ns m.ports (parts_in_body m.ops)) position same (drop (input_count m.ports) ns) m.ops
     ∙ ap (λ ps. operations_shown (value_named ns m.ports ps) (drop (input_count m.ports) ns) (ops_by_position m.ops)) (sym parts) in
     whole_module (module_named ns (numbered_module m)) out one two end (p ∙ ap (λ h. out ++ h) (headers ns m)) (q ∙ ap (λ l. one ++ operation_lines l) lines) r

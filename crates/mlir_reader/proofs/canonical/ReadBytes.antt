@@ -15,7 +15,7 @@ use Rattle.hw_model.specs.Design.Attribute.{unit_value, text_value, symbol_value
 use Rattle.mlir_lexer.specs.Classes.{is_digit, is_hex_digit}
 use Rattle.mlir_lexer.specs.Contents.{hex_value, unescape_byte, decode, content_of}
 use Rattle.mlir_lexer.specs.Fronts.{front_of}
-use Rattle.mlir_lexer.specs.Tokens.{Lexeme, lex_front, tokens_behind, tokens}
+use Rattle.mlir_lexer.specs.Tokens.{Lexeme, lex_front, tokens_after, tokens}
 use Rattle.mlir_lexer.specs.declared.contents.Pending.{Pending}
 use Rattle.mlir_lexer.specs.declared.contents.Pending.TheVariants.{Nothing, Backslash, HighDigit}
 use Rattle.mlir_lexer.specs.declared.fronts.Front.{Front}
@@ -58,11 +58,11 @@ told_bytes (Gap n) place at bytes later h l = l (n - 1)
 told_bytes (Token k n) place at bytes later h l = (take_bytes n bytes h, l (n - 1))
 told_bytes (Bad n) place at bytes later h l = (tt, tt)
 
-tokens_bytes : (skipped : ℕ) (place : Place) (at : ℕ) (bytes : List ℕ) → AreBytes bytes → Each HasBytes (tokens_behind skipped place at bytes)
-unfolding tokens_behind
+tokens_bytes : (skipped : ℕ) (place : Place) (at : ℕ) (bytes : List ℕ) → AreBytes bytes → Each HasBytes (tokens_after skipped place at bytes)
+unfolding tokens_after
 tokens_bytes skipped place at [] h = tt
 tokens_bytes zero place at (b ∷ bs) h =
-    told_bytes (front_of b bs) place at (b ∷ bs) (λ more. tokens_behind more (next_place place b) (at + 1) bs) h
+    told_bytes (front_of b bs) place at (b ∷ bs) (λ more. tokens_after more (next_place place b) (at + 1) bs) h
     (λ n. tokens_bytes n (next_place place b) (at + 1) bs h.1)
 tokens_bytes (suc skipped) place at (b ∷ bs) h = tokens_bytes skipped (next_place place b) (at + 1) bs h.1
 
@@ -73,11 +73,11 @@ told_few (Gap k) place at bytes later n l = let e = l (k - 1) in omega (arith, e
 told_few (Token t k) place at bytes later n l = let e = l (k - 1) in omega (arith, e)
 told_few (Bad k) place at bytes later n l = omega arith
 
-tokens_few : (skipped : ℕ) (place : Place) (at : ℕ) (bytes : List ℕ) → length (tokens_behind skipped place at bytes) ≤ length bytes
-unfolding tokens_behind
+tokens_few : (skipped : ℕ) (place : Place) (at : ℕ) (bytes : List ℕ) → length (tokens_after skipped place at bytes) ≤ length bytes
+unfolding tokens_after
 tokens_few skipped place at [] = omega arith
 tokens_few zero place at (b ∷ bs) =
-    told_few (front_of b bs) place at (b ∷ bs) (λ more. tokens_behind more (next_place place b) (at + 1) bs) (length bs)
+    told_few (front_of b bs) place at (b ∷ bs) (λ more. tokens_after more (next_place place b) (at + 1) bs) (length bs)
     (λ n. tokens_few n (next_place place b) (at + 1) bs)
 tokens_few (suc skipped) place at (b ∷ bs) = let e = tokens_few skipped (next_place place b) (at + 1) bs in omega (arith, e)
 

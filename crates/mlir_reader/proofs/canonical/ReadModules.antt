@@ -103,18 +103,18 @@ port_name_read name v ts texts h (inr e) = subst AreBytes (sym e.0) h
 
 port_read : (p : PortText) (ts : List Lexeme) → AreTexts ts → PortPhrase p ts → IsReadPortText p
 port_read p ts texts (inl h) =
-    let behind = said_then (said ts texts h.2) in
-    let value = said_first behind in
-    let called = said_then behind in
+    let following = said_then (said ts texts h.2) in
+    let value = said_first following in
+    let called = said_then following in
     let name = said_first called in
     let type = said_then (said_then called) in (
       port_name_read p.name h.0 name.symbols name.texts (held_bytes kind.ValueName h.0 value.symbols value.texts value.is) name.is,
       type_read most_open p.type type.symbols type.texts type.is,
     )
 port_read p ts texts (inr h) =
-    let behind = said_then (said ts texts h.1) in
-    let name = said_first behind in
-    let type = said_then (said_then behind) in
+    let following = said_then (said ts texts h.1) in
+    let name = said_first following in
+    let type = said_then (said_then following) in
     (name_bytes_read p.name name.symbols name.texts name.is, type_read most_open p.type type.symbols type.texts type.is)
 
 older_input_read : (p : PortText) (ts : List Lexeme) → AreTexts ts → OlderInputPhrase p ts → IsReadPortText p
@@ -190,9 +190,9 @@ module_read : (At : Stands) (m : ModuleText) (ts : List Lexeme) → AreTexts ts 
 module_read At m ts texts small h =
     let named = said_then (said_then (said ts texts h)) in
     let symbol = said_first named in
-    let behind = said_then named in
-    let ports = said_first behind in
-    let rest = said_then behind in
+    let following = said_then named in
+    let ports = said_first following in
+    let rest = said_then following in
     let attributes = said_first rest in
     let body = said_first (said_then (said_then rest)) in
     let ports_within = ports.few in

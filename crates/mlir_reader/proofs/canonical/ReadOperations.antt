@@ -324,12 +324,12 @@ form_read strings format h es ts texts f =
     let elements = said_first all in
     let before = said_first (said_then all) in
     let types = said_first (said_then (said_then all)) in
-    let behind = said_then (said_then (said_then all)) in
+    let following = said_then (said_then (said_then all)) in
     let front = elements_read (front_elements format) gathered_nothing f.0 elements.symbols elements.texts (record { types = tt; inherent = tt }) elements.is in
     record {
       part = elements_read (type_elements format) f.0 h types.symbols types.texts front types.is;
       dictionary = one_read strings f.1 f.2 es f.3 (maybe_read strings f.1 before.symbols before.texts before.is)
-          (maybe_read strings f.2 behind.symbols behind.texts behind.is);
+          (maybe_read strings f.2 following.symbols following.texts following.is);
     }
 
 pub op_read : (At : Stands) (o : OperationText) (ts : List Lexeme) (means earlier : Meanings) (i : ℕ) → AreTexts ts → length ts < count_limit
@@ -337,9 +337,9 @@ pub op_read : (At : Stands) (o : OperationText) (ts : List Lexeme) (means earlie
 op_read At o ts means earlier i texts small h =
     let all = said ts texts h.1 in
     let given = said_first all in
-    let behind = said_then (said_then all) in
-    let binary = said_first behind in
-    let form = said_then behind in
+    let following = said_then (said_then all) in
+    let binary = said_first following in
+    let form = said_then following in
     let f = form.is in
     let given_few = given.few in
     let tail = form_read (string_keys o.name) f.0 o.gathered o.dictionary form.symbols form.texts f.2 in

@@ -3,7 +3,7 @@ use Rattle.std.proofs.Common.{◌+◌, ◌-◌, ap, ◌∙◌, arith}
 use Rattle.ir_store.specs.OperationViews.{types_in}
 use Rattle.mlir_syntax.specs.Reads.{on}
 use Rattle.mlir_operations.specs.ElementText.{further_types}
-use Rattle.mlir_operations.proofs.Joining.{behind, further_at, further_fails, further_ends}
+use Rattle.mlir_operations.proofs.Joining.{following, further_at, further_fails, further_ends}
 use Rattle.mlir_operations.proofs.type_elements.further_types.Goals as goal
 
 pub returns-in-Err-clause-gives : goal.returns-in-Err-clause-gives
@@ -18,7 +18,7 @@ loop-preserved c =
     let now = c.in-Ok.ensures.shorter in (
       at.invariant.0
           ∙ further_at c.args.op c.args.count at.counter (types_in at.types) at.reader c.loop-test.true
-          ∙ ap (λ r. on r (λ more left. behind more (further_types c.args.op (c.args.count - (at.counter + 1)) left))) c.in-Ok.ensures.gives,
+          ∙ ap (λ r. on r (λ more left. following more (further_types c.args.op (c.args.count - (at.counter + 1)) left))) c.in-Ok.ensures.gives,
       omega (arith, before, now),
     )
 

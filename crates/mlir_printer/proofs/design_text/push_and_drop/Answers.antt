@@ -3,7 +3,7 @@ use Rattle.std.proofs.lemmas.Option.{get_or_from_slice_get}
 use Rattle.ir_store.specs.Designs.{StoredModule, modules_of, module_of, numbered_module}
 use Rattle.mlir_printer.specs.Modules.{modules_bytes, module_bytes}
 use Rattle.mlir_printer.specs.Texts.{module_shown}
-use Rattle.mlir_printer.proofs.steps.Dropping.{same_behind, same_count}
+use Rattle.mlir_printer.proofs.steps.Dropping.{same_after, same_count}
 use Rattle.mlir_printer.proofs.steps.Steps.{parts_step, parts_end}
 use Rattle.mlir_printer.proofs.design_text.push_and_drop.Goals as goal
 
@@ -25,7 +25,7 @@ loop-number-preserved c =
     let all = modules_of c.args.design in
     record {
       text =
-          ap (λ l. out ++ modules_bytes (map module_shown (map numbered_module l))) (ap (drop (n + 1)) c.take_body-body.ensures.modules ∙ same_behind n [] ms)
+          ap (λ l. out ++ modules_bytes (map module_shown (map numbered_module l))) (ap (drop (n + 1)) c.take_body-body.ensures.modules ∙ same_after n [] ms)
           ∙ parts_step (λ (m : StoredModule). module_bytes (module_shown (numbered_module m))) (λ ms. modules_bytes (map module_shown (map numbered_module ms))) ms n m c.loop-number.out out
           (c.args.out.now ++ modules_bytes (map module_shown (map numbered_module all))) (λ y ys. refl)
           (omega (arith, c.loop-number-test.true, c.module_count-count.ensures, c.loop-number.invariant.count))

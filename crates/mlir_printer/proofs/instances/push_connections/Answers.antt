@@ -15,8 +15,8 @@ returns c =
     let ts = map type_of c.args.types.now in
     let ins = c.args.inputs.now in
     let outs = c.args.outputs.now in
-    let e : map type_of c.rest_of-behind.result.now ≡ drop (length ins) ts =
-    ap (map type_of) c.rest_of-behind.ensures ∙ map_drop type_of (length ins) c.args.types.now in
+    let e : map type_of c.rest_of-following.result.now ≡ drop (length ins) ts =
+    ap (map type_of) c.rest_of-following.ensures ∙ map_drop type_of (length ins) c.args.types.now in
     five c.args.out.now c.push_bytes.new.self c.push_inputs.new.out c.push_bytes-2.new.self c.push_outputs.new.out c.push_bytes-3.new.self
     (codes "(") (commas input_bytes (inputs_joined ins os ts)) (codes ") -> (") (commas output_bytes (outputs_joined outs (drop (length ins) ts))) (codes ")")
     c.in_ok-push_bytes.ensures.ok c.in_ok-push_inputs.ensures c.in_ok-push_bytes-2.ensures.ok

@@ -5,7 +5,7 @@ use Rattle.std.proofs.lemmas.Bool.{eq-eqb, ne_eqb}
 use Rattle.std.proofs.lemmas.List.{length-drop, take_all}
 use Rattle.pass_pipeline.specs.Symbols.{is_space, symbol_in}
 use Rattle.pass_pipeline.specs.Steps.{step_over}
-use Rattle.pass_pipeline.specs.Pipelines.{added, ended, after, passes_behind, passes, Reads}
+use Rattle.pass_pipeline.specs.Pipelines.{added, ended, after, passes_after, passes, Reads}
 use Rattle.pass_pipeline.specs.declared.pass.Pass.{Pass}
 use Rattle.pass_pipeline.specs.declared.step.Expected.{Expected}
 use Rattle.pass_pipeline.specs.declared.step.Expected.TheVariants.{Root}
@@ -15,7 +15,7 @@ use Rattle.pass_pipeline.specs.declared.pipeline.PipelineError.{PipelineError}
 
 -- what is got, expected and still to skip at an offset gives what the text gives
 abbrev pub IsReading : List Pass → List ℕ → List Pass → Expected → ℕ → ℕ → Type 0
-IsReading offered text got expected skipped at = passes_behind offered got expected skipped at (drop at text) ≡ passes_behind offered [] Root 0 0 text
+IsReading offered text got expected skipped at = passes_after offered got expected skipped at (drop at text) ≡ passes_after offered [] Root 0 0 text
 
 abbrev Answer : Type 0
 Answer = Result (List Pass) PipelineFail
@@ -30,26 +30,26 @@ symbol_at text at found is = let all : length (drop at text) ≡ length text - a
 
 -- what is read after the symbol at an offset
 abbrev later : List Pass → ℕ → ℕ → List ℕ → List Pass → Expected → Answer
-later offered skipped at bs got expected = passes_behind offered got expected skipped (at + 1) bs
+later offered skipped at bs got expected = passes_after offered got expected skipped (at + 1) bs
 
 skip : (offered got : List Pass) (expected : Expected) (skipped at b : ℕ) (bs : List ℕ) → 0 < skipped
-    → passes_behind offered got expected skipped at (b ∷ bs) ≡ passes_behind offered got expected (skipped - 1) (at + 1) bs
-unfolding passes_behind
+    → passes_after offered got expected skipped at (b ∷ bs) ≡ passes_after offered got expected (skipped - 1) (at + 1) bs
+unfolding passes_after
 skip offered got expected zero at b bs some = absurd (omega (arith, some))
 skip offered got expected (suc k) at b bs some = let e : suc k - 1 ≡ k = omega arith in rw e refl
 
 space : (offered got : List Pass) (expected : Expected) (at b : ℕ) (bs : List ℕ) → is_space b ≡ true
-    → passes_behind offered got expected 0 at (b ∷ bs) ≡ passes_behind offered got expected 0 (at + 1) bs
-unfolding passes_behind
+    → passes_after offered got expected 0 at (b ∷ bs) ≡ passes_after offered got expected 0 (at + 1) bs
+unfolding passes_after
 space offered got expected at b bs e = rw e refl
 
 symbol : (offered got : List Pass) (expected : Expected) (at b : ℕ) (bs : List ℕ) → is_space b ≡ false
-    → passes_behind offered got expected 0 at (b ∷ bs) ≡ after got (step_over offered expected at (symbol_in (b ∷ bs))) (later offered (length (symbol_in (b ∷ bs)) - 1) at bs)
-unfolding passes_behind
+    → passes_after offered got expected 0 at (b ∷ bs) ≡ after got (step_over offered expected at (symbol_in (b ∷ bs))) (later offered (length (symbol_in (b ∷ bs)) - 1) at bs)
+unfolding passes_after
 symbol offered got expected at b bs e = rw e refl
 
-end : (offered got : List Pass) (expected : Expected) (skipped at : ℕ) → passes_behind offered got expected skipped at [] ≡ ended got expected at
-unfolding passes_behind
+end : (offered got : List Pass) (expected : Expected) (skipped at : ℕ) → passes_after offered got expected skipped at [] ≡ ended got expected at
+unfolding passes_after
 end offered got expected skipped at = refl
 
 -- a byte of the last symbol
@@ -57,28 +57,28 @@ pub skips : (offered : List Pass) (text : List ℕ) (got : List Pass) (expected 
     → IsReading offered text got expected skipped at → IsReading offered text got expected (skipped - 1) (at + 1)
 skips offered text got expected skipped at within some reading =
     sym (skip offered got expected skipped at (get_or text at 0) (drop (at + 1) text) some)
-    ∙ (ap (passes_behind offered got expected skipped at) (sym (split text at within)) ∙ reading)
+    ∙ (ap (passes_after offered got expected skipped at) (sym (split text at within)) ∙ reading)
 
 -- nothing is to skip any more
 at_next : (offered : List Pass) (text : List ℕ) (got : List Pass) (expected : Expected) (skipped at : ℕ) → at < length text → skipped ≡ 0
     → IsReading offered text got expected skipped at
-    → passes_behind offered got expected 0 at (get_or text at 0 ∷ drop (at + 1) text) ≡ passes_behind offered [] Root 0 0 text
+    → passes_after offered got expected 0 at (get_or text at 0 ∷ drop (at + 1) text) ≡ passes_after offered [] Root 0 0 text
 at_next offered text got expected skipped at within none reading =
-    ap (passes_behind offered got expected 0 at) (sym (split text at within))
-    ∙ (ap (λ n. passes_behind offered got expected n at (drop at text)) (sym none) ∙ reading)
+    ap (passes_after offered got expected 0 at) (sym (split text at within))
+    ∙ (ap (λ n. passes_after offered got expected n at (drop at text)) (sym none) ∙ reading)
 
 -- a space
 pub passes_space : (offered : List Pass) (text : List ℕ) (got : List Pass) (expected : Expected) (skipped at : ℕ) → at < length text → skipped ≡ 0
     → get_or text at 0 ≡ 32 → IsReading offered text got expected skipped at → IsReading offered text got expected skipped (at + 1)
 passes_space offered text got expected skipped at within none is reading =
-    ap (λ n. passes_behind offered got expected n (at + 1) (drop (at + 1) text)) none
+    ap (λ n. passes_after offered got expected n (at + 1) (drop (at + 1) text)) none
     ∙ (sym (space offered got expected at (get_or text at 0) (drop (at + 1) text) (eq-eqb (get_or text at 0) 32 is)) ∙ at_next offered text got expected skipped at within none reading)
 
 -- the step over a symbol decides
 at_symbol : (offered : List Pass) (text : List ℕ) (got : List Pass) (expected : Expected) (skipped at : ℕ) (found : List ℕ) (stepped : Result Step PipelineFail)
     → at < length text → skipped ≡ 0 → (get_or text at 0 ≡ 32 → ⊥) → found ≡ symbol_in (drop at text)
     → stepped ≡ step_over offered expected at found → IsReading offered text got expected skipped at
-    → after got stepped (later offered (length found - 1) at (drop (at + 1) text)) ≡ passes_behind offered [] Root 0 0 text
+    → after got stepped (later offered (length found - 1) at (drop (at + 1) text)) ≡ passes_after offered [] Root 0 0 text
 at_symbol offered text got expected skipped at found stepped within none other is taken reading =
     let same : found ≡ symbol_in (get_or text at 0 ∷ drop (at + 1) text) = is ∙ ap symbol_in (split text at within) in
     ap (λ r. after got r (later offered (length found - 1) at (drop (at + 1) text))) taken
@@ -107,8 +107,8 @@ pub ends : (offered : List Pass) (text : List ℕ) (got : List Pass) (expected :
     → at ≡ length text → IsReading offered text got expected skipped at → Reads (ended got expected (length text)) answer → Reads (passes offered text) answer
 unfolding passes
 ends offered text got expected skipped at answer all reading given =
-    let same : ended got expected (length text) ≡ passes_behind offered [] Root 0 0 text =
+    let same : ended got expected (length text) ≡ passes_after offered [] Root 0 0 text =
     sym (end offered got expected skipped (length text))
-    ∙ (ap (passes_behind offered got expected skipped (length text)) (sym (drop-length text))
-    ∙ (ap (λ n. passes_behind offered got expected skipped n (drop n text)) (sym all) ∙ reading)) in
+    ∙ (ap (passes_after offered got expected skipped (length text)) (sym (drop-length text))
+    ∙ (ap (λ n. passes_after offered got expected skipped n (drop n text)) (sym all) ∙ reading)) in
     rw (sym same) given

@@ -46,18 +46,18 @@ pub record Maker (os : List Op) (rs : List Ref) (x : Ref) : Type 0 where
   pub named : In x op.operands
 
 -- x has the type of the result, and the word of the operation where its maker holds
-pub record StandsBehind (os : List Op) (kind : Kind) (ts : List HwType) (rs : List Ref) (x : Ref) (maker : Maker os rs x) (type_of : Ref → Option HwType) (t u : HwType) : Type 0 where
+pub record MakerOperandStands (os : List Op) (kind : Kind) (ts : List HwType) (rs : List Ref) (x : Ref) (maker : Maker os rs x) (type_of : Ref → Option HwType) (t u : HwType) : Type 0 where
   pub typed : type_of x ≡ Some t
   pub words : (τ : Ref → Word) → Held os type_of τ → τ (result maker.position 0) ≡ op_value maker.op.kind maker.op.types u 0 (map τ maker.op.operands)
       → op_value kind ts t 0 (map τ rs) ≡ τ x
 
-pub record IsBehind (stand : Stand) : Type 0 where
+pub record IsMakerOperand (stand : Stand) : Type 0 where
   pub made : (os : List Op) (kind : Kind) (ts : List HwType) (rs : List Ref) (x : Ref) → stand os kind ts rs ≡ Some x → is_made kind ≡ true
   pub maker : (os : List Op) (kind : Kind) (ts : List HwType) (rs : List Ref) (x : Ref) → stand os kind ts rs ≡ Some x → Maker os rs x
   pub stands : (os : List Op) (kind : Kind) (ts : List HwType) (rs : List Ref) (x : Ref) (type_of : Ref → Option HwType) (t u : HwType)
       → (is : stand os kind ts rs ≡ Some x) → Known os kind ts rs type_of t → type_of (result (maker os kind ts rs x is).position 0) ≡ Some u
       → Known os (maker os kind ts rs x is).op.kind (maker os kind ts rs x is).op.types (maker os kind ts rs x is).op.operands type_of u
-      → StandsBehind os kind ts rs x (maker os kind ts rs x is) type_of t u
+      → MakerOperandStands os kind ts rs x (maker os kind ts rs x is) type_of t u
 
 -- ---- an operation of a fit design
 
@@ -78,7 +78,7 @@ module _ (d : Design) (fit : IsFit d) (k : ℕ) (md : Module) (at : slice_get d 
       let second : h (result maker.position 0) < h (result i 0) = operand_lower md.body h local i 0 o t there (op_plain d fit k md at i o there made) typed (result maker.position 0) maker.operand in
       omega arith
 
-  module _ (stands : StandsBehind md.body o.kind o.types o.operands x maker (type_in md.ports md.body) t u) where
+  module _ (stands : MakerOperandStands md.body o.kind o.types o.operands x maker (type_in md.ports md.body) t u) where
     stays : IsNotOf i x
     stays n same = go n same
       where
@@ -116,8 +116,8 @@ module _ (d : Design) (fit : IsFit d) (k : ℕ) (md : Module) (at : slice_get d 
       constant = λ is. let clash : true ≡ false = sym is ∙ made_no_constant o.kind made in cc;
     }
 
-    pub behind_taken : IsFold d k md (erase_op i x md.body)
-    behind_taken = record {
+    pub after_taken : IsFold d k md (erase_op i x md.body)
+    after_taken = record {
       steady = steady_with_body d k md (erase_op i x md.body) at (erase_op_preserves d k md i o t x fit.valid at change)
           (fit_erased d k md i o t x fit at change fits) (shape_erase md.body i o x there (op_plain d fit k md at i o there made));
       lighter = out_is_lighter d k md i o x at there;
@@ -126,8 +126,8 @@ module _ (d : Design) (fit : IsFit d) (k : ℕ) (md : Module) (at : slice_get d 
 
 -- ---- the law
 
-behind_row : (stand : Stand) → IsBehind stand → RowLaw (by_stand stand)
-behind_row stand shown d k md i es fit at is =
+after_row : (stand : Stand) → IsMakerOperand stand → RowLaw (by_stand stand)
+after_row stand shown d k md i es fit at is =
     let found = bind_some (slice_get md.body i) (λ (o : Op). omap (λ (x : Ref). erased i x ∷ []) (stand md.body o.kind o.types o.operands)) is in
     let taken = omap_some (λ (x : Ref). erased i x ∷ []) (stand md.body found.0.kind found.0.types found.0.operands) found.2 in
     subst (λ (qs : List Edit). IsFold d k md (edited_by qs md.body)) taken.2 (of_op found.0 found.1 taken.0 taken.1)
@@ -139,11 +139,11 @@ behind_row stand shown d k md i es fit at is =
         let typed = op_typed d fit k md at i o there made in
         let maker_type = op_typed d fit k md at maker.position maker.op maker.there maker.made in
         let maker_typed = ap (λ z. bind z (λ (y : Op). result_type y 0)) maker.there ∙ maker_type in
-        behind_taken d fit k md at i o there made (type_or_none (type_of_result o.kind o.types (length o.operands))) typed x maker
+        after_taken d fit k md at i o there made (type_or_none (type_of_result o.kind o.types (length o.operands))) typed x maker
         (type_or_none (type_of_result maker.op.kind maker.op.types (length maker.op.operands))) maker_typed
         (shown.stands md.body o.kind o.types o.operands x (type_in md.ports md.body) (type_or_none (type_of_result o.kind o.types (length o.operands)))
         (type_or_none (type_of_result maker.op.kind maker.op.types (length maker.op.operands))) chosen
         (op_known d fit k md at i o there made) maker_typed (op_known d fit k md at maker.position maker.op maker.there maker.made))
 
-pub behind_is_fold : (stand : Stand) → IsBehind stand → FoldLaw (fold_by (by_stand stand))
-behind_is_fold stand shown = row_is_fold (by_stand stand) (behind_row stand shown)
+pub maker_operand_is_fold : (stand : Stand) → IsMakerOperand stand → FoldLaw (fold_by (by_stand stand))
+maker_operand_is_fold stand shown = row_is_fold (by_stand stand) (after_row stand shown)
