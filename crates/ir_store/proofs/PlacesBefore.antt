@@ -1,11 +1,18 @@
 -- Where an operation stands before which another is put: what comes before and after it along the links.
-use Rattle.std.proofs.Common.{◌≡◌, ℕ, zero, suc, ◌<◌, ◌≤◌, Bool, true, false, cond, nat_eq, List, [], ◌∷◌, ◌++◌, length, take, drop, refl, ap, ◌∙◌, arith}
+use Rattle.std.proofs.Common.{◌≡◌, ℕ, zero, suc, ◌<◌, ◌≤◌, Bool, true, false, cond, nat_eq, List, [], ◌∷◌, ◌++◌, length, map, take, drop, ◌+◌, ◌-◌, refl, sym, ap, ◌∙◌, arith, take-append-drop}
 use Rattle.std.specs.Prelude.{Contains, Option, Some, None}
 use Rattle.std.proofs.lemmas.Bool.{eqb-true, eqb-false}
 use Rattle.ir_store.specs.declared.operation.OpId.{OpId}
 use Rattle.linked_lists.specs.declared.links.Link.{Link}
+use Rattle.ir_store.specs.Bodies.{op_id, first_id}
 use Rattle.ir_store.specs.BodyOps.{place_before}
-use Rattle.linked_lists.specs.Links.{next_at, prev_at, first_of, last_of, IsLinked}
+use Rattle.ir_store.specs.Numbered.{position_of}
+use Rattle.linked_lists.specs.Ids.{times}
+use Rattle.ir_store.specs.Orders.{live_ids}
+use Rattle.ir_store.specs.declared.order.Order.{Order}
+use Rattle.linked_lists.specs.Links.{none, walk, next_at, prev_at, first_of, last_of, IsLinked}
+use Rattle.linked_lists.proofs.IdLemmas.{times-append}
+use Rattle.linked_lists.proofs.Linking.{first_there}
 
 -- what stands before and after the place of an id
 pub place_front : (ls : List Link) (a : ℕ) (xs : List ℕ) (z : ℕ) (b : OpId) → Contains xs b.index → IsLinked ls a xs z → prev_at ls b.index ≡ last_of a (take (place_before (Some b) xs) xs)
@@ -48,3 +55,38 @@ place_next ls a (x ∷ xs) z b t h = go (nat_eq x b.index) refl t (place_next ls
     go true s t r = rw (← eqb-true x b.index s) (ap (λ (l : Link). l.next) h.0)
     go false s (zero, l, e) r = absurd (eqb-false x b.index s e)
     go false s (suc k, l, e) r = r (k, omega arith, e) h.1
+
+-- that place is the position of the id
+pub place_position : (xs : List ℕ) (b : OpId) → place_before (Some b) xs ≡ position_of xs b.index
+place_position [] b = refl
+place_position (x ∷ xs) b = ap (λ n. cond (nat_eq x b.index) 0 (suc n)) (place_position xs b)
+
+-- nothing stands for none among what is left of ids, where nothing does among them
+without_none : (p : ℕ) (xs : List ℕ) → times none xs ≡ 0 → times none (drop p xs) ≡ 0
+without_none p xs clean =
+    let whole : times none (take p xs) + times none (drop p xs) ≡ times none xs = sym (times-append none (take p xs) (drop p xs)) ∙ ap (times none) (take-append-drop p xs) in
+    omega (arith, whole, clean)
+
+-- the first of ids none of which stands for none, where what is first by the links is told: none is only where there are none
+pub none_after : (ys : List ℕ) (n : ℕ) → n ≡ first_of ys none → n ≡ none → times none ys ≡ 0 → None ≡ first_id (map op_id ys)
+none_after [] n is end clean = refl
+none_after (y ∷ ys) n is end clean =
+    let there : 0 < times y (y ∷ ys) = first_there y ys in
+    let same : y ≡ none = sym is ∙ end in
+    absurd (omega (arith, ap (λ v. times v (y ∷ ys)) same, there, clean))
+
+pub some_after : (ys : List ℕ) (n : ℕ) → n ≡ first_of ys none → (n ≡ none → ⊥) → Some (op_id n) ≡ first_id (map op_id ys)
+some_after [] n is other = absurd (other is)
+some_after (y ∷ ys) n is other = ap (λ v. Some (op_id v)) is
+
+-- what an order's links say of the id after one
+pub after_live : (o : Order) (b : OpId) → Contains (live_ids o) b.index
+    → (next_at o.links.items b.index ≡ first_of (drop (suc (position_of (live_ids o) b.index)) (live_ids o)) none) × (times none (drop (suc (position_of (live_ids o) b.index)) (live_ids o)) ≡ 0)
+after_live o b there = (
+  place_next o.links.items none (live_ids o) none b there o.linked ∙ ap (λ p. first_of (drop (suc p) (live_ids o)) none) (place_position (live_ids o) b),
+  without_none (suc (position_of (live_ids o) b.index)) (live_ids o)
+      (let below : times none (live_ids o ++ walk o.links.items (length o.links.items - o.live) o.free) ≡ 0 = o.below none (omega (arith, o.few)) in
+      let sum : times none (live_ids o ++ walk o.links.items (length o.links.items - o.live) o.free) ≡ times none (live_ids o) + times none (walk o.links.items (length o.links.items - o.live) o.free) =
+      times-append none (live_ids o) (walk o.links.items (length o.links.items - o.live) o.free) in
+      omega (arith, below, sum)),
+)

@@ -115,9 +115,10 @@ impl<'b> Ops<'b> {
 }
 
 impl Body {
-    ghost use Rattle.std.specs.Prelude.{◌≡◌, ℕ, ◌+◌, ◌<◌, ◌≤◌, ◌^◌, [], ◌∷◌, Some, None, map, min, length, Contains, IfOk, IfSome, IsOk, IsTrue, ◌↔◌, OnOk, OnErr, slice_set, insert, remove};
+    ghost use Rattle.std.specs.Prelude.{◌≡◌, ℕ, suc, ◌+◌, ◌<◌, ◌≤◌, ◌^◌, [], ◌∷◌, Some, None, map, min, length, drop, Contains, IfOk, IfSome, IsOk, IsTrue, ◌↔◌, OnOk, OnErr, slice_set, insert, remove};
     ghost use Rattle.ir_store.specs.BodyOps.{op_at, put_before, place_before, as_new, operands_at, operand_count, HasOperand, HasPlace, IsUnused, all_replaced, taken_out};
-    ghost use Rattle.ir_store.specs.Bodies.{ids_of, ops_of, gaps, spare_ops, spare_uses, read_op, read_parts, op_id, ids_left};
+    ghost use Rattle.ir_store.specs.Bodies.{ids_of, ops_of, gaps, spare_ops, spare_uses, read_op, read_parts, op_id, first_id, ids_left};
+    ghost use Rattle.ir_store.specs.Numbered.{position_of};
     ghost use Rattle.ir_store.specs.OperationViews.{parts_of};
     ghost use Rattle.ir_store.specs.Orders.{live_ids};
     ghost use Rattle.ir_store.specs.Uses.{uses_in, use_times, use_some};
@@ -168,6 +169,14 @@ impl Body {
         ensures { ids_left result ≡ map op_id (ids_of self.now) }
     {
         Ops::along(&self.order)
+    }
+
+    /// The id of the operation after this one in text order, where there is one. In constant time.
+    pub fn next_op(&self, op: OpId) -> Option<OpId>
+        requires { Contains (ids_of self.now) op.index }
+        ensures { result ≡ first_id (map op_id (drop (suc (position_of (ids_of self.now) op.index)) (ids_of self.now))) }
+    {
+        self.order.after(op)
     }
 
     /// How many operations there are.

@@ -26,11 +26,13 @@ pub struct Order {
 }
 
 impl Order {
-    ghost use Rattle.std.specs.Prelude.{◌≡◌, ◌+◌, ◌<◌, ◌≤◌, ◌^◌, [], ◌↔◌, max, length, take, drop, insert, remove, Contains, Some, IfSome, IfOk, IsOk, IsTrue, OnOk};
+    ghost use Rattle.std.specs.Prelude.{◌≡◌, suc, ◌+◌, ◌<◌, ◌≤◌, ◌^◌, [], ◌↔◌, max, length, map, take, drop, insert, remove, Contains, Some, IfSome, IfOk, IsOk, IsTrue, OnOk};
     ghost use Rattle.std.specs.Vec.{vec_capacity};
     ghost use Rattle.linked_lists.specs.Ids.{times};
     ghost use Rattle.ir_store.specs.BodyOps.{place_before};
     ghost use Rattle.linked_lists.specs.Links.{none, next_at, first_of, last_of};
+    ghost use Rattle.ir_store.specs.Bodies.{op_id, first_id};
+    ghost use Rattle.ir_store.specs.Numbered.{position_of};
     ghost use Rattle.ir_store.specs.Orders.{live_ids, free_ids};
 
     /// No ids. It takes no memory.
@@ -102,6 +104,19 @@ impl Order {
         ensures { IsTrue result ↔ Contains (live_ids self.now) id }
     {
         is_live(self.links.as_slice(), id)
+    }
+
+    /// The id after a live one, where there is one, in constant time.
+    pub fn after(&self, id: OpId) -> Option<OpId>
+        requires { Contains (live_ids self.now) id.index }
+        ensures { result ≡ first_id (map op_id (drop (suc (position_of (live_ids self.now) id.index)) (live_ids self.now))) }
+    {
+        let next = next_of(self.links.as_slice(), id.index);
+        if next == NONE {
+            None
+        } else {
+            Some(OpId { index: next })
+        }
     }
 
     /// Makes room for so many more live ids.
