@@ -12,7 +12,7 @@ use Rattle.hw_model.specs.Types.{Name}
 use Rattle.hw_model.specs.Design.{same_name}
 use Rattle.mlir_reader.specs.Meanings.{defined_of, definition, meaning_at, table_meanings, number_meaning, meaning_by, meanings_of}
 use Rattle.mlir_reader.specs.PlainNumbers.{number_of}
-use Rattle.mlir_reader.specs.Resolving.{Meanings, Defined, Definition, known_or, with_definition}
+use Rattle.mlir_reader.specs.Resolving.{Meanings, Defined, Definition, known_or, no_meaning, with_definition}
 use Rattle.mlir_reader.specs.declared.names.Defined as code
 use Rattle.mlir_reader.specs.declared.names.Names.{Names}
 use Rattle.mlir_reader.proofs.PlainNumbers.{one_number}
@@ -111,6 +111,17 @@ same_tables t u numbered far named = fun_ext (λ q. on q (number_of q))
     on q (Some n) =
         ap (λ places. known_or (option_map defined_of (meaning_at places n)) (table_meanings u.far.entries q)) numbered
         ∙ ap (λ es. known_or (option_map defined_of (meaning_at t.numbered.items n)) (table_meanings es q)) far
+    on q None = ap (λ es. table_meanings es q) named
+
+-- empty tables hold no names
+pub no_names : (t : Names) → t.numbered.items ≡ [] → t.far.entries ≡ [] → t.named.entries ≡ [] → meanings_of t ≡ no_meaning
+unfolding meanings_of
+no_names t numbered far named = fun_ext (λ q. on q (number_of q))
+  where
+    on : (q : Name) (o : Option ℕ) → meaning_by t q o ≡ None
+    on q (Some n) =
+        ap (λ places. known_or (option_map defined_of (meaning_at places n)) (table_meanings t.far.entries q)) numbered
+        ∙ ap (λ es. known_or (option_map defined_of (meaning_at [] n)) (table_meanings es q)) far
     on q None = ap (λ es. table_meanings es q) named
 
 -- whether a plain number stands for something already

@@ -17,6 +17,7 @@ use mlir_operations::operation_text::{HEADER, operation_text};
 use mlir_operations::port_text::header_attributes;
 use mlir_syntax::fail::ReadFail;
 use mlir_syntax::reader::Reader;
+use std::mem;
 
 /// The operations of a module, as they are read.
 #[derive(Drop)]
@@ -38,16 +39,16 @@ pub struct BodyText {
     pub close: Place,
 }
 
-/// `[attributes {..}] { OPERATIONS }` after ports whose names stand for something. There will likely be so many
-/// operations, for which room is made.
+/// `[attributes {..}] { OPERATIONS }` after ports whose names stand for something, to which those of the operations
+/// are added. There will likely be so many operations, for which room is made.
 ///
 /// Refuses the first token that no body has there.
 pub fn body_text<'s>(
     reader: &mut Reader<'s>,
-    names: Names<'s>,
+    names: &mut Names<'s>,
     likely: u32,
 ) -> Result<BodyText, ReadFail>
-    ensures gives { ReadsFor (IsBodyText (meanings_of names.entry)) result reader.new (body_text reader.old) }
+    ensures gives { ReadsFor (IsBodyText (meanings_of names.old)) result reader.new (body_text reader.old) }
     ensures shorter { OnOk result (length reader.new ≤ length reader.old) }
 {
     let dictionary = header_attributes(reader, HEADER)?;
@@ -64,13 +65,14 @@ pub fn body_text<'s>(
 // Operations up to the closing brace, which is left. `hw.output` is the last.
 fn operations_text<'s>(
     reader: &mut Reader<'s>,
-    names: Names<'s>,
+    names: &mut Names<'s>,
     likely: u32,
 ) -> Result<Operations, ReadFail>
-    ensures gives { ReadsFor (AreOperations (meanings_of names.entry)) result reader.new (operations_text (length reader.old) reader.old) }
+    ensures gives { ReadsFor (AreOperations (meanings_of names.old)) result reader.new (operations_text (length reader.old) reader.old) }
     ensures shorter { OnOk result (length reader.new ≤ length reader.old) }
 {
-    let mut draft = Draft::new(reader.alloc(), names, likely);
+    let given = mem::replace(names, Names::new(reader.alloc()));
+    let mut draft = Draft::new(reader.alloc(), given, likely);
     let mut ends = false;
     while !reader.is_next(TokenKind::RightBrace) {
         let operation = match operation_text(reader) {
@@ -83,6 +85,7 @@ fn operations_text<'s>(
         ends = ends || is_last(operation.name);
         draft.add(reader.alloc(), operation)?;
     }
-    let body = draft.finish(reader.alloc())?;
+    let (body, all) = draft.finish(reader.alloc())?;
+    *names = all;
     Ok(Operations { body, ends })
 }

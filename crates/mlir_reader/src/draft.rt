@@ -99,9 +99,9 @@ impl<'s> Draft<'s> {
         Ok(())
     }
 
-    /// The body, of which all is read. Names that stand for nothing are undefined.
-    pub fn finish(self, alloc: Global) -> Result<Body, AllocError>
-        ensures { IfOk result (λ body. (seen : Meanings) → (os : List Operation) → Drafts seen os self.entry → IsBody seen os body) }
+    /// The body, of which all is read, and its names. Names that stand for nothing are undefined.
+    pub fn finish(self, alloc: Global) -> Result<(Body, Names<'s>), AllocError>
+        ensures { IfOk result (λ whole. (seen : Meanings) → (os : List Operation) → Drafts seen os self.entry → IsBody seen os whole.0) }
     {
         let Draft {
             names,
@@ -116,7 +116,7 @@ impl<'s> Draft<'s> {
             let operands = resolved_operands(alloc, &names, draft.operands.as_slice())?;
             put_in(&mut body, whole_operation(draft, operands))?;
         }
-        Ok(body)
+        Ok((body, names))
     }
 
     // Puts an operation whose names are defined, and have these marks, into the body where it need not wait, and else

@@ -9,6 +9,7 @@ ghost use Rattle.mlir_syntax.specs.Stream.{is_first};
 ghost use Rattle.mlir_syntax.specs.Views.{ReadsAs};
 
 use crate::module_text::module_text;
+use crate::names::Names;
 use crate::sizes::put_module;
 use diag::refusal::OpName;
 use ir_store::design::Design;
@@ -127,9 +128,10 @@ fn modules_text(reader: &mut Reader<'_>, ends: Ends, design: &mut Design) -> Res
     ensures gives { ReadsAs (λ (_ : Unit {0}). design_of design.new) result reader.new (designs_after (design_of design.old) (modules_text (ends_of ends) (length reader.old) reader.old)) }
     ensures shorter { OnOk result (length reader.new ≤ length reader.old) }
 {
+    let mut names = Names::new(reader.alloc());
     let mut likely = FIRST_LIKELY;
     while !ends_here(reader, ends) {
-        match module_text(reader, likely) {
+        match module_text(reader, &mut names, likely) {
             Ok(module) => {
                 likely = u32::try_from(module.body.op_count()).unwrap_or(u32::MAX);
                 put_module(design, module)?;

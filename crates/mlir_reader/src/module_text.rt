@@ -8,6 +8,7 @@ ghost use Rattle.mlir_syntax.specs.Views.{ReadsFor};
 ghost use Rattle.mlir_reader.specs.ModuleViews.{IsModule};
 
 use crate::body_text::body_text;
+use crate::names::Names;
 use crate::resolving::{ModuleHead, named_ports, whole_module};
 use diag::refusal::{OpName, Place};
 use ir_store::design::Module;
@@ -18,17 +19,22 @@ use mlir_operations::port_text::{ports_text, private_text};
 use mlir_syntax::fail::ReadFail;
 use mlir_syntax::reader::Reader;
 
-/// A module, whose names are resolved. It will likely have so many operations, for which room is made.
+/// A module, whose names are resolved. What `names` stand for before is forgotten; only their room is used. The module
+/// will likely have so many operations, for which room is made.
 ///
 /// Refuses the first token that no module has there.
 #[tactic(auto, unfolding(mlir_operations::specs::ModuleText::module_text))]
-pub fn module_text(reader: &mut Reader<'_>, likely: u32) -> Result<Module, ReadFail>
+pub fn module_text<'s>(
+    reader: &mut Reader<'s>,
+    names: &mut Names<'s>,
+    likely: u32,
+) -> Result<Module, ReadFail>
     ensures gives { ReadsFor IsModule result reader.new (module_text reader.old) }
     ensures shorter { OnOk result (length reader.new < length reader.old) }
 {
     match reader.first() {
         Some(token) if is_kind(token.kind, TokenKind::BareName) => {
-            classed_module(reader, token, likely)
+            classed_module(reader, names, token, likely)
         }
         Some(_) => Err(ReadFail::Refused(no_operation(reader, OpName::File))),
         None => Err(ReadFail::Refused(no_operation(reader, OpName::File))),
@@ -39,6 +45,7 @@ pub fn module_text(reader: &mut Reader<'_>, likely: u32) -> Result<Module, ReadF
 #[tactic(auto, unfolding(mlir_operations::specs::ModuleText::classed_module))]
 fn classed_module<'s>(
     reader: &mut Reader<'s>,
+    names: &mut Names<'s>,
     token: Token<'s>,
     likely: u32,
 ) -> Result<Module, ReadFail>
@@ -50,7 +57,7 @@ fn classed_module<'s>(
     match class_of(token.text) {
         NameClass::Module => {
             reader.advance();
-            module_after(reader, token.place, likely)
+            module_after(reader, names, token.place, likely)
         }
         NameClass::Operation(name) => {
             let class = NameClass::Operation(name);
@@ -72,15 +79,20 @@ fn classed_module<'s>(
 }
 
 // A module after its name.
-fn module_after(reader: &mut Reader<'_>, place: Place, likely: u32) -> Result<Module, ReadFail>
+fn module_after<'s>(
+    reader: &mut Reader<'s>,
+    names: &mut Names<'s>,
+    place: Place,
+    likely: u32,
+) -> Result<Module, ReadFail>
     ensures gives { ReadsFor IsModule result reader.new (module_after place reader.old) }
     ensures shorter { OnOk result (length reader.new ≤ length reader.old) }
 {
     let private = private_text(reader);
     let symbol = reader.module_symbol(HEADER)?;
     let ports = ports_text(reader)?;
-    let ports = named_ports(reader.alloc(), ports)?;
-    let body = body_text(reader, ports.names, likely)?;
+    let ports = named_ports(reader.alloc(), names, ports)?;
+    let body = body_text(reader, names, likely)?;
     let head = ModuleHead {
         symbol,
         private,

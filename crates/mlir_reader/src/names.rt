@@ -1,5 +1,5 @@
 //! What the names of a module stand for.
-ghost use Rattle.std.specs.Prelude.{ℕ, ◌≡◌, ◌≤◌, Some, None, cond, nat_eq, length, is_some, IfOk, OnOk};
+ghost use Rattle.std.specs.Prelude.{ℕ, ◌≡◌, ◌≤◌, [], Some, None, cond, nat_eq, length, is_some, IfOk, OnOk};
 ghost use Rattle.std.specs.List.{list_all};
 ghost use Rattle.std.specs.Option.{option_map};
 ghost use Rattle.mlir_lexer.specs.Classes.{is_digit};
@@ -11,6 +11,10 @@ ghost use Rattle.mlir_reader.specs.Meanings.{defined_of, meaning_at, table_meani
 use indexmap::IndexMap;
 use mlir_lexer::classes::{Class, Digit};
 use std::alloc::{AllocError, Global};
+use std::mem;
+
+// The most names for which a table that is cleared keeps its room, since clearing goes through all of it.
+const MOST_KEPT: usize = 1024;
 
 /// What a name stands for.
 #[derive(Clone, Copy, Debug)]
@@ -37,18 +41,28 @@ pub struct Names<'s> {
 }
 
 impl<'s> Names<'s> {
-    /// No names, with room for so many.
+    /// No names. It takes no memory.
     #[tactic(auto, unfolding(crate::specs::Meanings::meanings_of))]
-    pub fn with_room(alloc: Global, count: usize) -> Result<Names<'s>, AllocError>
-        ensures { IfOk result (λ names. meanings_of names ≡ no_meaning) }
+    pub fn new(alloc: Global) -> Names<'s>
+        ensures { meanings_of result ≡ no_meaning }
     {
-        let named = IndexMap::with_capacity(alloc, count)?;
-        Ok(Names {
+        Names {
             numbered: Vec::new(alloc),
             far: IndexMap::new(alloc),
-            named,
+            named: IndexMap::new(alloc),
             count: 0,
-        })
+        }
+    }
+
+    /// Forgets all names, and keeps room for further ones. It takes no memory, and no more time than the names that
+    /// there were took: a table with room for more than 1024 is let go, and another is cleared whole.
+    pub fn clear(&mut self, alloc: Global)
+        ensures { meanings_of self.new ≡ no_meaning }
+    {
+        self.numbered.clear();
+        clear_table(alloc, &mut self.far);
+        clear_table(alloc, &mut self.named);
+        self.count = 0;
     }
 
     /// What a name stands for.
@@ -115,6 +129,17 @@ impl<'s> Names<'s> {
             return Ok(false);
         }
         define_listed(&mut self.far, name, defined)
+    }
+}
+
+// Takes all names out of a table, which keeps its room where that is little.
+fn clear_table<'s>(alloc: Global, table: &mut IndexMap<&'s [u8], Defined>)
+    ensures { table.new.entries ≡ [] }
+{
+    if table.capacity() > MOST_KEPT {
+        let _ = mem::replace(table, IndexMap::new(alloc));
+    } else {
+        table.clear();
     }
 }
 

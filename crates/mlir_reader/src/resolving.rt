@@ -26,13 +26,11 @@ use opcode::listed::Listed;
 use smallvec::SmallVec;
 use std::alloc::{AllocError, Global};
 
-/// The ports of a module, and what their names stand for.
+/// The ports of a module.
 #[derive(Drop)]
-pub struct NamedPorts<'s> {
+pub struct NamedPorts {
     /// The ports.
     pub list: PortList,
-    /// What the names of their values stand for.
-    pub names: Names<'s>,
     /// Whether one is an output.
     pub outputs: bool,
 }
@@ -52,27 +50,24 @@ pub struct ModuleHead {
     pub place: Place,
 }
 
-/// The ports of a module, each with its mark, and their names. As many as 2^32, which no text that is read has, count
-/// as out of memory.
+/// The ports of a module, each with its mark. Their names, and no others, stand for something then. As many as 2^32,
+/// which no text that is read has, count as out of memory.
 pub fn named_ports<'s>(
     alloc: Global,
+    names: &mut Names<'s>,
     ports: Vec<PortText<'s>>,
-) -> Result<NamedPorts<'s>, AllocError>
+) -> Result<NamedPorts, AllocError>
     ensures list { IfOk result (λ named. ports_in named.list ≡ ports_from no_meaning 0 (map port_text_of ports.entry.items)) }
-    ensures names { IfOk result (λ named. meanings_of named.names ≡ port_meanings (map port_text_of ports.entry.items)) }
+    ensures names { OnOk result (meanings_of names.new ≡ port_meanings (map port_text_of ports.entry.items)) }
     ensures outputs { IfOk result (λ named. named.outputs ≡ has_outputs (map port_text_of ports.entry.items)) }
 {
     if ports.len() >= u32::MAX as usize {
         return Err(AllocError);
     }
     let outputs = has_outputs(&ports);
-    let mut names = Names::with_room(alloc, ports.len())?;
-    let list = resolved_ports(alloc, &mut names, ports)?;
-    Ok(NamedPorts {
-        list,
-        names,
-        outputs,
-    })
+    names.clear(alloc);
+    let list = resolved_ports(alloc, names, ports)?;
+    Ok(NamedPorts { list, outputs })
 }
 
 /// The module of a head and a body.

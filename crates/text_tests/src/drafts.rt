@@ -123,17 +123,18 @@ const FRONTS: [Front; 5] = [
 
 // the body of at most so many operations that a text begins with, after one port `p`
 fn body_of(alloc: Global, text: &[u8], most: usize) -> Result<Body, AllocError> {
-    let mut names = Names::with_room(alloc, 0)?;
+    let mut names = Names::new(alloc);
     define_port(&mut names, 0, Some(b"p"))?;
     let mut draft = Draft::new(alloc, names, 8);
     let mut reader = Reader::new(alloc, text);
     for _ in 0..most {
         match operation_text(&mut reader) {
             Ok(operation) => draft.add(alloc, operation)?,
-            Err(_) => return draft.finish(alloc),
+            Err(_) => break,
         }
     }
-    draft.finish(alloc)
+    let (body, _) = draft.finish(alloc)?;
+    Ok(body)
 }
 
 fn value_of(operand: Operand) -> Value {

@@ -42,7 +42,7 @@ const GIVEN: [(&str, u32); 13] = [
 
 #[test]
 fn a_name_keeps_what_it_stood_for_first(rt: HostRuntime) -> Result<(), Fail> {
-    let mut names = Names::with_room(rt.alloc(), 0)?;
+    let mut names = Names::new(rt.alloc());
     for (name, position) in GIVEN {
         assert!(rt; defines(&mut names, name, position, None)?, "in {name}");
     }
@@ -60,7 +60,7 @@ fn a_name_keeps_what_it_stood_for_first(rt: HostRuntime) -> Result<(), Fail> {
 
 #[test]
 fn a_number_far_above_is_kept_when_its_place_comes_near(rt: HostRuntime) -> Result<(), Fail> {
-    let mut names = Names::with_room(rt.alloc(), 4)?;
+    let mut names = Names::new(rt.alloc());
     for name in [
         "90", "0", "1", "2", "3", "4", "5", "6", "7", "8", "9", "91", "93",
     ] {
@@ -74,6 +74,21 @@ fn a_number_far_above_is_kept_when_its_place_comes_near(rt: HostRuntime) -> Resu
         ("93", Some(2)),
     ] {
         assert_eq!(rt; port_of(&names, name.as_bytes()), wanted, "in {name}");
+    }
+    Ok(())
+}
+
+#[test]
+fn names_are_forgotten(rt: HostRuntime) -> Result<(), Fail> {
+    let mut names = Names::new(rt.alloc());
+    for position in 0..3 {
+        for (name, _) in GIVEN {
+            assert!(rt; defines(&mut names, name, position, None)?, "in {name}");
+        }
+        names.clear(rt.alloc());
+        for (name, _) in GIVEN {
+            assert_eq!(rt; port_of(&names, name.as_bytes()), None, "in {name}");
+        }
     }
     Ok(())
 }

@@ -11,28 +11,28 @@ use Rattle.mlir_reader.proofs.body_text.body_text.Goals as goal
 pub returns-in_err-dictionary-clause-gives : goal.returns-in_err-dictionary-clause-gives
 unfolding body_text
 returns-in_err-dictionary-clause-gives c =
-    passed_for entries_in (IsBodyText (meanings_of c.args.names)) c.from_residual.result c.in_err-dictionary.field-0.0 c.header_attributes.new.reader _ _ _
+    passed_for entries_in (IsBodyText (meanings_of c.args.names.now)) c.from_residual.result c.in_err-dictionary.field-0.0 c.header_attributes.new.reader _ _ _
     c.from_residual.ensures.1 c.in_err-dictionary.ensures.gives
 
 pub returns-in_err-want-clause-gives : goal.returns-in_err-want-clause-gives
 unfolding body_text
 returns-in_err-want-clause-gives c =
     rw c.in_ok-dictionary.ensures.gives
-    (passed_for lexeme_of (IsBodyText (meanings_of c.args.names)) c.from_residual-in_err-want.result c.in_err-want.field-0.0 c.want.new.self _ _ _
+    (passed_for lexeme_of (IsBodyText (meanings_of c.args.names.now)) c.from_residual-in_err-want.result c.in_err-want.field-0.0 c.want.new.self _ _ _
     c.from_residual-in_err-want.ensures.1 c.in_err-want.ensures.gives)
 
 pub returns-in_err-operations-clause-gives : goal.returns-in_err-operations-clause-gives
 unfolding body_text
 returns-in_err-operations-clause-gives c =
     rw (c.in_ok-dictionary.ensures.gives, c.in_ok-want.ensures.gives)
-    (passed_held (AreOperations (meanings_of c.args.names)) (IsBodyText (meanings_of c.args.names)) c.from_residual-in_err-operations.result c.in_err-operations.field-0.0 c.operations_text.new.reader _ _ _
+    (passed_held (AreOperations (meanings_of c.args.names.now)) (IsBodyText (meanings_of c.args.names.now)) c.from_residual-in_err-operations.result c.in_err-operations.field-0.0 c.operations_text.new.reader _ _ _
     c.from_residual-in_err-operations.ensures.1 c.in_err-operations.ensures.gives)
 
 pub returns-in_err-close-clause-gives : goal.returns-in_err-close-clause-gives
 unfolding body_text
 returns-in_err-close-clause-gives c =
     rw (c.in_ok-dictionary.ensures.gives, c.in_ok-want.ensures.gives, c.in_ok-operations.ensures.gives.1)
-    (passed_for lexeme_of (IsBodyText (meanings_of c.args.names)) c.from_residual-in_err-close.result c.in_err-close.field-0.0 c.want-2.new.self _ _ _
+    (passed_for lexeme_of (IsBodyText (meanings_of c.args.names.now)) c.from_residual-in_err-close.result c.in_err-close.field-0.0 c.want-2.new.self _ _ _
     c.from_residual-in_err-close.ensures.1 c.in_err-close.ensures.gives)
 
 pub returns-clause-gives : goal.returns-clause-gives

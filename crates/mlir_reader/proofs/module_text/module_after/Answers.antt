@@ -25,7 +25,7 @@ pub returns-in_err-body-clause-gives : goal.returns-in_err-body-clause-gives
 unfolding module_after
 returns-in_err-body-clause-gives c =
     rw (c.private_text-private.ensures.gives, c.in_ok-symbol.ensures.gives, c.in_ok-ports.ensures.gives)
-    (passed_held (IsBodyText (meanings_of c.in_ok-ports-2.ports.names)) IsModule c.from_residual-in_err-body.result c.in_err-body.field-0.0 c.body_text.new.reader _ _ _
+    (passed_held (IsBodyText (meanings_of c.named_ports.new.names)) IsModule c.from_residual-in_err-body.result c.in_err-body.field-0.0 c.body_text.new.reader _ _ _
     c.from_residual-in_err-body.ensures.1 c.in_err-body.ensures.gives)
 
 pub whole_module-requires-clause-count : goal.whole_module-requires-clause-count
