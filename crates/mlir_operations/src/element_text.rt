@@ -131,7 +131,7 @@ fn operands_element<'s>(
 fn some_operands<'s>(
     reader: &mut Reader<'s>,
     op: OpName,
-    operands: &mut SmallVec<OperandName<'s>, 2, Global>,
+    operands: &mut SmallVec<OperandName<'s>, 4, Global>,
 ) -> Result<(), ReadFail>
     ensures gives { ReadsAs (λ (_ : Unit {0}). map operand_of operands.new.items) result reader.new (on (some_items op (operand_text op) reader.old) (λ os left. Ok (map operand_of operands.old.items ++ os, left))) }
     ensures shorter { OnOk result (length reader.new ≤ length reader.old) }

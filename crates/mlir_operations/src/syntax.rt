@@ -56,7 +56,7 @@ pub enum InherentAttributes {
 #[derive(Drop)]
 pub struct Gathered<'s> {
     /// Its operands.
-    pub operands: SmallVec<OperandName<'s>, 2, Global>,
+    pub operands: SmallVec<OperandName<'s>, 4, Global>,
     /// The types that are written, in text order.
     pub types: TyList,
     /// The rest.

@@ -40,7 +40,7 @@ pub struct DraftOperation<'s> {
     /// The operation, without operands.
     pub operation: NewOp,
     /// The names of its operands.
-    pub operands: SmallVec<OperandName<'s>, 2, Global>,
+    pub operands: SmallVec<OperandName<'s>, 4, Global>,
 }
 
 /// A body of which a front is read. An operation is put into it as soon as the names of its operands stand for
