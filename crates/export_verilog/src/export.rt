@@ -1,6 +1,7 @@
 //! The text of a whole design.
 ghost use Rattle.std.specs.Prelude.{◌≡◌, ◌++◌, [], cond, codes, OnOk, IfOk};
 ghost use Rattle.ir_store.specs.Designs.{design_of};
+ghost use Rattle.op_verifier.specs.Verdict.{IsAccepted};
 ghost use Rattle.export_verilog.specs.Aggregates.{HasNoAggregates};
 ghost use Rattle.export_verilog.specs.Layout.{verilog_text};
 ghost use Rattle.export_verilog.specs.WritableDesigns.{IsWritableDesign};
@@ -9,6 +10,7 @@ use crate::acceptance::stored_designs_have_room;
 use crate::module_text::push_module;
 use crate::named_design::NamedDesign;
 use io_edge::byte_text::Text;
+use ir_store::design::Design;
 use op_verifier::Verified;
 use std::alloc::{AllocError, Global};
 use std::thread::Threads;
@@ -36,8 +38,25 @@ fn design_text(alloc: Global, all: &NamedDesign<'_>) -> Result<Text, AllocError>
     Ok(out)
 }
 
-/// The Verilog text of an accepted design without aggregates, one module after another with an empty line between two
-/// (IEEE 1364-2005, 12.1: modules). The error comes only when out of memory. `rt` may start threads; none is needed so far.
+/// The Verilog text of a design without aggregates of which nothing is refused, one module after another with an empty line
+/// between two (IEEE 1364-2005, 12.1: modules). The error comes only when out of memory. `rt` may start threads; none is needed
+/// so far.
+pub fn export_design<R: Threads + Sync>(
+    rt: &R,
+    alloc: Global,
+    design: &Design,
+) -> Result<Text, AllocError>
+    requires accepted { IsAccepted (design_of design.now) }
+    requires exported { HasNoAggregates (design_of design.now) }
+    ensures { IfOk result (λ text. text ≡ verilog_text (design_of design.now)) }
+{
+    let _ = rt;
+    stored_designs_have_room(design);
+    let all = NamedDesign::of(alloc, design)?;
+    design_text(alloc, &all)
+}
+
+/// The same of a verified design.
 pub fn export<R: Threads + Sync>(
     rt: &R,
     alloc: Global,
@@ -46,9 +65,5 @@ pub fn export<R: Threads + Sync>(
     requires { HasNoAggregates (design_of verified.now.design) }
     ensures { IfOk result (λ text. text ≡ verilog_text (design_of verified.now.design)) }
 {
-    let _ = rt;
-    let design = verified.design();
-    stored_designs_have_room(design);
-    let all = NamedDesign::of(alloc, design)?;
-    design_text(alloc, &all)
+    export_design(rt, alloc, verified.design())
 }

@@ -1,13 +1,16 @@
-use Rattle.std.proofs.Common.{◌≡◌, map, sym, ◌∙◌, ap, subst}
+use Rattle.std.proofs.Common.{◌≡◌, map, sym, ap, subst}
+use Rattle.std.specs.Prelude.{IfOk}
+use Rattle.hw_model.specs.Design.{Design}
 use Rattle.ir_store.specs.Designs.{design_of, numbered_module}
-use Rattle.export_verilog.specs.Room.{HasRoomToExport}
-use Rattle.export_verilog.specs.WritableDesigns.{IsWritableDesign}
-use Rattle.export_verilog.proofs.accepted.AcceptedBodies.{accepted_writable}
+use Rattle.op_verifier.specs.Verdict.{IsAccepted}
+use Rattle.export_verilog.specs.Aggregates.{HasNoAggregates}
+use Rattle.export_verilog.specs.Layout.{verilog_text}
 use Rattle.export_verilog.proofs.export.export.Goals as goal
 
-pub design_text-requires : goal.design_text-requires
-design_text-requires g c =
-    let v = c.args.verified.now in
-    let e : design_of c.design-design.result.now ≡ design_of v.design = ap (map numbered_module) c.design-design.ensures in
-    subst IsWritableDesign (sym (c.in_ok-all.ensures ∙ e))
-    (accepted_writable (design_of v.design) v.accepted c.requires (subst HasRoomToExport e c.stored_designs_have_room.ensures))
+pub export_design-requires : goal.export_design-requires
+export_design-requires g c =
+    let same : design_of c.args.verified.now.design ≡ design_of c.design.result.now = sym (ap (map numbered_module) c.design.ensures) in
+    (c.type_bounds.sync-R, (subst IsAccepted same c.args.verified.now.accepted, subst HasNoAggregates same c.requires))
+
+pub returns : goal.returns
+returns g c = subst (λ (d : Design). IfOk c.export_design.result (λ text. text ≡ verilog_text d)) (ap (map numbered_module) c.design.ensures) c.export_design.ensures
