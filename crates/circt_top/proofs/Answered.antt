@@ -102,6 +102,8 @@ reprint_whole : (passes : List Pass) (bytes source text : List ℕ) → read sou
 reprint_whole passes bytes source text same is = record {
   design = is.design;
   accepted = accepted_whole bytes source is.design same is.accepted;
+  made = is.made;
+  result = is.result;
   partners = is.partners;
   said_again = is.said_again;
   laid_out = is.laid_out;
@@ -111,6 +113,8 @@ translation_whole : (passes : List Pass) (bytes source text : List ℕ) → read
 translation_whole passes bytes source text same is = record {
   design = is.design;
   accepted = accepted_whole bytes source is.design same is.accepted;
+  made = is.made;
+  result = is.result;
   partners = is.partners;
   exported = is.exported;
   behaves = is.behaves;
@@ -119,7 +123,7 @@ translation_whole passes bytes source text same is = record {
 
 unexported_whole : (passes : List Pass) (bytes source : List ℕ) (r : Refusal) → read source ≡ read bytes → IsUnexported passes source r → IsUnexported passes bytes r
 unexported_whole passes bytes source r same is =
-    record { design = is.design; accepted = accepted_whole bytes source is.design same is.accepted; missing = is.missing }
+    record { design = is.design; accepted = accepted_whole bytes source is.design same is.accepted; made = is.made; result = is.result; missing = is.missing }
 
 -- pieces of a front that is not too long are those of the whole
 pieces_whole : (passes : List Pass) (bytes source text : List ℕ) → source ≡ take read_limit bytes → IsReprintOfPieces passes source text → IsReprintOfPieces passes bytes text

@@ -4,7 +4,8 @@ use Rattle.diag.specs.declared.refusal.Refusal.{Refusal}
 use Rattle.hw_model.specs.Design.{Design}
 use Rattle.command_line.specs.Line.{Work}
 use Rattle.command_line.specs.Line.Work.{mlir, mlir_pieces, verilog}
-use Rattle.pass_manager.specs.Results.{result}
+use Rattle.pass_manager.specs.Results.{IsResult}
+use Rattle.pass_manager.proofs.Results.{result_once}
 use Rattle.mlir_reader.specs.Reading.{read}
 use Rattle.op_verifier.specs.Faults.{first_fault}
 use Rattle.op_verifier.specs.Verdict.{IsAccepted, IsRefusal, unfit, recursive, too_large, cyclic}
@@ -56,15 +57,15 @@ printed_accepted passes (p ∷ ps) (text ∷ texts) h = ((h.0.design, h.0.accept
 pub answered_unrefused : (work : Work) (contents : List (List ℕ)) (r : Refusal) → IsAnswered work contents → IsAnswer work contents (refuses r) → ⊥
 answered_unrefused (mlir passes) contents r a is = unrefused_in 0 (first_input contents) a.0 r a.1 is
 answered_unrefused (mlir_pieces passes) contents r a is = pieces_unrefused (first_input contents) r a is
-answered_unrefused (verilog passes) contents r a (inl is) = unrefused_in 0 (first_input contents) a.0 r a.1 is
-answered_unrefused (verilog passes) contents r a (inr is) =
-    let same : a.0 ≡ is.design = one_design (first_input contents) a.0 is.design a.1.says is.accepted.says in
-    let e : first_aggregate (result passes a.0) ≡ Some r = ap (λ d. first_aggregate (result passes d)) same ∙ is.missing in
-    let f : None ≡ Some r = sym a.2 ∙ e in cc
+answered_unrefused (verilog passes) contents r (d, e, accepted, result, none) (inl is) = unrefused_in 0 (first_input contents) d r accepted is
+answered_unrefused (verilog passes) contents r (d, e, accepted, result, none) (inr is) =
+    let same : is.design ≡ d = one_design (first_input contents) is.design d is.accepted.says accepted.says in
+    let made : e ≡ is.made = result_once passes d e is.made result (subst (λ z. IsResult passes z is.made) same is.result) in
+    let f : None ≡ Some r = sym none ∙ ap first_aggregate made ∙ is.missing in cc
 
 -- what gives a text is answered
 pub made_answered : (work : Work) (contents : List (List ℕ)) (verdict : Verdict) (text : List ℕ) → IsAnswer work contents (prints verdict text) → IsAnswered work contents
 made_answered (mlir passes) contents given text is = (is.design, is.accepted)
 made_answered (mlir_pieces passes) contents given text is =
     record { short = is.short; each = printed_accepted passes (pieces_of (first_input contents)) is.printed.texts is.printed.each }
-made_answered (verilog passes) contents given text is = (is.design, is.accepted, is.exported)
+made_answered (verilog passes) contents given text is = (is.design, is.made, is.accepted, is.result, is.exported)

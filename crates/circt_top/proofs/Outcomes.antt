@@ -1,15 +1,17 @@
 -- What is made of an accepted design.
-use Rattle.std.proofs.Common.{◌≡◌, ℕ, ◌≤◌, inr, List, length, Result, Ok, Err, refl, sym, ◌∙◌, ap, subst}
+use Rattle.std.proofs.Common.{◌≡◌, ℕ, ◌≤◌, inl, inr, List, [], ◌∷◌, length, Result, Ok, Err, refl, sym, ◌∙◌, subst}
+use Rattle.wiring.specs.Wiring.{In}
 use Rattle.diag.specs.declared.refusal.Refusal.{Refusal}
-use Rattle.hw_model.specs.Design.{Design, IsSameDesign}
+use Rattle.hw_model.specs.Design.{Module, Design, IsSameDesign}
 use Rattle.hw_model.specs.Hierarchy.{HasNoRecursion}
 use Rattle.hw_model.specs.Machine.{Same}
 use Rattle.hw_model.specs.Meaning.{machine, HasNoCycle, HasHeights}
 use Rattle.hw_model.specs.Types.{Name}
 use Rattle.command_line.specs.Line.Work.{verilog}
 use Rattle.pass_pipeline.specs.declared.pass.Pass.{Pass}
-use Rattle.pass_manager.specs.Results.{result}
-use Rattle.pass_manager.proofs.Results.{result_is}
+use Rattle.pass_laws.specs.PassLaw.{IsAfter}
+use Rattle.pass_laws.specs.Steady.{SameHeader, SameHeaders, IsSteady}
+use Rattle.pass_manager.specs.Results.{IsResult}
 use Rattle.export_verilog.specs.Aggregates.{HasNoAggregates, first_aggregate}
 use Rattle.export_verilog.specs.Behaviour.{BehavesAs}
 use Rattle.export_verilog.specs.Exportable.{IsExportable}
@@ -29,7 +31,7 @@ use Rattle.canonical_form.specs.Canonical.{IsCanonical}
 use Rattle.mlir_printer.specs.Texts.{ir_text}
 use Rattle.circt_top.specs.Accepting.{Accepted, first_input, unaccepted}
 use Rattle.circt_top.specs.Accepting.{unread as unread_text}
-use Rattle.circt_top.specs.Outcomes.{IsTaken, read_failure, verify_failure}
+use Rattle.circt_top.specs.Outcomes.{IsTaken, IsPrinted, read_failure, verify_failure}
 use Rattle.circt_top.specs.Partners.{HasPartners}
 use Rattle.circt_top.specs.Exports.{Exports}
 use Rattle.circt_top.specs.Outcome.{Gives}
@@ -49,46 +51,64 @@ pub record DesignLaws : Type 0 where
   pub placeless : (d e : Design) → IsSameDesign d e → IsAccepted d → IsAccepted e
   pub same : (d e : Design) → IsSameDesign d e → (top : Name) → HasHeights d top → Same (machine d top) (machine e top)
 
--- each module of an accepted design is its own partner
-own_partners : DesignLaws → (d : Design) → IsAccepted d → HasPartners d d
-own_partners designs d accepted = λ m here exposed. record {
-  partner = m;
-  there = here;
-  symbol = refl;
-  exposed = exposed;
-  ports = refl;
-  behaves = designs.same d d refl m.symbol (designs.heights d m.symbol (designs.finite d accepted) (designs.acyclic d accepted m.symbol));
-}
+-- what passes make of an accepted, printable design
+pub record ResultLaws : Type 0 where
+  pub steady : (passes : List Pass) (d e : Design) → IsAccepted d → Printable d → IsResult passes d e → IsSteady d e
+  pub after : (passes : List Pass) (d e : Design) → IsAccepted d → Printable d → IsResult passes d e → IsAfter [] d e
 
-partners : DesignLaws → (passes : List Pass) (d : Design) → IsAccepted d → HasPartners d (result passes d)
-partners designs passes d accepted = subst (HasPartners d) (sym (result_is passes d)) (own_partners designs d accepted)
+-- a module with the header of another stands where that stands
+record Headed (m : Module) (e : Design) : Type 0 where
+  partner : Module
+  there : In partner e
+  header : SameHeader m partner
 
-module _ (printing : PrintingLaws) (designs : DesignLaws) (source : List ℕ) (d : Design) (form : IsCanonical d) (accepted : Accepted source d) where
+headed : (d e : Design) (m : Module) → SameHeaders d e → In m d → Headed m e
+headed [] e m all here = absurd here
+headed (x ∷ d) [] m all here = absurd all
+headed (x ∷ d) (y ∷ e) m (one, rest) (inl same) = record { partner = y; there = inl refl; header = subst (λ z. SameHeader z y) (sym same) one }
+headed (x ∷ d) (y ∷ e) m (one, rest) (inr here) = let h = headed d e m rest here in record { partner = h.partner; there = inr h.there; header = h.header }
+
+-- each public module has its partner in a design with the same headers, whose modules do the same
+partners : (d e : Design) → IsSteady d e → HasPartners d e
+partners d e steady = λ m here exposed.
+    let h = headed d e m steady.headers here in
+    record {
+      partner = h.partner;
+      there = h.there;
+      symbol = h.header.symbol;
+      exposed = h.header.mark ∙ exposed;
+      ports = h.header.ports;
+      behaves = steady.same m.symbol;
+    }
+
+module _ (printing : PrintingLaws) (designs : DesignLaws) (results : ResultLaws) (source : List ℕ) (d : Design) (form : IsCanonical d) (accepted : Accepted source d) where
   printable : Printable d
   printable = printing.printable d accepted.accepted form
 
-  said_again : IsSaidAgain d (ir_text d)
-  said_again =
-      let found = printing.again d printable in
+  said_again : (e : Design) → IsAccepted e → Printable e → IsSaidAgain e (ir_text e)
+  said_again e fine shown =
+      let found = printing.again e shown in
       record {
         again = found.0;
         spelled = found.1;
         same = found.2;
-        accepted = designs.placeless d found.0 found.2 accepted.accepted;
-        behaves = λ m here. designs.same d found.0 found.2 m.symbol (designs.heights d m.symbol (designs.finite d accepted.accepted) (designs.acyclic d accepted.accepted m.symbol));
+        accepted = designs.placeless e found.0 found.2 fine;
+        behaves = λ m here. designs.same e found.0 found.2 m.symbol (designs.heights e m.symbol (designs.finite e fine) (designs.acyclic e fine m.symbol));
         read_again = found.3;
       }
 
-  -- an accepted design printed is a reprint
-  pub reprinted : (passes : List Pass) (text : List ℕ) → text ≡ ir_text d → IsReprint passes source text
-  reprinted passes text e =
-      let says : IsSaidAgain d text = subst (λ t. IsSaidAgain d t) (sym e) said_again in
+  -- what passes make of an accepted design, printed, is a reprint
+  pub reprinted : (passes : List Pass) (text : List ℕ) → IsPrinted passes d text → IsReprint passes source text
+  reprinted passes text is =
+      let after : IsAfter [] d is.made = results.after passes d is.made accepted.accepted printable is.result in
       record {
         design = d;
         accepted = accepted;
-        partners = partners designs passes d accepted.accepted;
-        said_again = subst (λ x. IsSaidAgain x text) (sym (result_is passes d)) says;
-        laid_out = e ∙ ap ir_text (sym (result_is passes d));
+        made = is.made;
+        result = is.result;
+        partners = partners d is.made (results.steady passes d is.made accepted.accepted printable is.result);
+        said_again = subst (IsSaidAgain is.made) (sym is.is) (said_again is.made after.accepted after.printable);
+        laid_out = is.is;
       }
 
 -- what the laws of the export say
@@ -96,23 +116,23 @@ pub record ExportLaws : Type 0 where
   pub exportable : (d : Design) → IsAccepted d → HasNoAggregates d → HasRoomToExport d → IsExportable d
   pub behaves : (d : Design) → IsExportable d → BehavesAs (verilog_text d) d
 
--- an accepted design exported is a translation, or refused for its first aggregate
-pub translated : (laws : ExportLaws) (designs : DesignLaws) (passes : List Pass) (contents : List (List ℕ)) (d : Design) (r : Result (List ℕ) OutcomeFail) → Accepted (first_input contents) d → HasRoomToExport d
-    → Exports d r → Gives (verilog passes) contents r
-translated laws designs passes contents d (Ok text) accepted room h =
-    let same : d ≡ result passes d = sym (result_is passes d) in
-    let behaves : BehavesAs text d = subst (λ t. BehavesAs t d) (sym h.1) (laws.behaves d (laws.exportable d accepted.accepted h.0 room)) in
+-- what passes make of an accepted design, exported, is a translation, or refused for its first aggregate
+pub translated : ExportLaws → ResultLaws → (passes : List Pass) (contents : List (List ℕ)) (d e : Design) (r : Result (List ℕ) OutcomeFail) → Accepted (first_input contents) d → Printable d → IsResult passes d e
+    → HasRoomToExport e → Exports e r → Gives (verilog passes) contents r
+translated laws results passes contents d e (Ok text) accepted shown is room h =
+    let after : IsAfter [] d e = results.after passes d e accepted.accepted shown is in
     record {
       design = d;
       accepted = accepted;
-      partners = partners designs passes d accepted.accepted;
-      exported = subst HasNoAggregates same h.0;
-      behaves = subst (BehavesAs text) same behaves;
-      laid_out = h.1 ∙ ap verilog_text same;
+      made = e;
+      result = is;
+      partners = partners d e (results.steady passes d e accepted.accepted shown is);
+      exported = h.0;
+      behaves = subst (λ t. BehavesAs t e) (sym h.1) (laws.behaves e (laws.exportable e after.accepted h.0 room));
+      laid_out = h.1;
     }
-translated laws designs passes contents d (Err (Refused r)) accepted room h =
-    inr (record { design = d; accepted = accepted; missing = ap first_aggregate (result_is passes d) ∙ h })
-translated laws designs passes contents d (Err NoMemory) accepted room h = tt
+translated laws results passes contents d e (Err (Refused r)) accepted shown is room h = inr (record { design = d; accepted = accepted; made = e; result = is; missing = h })
+translated laws results passes contents d e (Err NoMemory) accepted shown is room h = tt
 
 -- what is not read is refused, and what is not verified
 pub unread_taken : (source : List ℕ) (fail : ReadFail) → ReadsDesign (Err fail) (read source) → IsTaken source (Err (read_failure fail))

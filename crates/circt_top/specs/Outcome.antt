@@ -6,7 +6,7 @@ use Rattle.command_line.specs.Line.{Work}
 use Rattle.command_line.specs.Line.Work.{mlir, mlir_pieces, verilog}
 use Rattle.export_verilog.specs.Aggregates.{HasNoAggregates}
 use Rattle.pass_pipeline.specs.declared.pass.Pass.{Pass}
-use Rattle.pass_manager.specs.Results.{result}
+use Rattle.pass_manager.specs.Results.{IsResult}
 use Rattle.circt_top.specs.Accepting.{Accepted, IsAcceptedText, IsRefusedIn, first_input}
 use Rattle.circt_top.specs.Reprint.{IsReprint}
 use Rattle.circt_top.specs.PieceReprint.{IsReprintOfPieces, IsRefusedInPieces, IsAcceptedInPieces}
@@ -34,7 +34,7 @@ IsAnswer (verilog passes) contents (refuses r) = IsRefusedIn 0 (first_input cont
 
 -- bytes are accepted, and passes make a design of theirs that has no aggregates
 abbrev pub IsExportedText : List Pass → List ℕ → Type 0
-IsExportedText passes bytes = (d : Design) × Accepted bytes d × HasNoAggregates (result passes d)
+IsExportedText passes bytes = (d e : Design) × Accepted bytes d × IsResult passes d e × HasNoAggregates e
 
 -- the contents are accepted, as what the work takes
 abbrev pub IsAnswered : Work → List (List ℕ) → Type 0

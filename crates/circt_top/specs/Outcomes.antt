@@ -1,8 +1,11 @@
 -- The parts of an outcome.
-use Rattle.std.specs.Prelude.{ℕ, List, Result, Ok, Err}
+use Rattle.std.specs.Prelude.{◌≡◌, ℕ, List, Result, Ok, Err}
+use Rattle.hw_model.specs.Design.{Design}
 use Rattle.ir_store.specs.Designs.{design_of}
 use Rattle.op_verifier.specs.declared.accepted.Verified.{Verified}
+use Rattle.mlir_printer.specs.Texts.{ir_text}
 use Rattle.pass_pipeline.specs.declared.pass.Pass.{Pass}
+use Rattle.pass_manager.specs.Results.{IsResult}
 use Rattle.circt_top.specs.Accepting.{Accepted, IsRefused, in_file}
 use Rattle.circt_top.specs.Pieces.{Piece, in_whole}
 use Rattle.circt_top.specs.PieceReprint.{ArePrinted, IsPieceRefused, IsFirstRefused}
@@ -48,3 +51,9 @@ GivesPieces passes ps (Err NoMemory) = Unit {0}
 abbrev pub fail_in_file : ℕ → OutcomeFail → OutcomeFail
 fail_in_file number (Refused r) = Refused (in_file number r)
 fail_in_file number NoMemory = NoMemory
+
+-- the text of what passes make of a design
+pub record IsPrinted (passes : List Pass) (d : Design) (text : List ℕ) : Type 0 where
+  pub made : Design
+  pub result : IsResult passes d made
+  pub is : text ≡ ir_text made

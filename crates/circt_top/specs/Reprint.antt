@@ -9,7 +9,7 @@ use Rattle.mlir_reader.specs.Spelling.{Spells}
 use Rattle.op_verifier.specs.Verdict.{IsAccepted}
 use Rattle.mlir_printer.specs.Texts.{ir_text}
 use Rattle.pass_pipeline.specs.declared.pass.Pass.{Pass}
-use Rattle.pass_manager.specs.Results.{result}
+use Rattle.pass_manager.specs.Results.{IsResult}
 use Rattle.circt_top.specs.Accepting.{Accepted}
 use Rattle.circt_top.specs.Partners.{HasPartners}
 
@@ -23,12 +23,14 @@ pub record IsSaidAgain (d : Design) (text : List ℕ) : Type 0 where
   pub behaves : (m : Module) → In m d → Same (machine d m.symbol) (machine again m.symbol)
   pub read_again : length text ≤ text_limit → read text ≡ Ok again
 
--- the text is the input's design printed, as passes make it: the input is accepted, each public module of its design has its
--- partner in what they make of it, and the text says that again
+-- the text is the input's design printed, as passes make it: the input is accepted, this is what they make of its design, each
+-- public module of which has its partner there, and the text says that again
 pub record IsReprint (passes : List Pass) (bytes text : List ℕ) : Type 0 where
   pub design : Design
   pub accepted : Accepted bytes design
-  pub partners : HasPartners design (result passes design)
-  pub said_again : IsSaidAgain (result passes design) text
+  pub made : Design
+  pub result : IsResult passes design made
+  pub partners : HasPartners design made
+  pub said_again : IsSaidAgain made text
   -- and it is laid out so
-  pub laid_out : text ≡ ir_text (result passes design)
+  pub laid_out : text ≡ ir_text made

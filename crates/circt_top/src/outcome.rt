@@ -4,12 +4,13 @@ ghost use Rattle.ir_store.specs.Designs.{design_of};
 ghost use Rattle.command_line.specs.Invocations.{work_of};
 ghost use Rattle.command_line.specs.Line.Work.{mlir, mlir_pieces, verilog};
 ghost use Rattle.canonical_form.specs.Bytes.{AreBytes};
-ghost use Rattle.pass_pipeline.specs.declared.pass.Pass.{Pass};
+ghost use Rattle.op_verifier.specs.Verdict.{IsAccepted};
+ghost use Rattle.pass_manager.specs.Results.{IsResult};
 ghost use Rattle.circt_top.specs.Accepting.{Accepted, first_input};
 ghost use Rattle.circt_top.specs.Reprint.{IsReprint};
 ghost use Rattle.circt_top.specs.Exports.{Exports};
 ghost use Rattle.circt_top.specs.Outcome.{Gives};
-ghost use Rattle.circt_top.specs.Outcomes.{IsTaken, read_failure, verify_failure, fail_in_file, fail_in_whole, IsFailOfPiece, GivesPieces};
+ghost use Rattle.circt_top.specs.Outcomes.{IsTaken, IsPrinted, read_failure, verify_failure, fail_in_file, fail_in_whole, IsFailOfPiece, GivesPieces};
 ghost use Rattle.circt_top.specs.PieceViews.{piece_of};
 ghost use Rattle.diag.specs.Place.{start_place};
 ghost use Rattle.diag.specs.declared.refusal.OpName.TheVariants as op;
@@ -21,13 +22,14 @@ use command_line::invocation::Work;
 use diag::cause::Cause;
 use diag::refusal::{OpName, Place, Refusal};
 use export_verilog::aggregates::first_aggregate;
-use export_verilog::export::export;
+use export_verilog::export::export_design;
 use export_verilog::{
     accepted_designs_are_exportable, exported_designs_behave, stored_designs_have_room,
 };
 use hw_model::{heights_are_acyclic, places_decide_nothing};
 use io_edge::byte_text::Text;
-use mlir_printer::design_text::print_and_drop;
+use ir_store::design::Design;
+use mlir_printer::design_text::{design_text, print_and_drop};
 use mlir_printer::laws::{what_is_canonical_is_printable, what_is_printed_is_read_again};
 use mlir_reader::laws::what_is_read_is_canonical;
 use mlir_reader::read::{MOST_BYTES, read_design};
@@ -36,6 +38,8 @@ use op_verifier::{
     Verified, VerifyFail, accepted_designs_are_sound, places_decide_no_verdict, verify,
 };
 use pass_manager::gate::Gate;
+use pass_manager::{results_follow, results_stay};
+use pass_pipeline::pipeline::Pipeline;
 use std::alloc::{AllocError, Global};
 use std::thread::Threads;
 
@@ -69,48 +73,59 @@ pub(crate) fn outcome<R: Threads + Sync, G: Gate + Sync>(
 ) -> Result<Text, OutcomeFail>
     ensures { Gives (work_of work.now) sources.now result }
 {
-    let _ = gate;
     let source = first_input(sources);
     match work {
-        Work::Mlir(_) => print_whole(alloc, source),
-        Work::MlirPieces(_) => print_pieces(alloc, source),
-        Work::Verilog(_) => translate_whole(rt, alloc, source),
+        Work::Mlir(passes) => print_whole(alloc, source, passes, gate),
+        Work::MlirPieces(passes) => print_pieces(alloc, source, passes, gate),
+        Work::Verilog(passes) => translate_whole(rt, alloc, source, passes, gate),
     }
 }
 
-/// The text of the design that a text says.
-fn print_whole(alloc: Global, source: &[u8]) -> Result<Text, OutcomeFail>
-    ensures { (contents : List (List ℕ)) (passes : List Pass) → first_input contents ≡ source.now → Gives (mlir passes) contents result }
+/// The text of what passes make of the design that a text says.
+fn print_whole<G: Gate>(
+    alloc: Global,
+    source: &[u8],
+    passes: &Pipeline,
+    gate: &G,
+) -> Result<Text, OutcomeFail>
+    ensures { (contents : List (List ℕ)) → first_input contents ≡ source.now → Gives (mlir passes.now) contents result }
 {
     match accept(alloc, source) {
-        Ok(verified) => Ok(reprint(alloc, source, verified)?),
+        Ok(verified) => Ok(reprint(alloc, source, verified, passes, gate)?),
         Err(fail) => Err(fail.in_file(0)),
     }
 }
 
-/// The Verilog of the design that a text says.
-fn translate_whole<R: Threads + Sync>(
+/// The Verilog of what passes make of the design that a text says.
+fn translate_whole<R: Threads + Sync, G: Gate>(
     rt: &R,
     alloc: Global,
     source: &[u8],
+    passes: &Pipeline,
+    gate: &G,
 ) -> Result<Text, OutcomeFail>
-    ensures { (contents : List (List ℕ)) (passes : List Pass) → first_input contents ≡ source.now → Gives (verilog passes) contents result }
+    ensures { (contents : List (List ℕ)) → first_input contents ≡ source.now → Gives (verilog passes.now) contents result }
 {
     match accept(alloc, source) {
-        Ok(verified) => translate(rt, alloc, &verified),
+        Ok(verified) => translate(rt, alloc, verified, passes, gate),
         Err(fail) => Err(fail.in_file(0)),
     }
 }
 
-/// The texts of the designs that the pieces of a text say, joined. The whole text may not be too long.
-fn print_pieces(alloc: Global, source: &[u8]) -> Result<Text, OutcomeFail>
-    ensures { (contents : List (List ℕ)) (passes : List Pass) → first_input contents ≡ source.now → Gives (mlir_pieces passes) contents result }
+/// The texts of what passes make of the designs that the pieces of a text say, joined. The whole text may not be too long.
+fn print_pieces<G: Gate>(
+    alloc: Global,
+    source: &[u8],
+    passes: &Pipeline,
+    gate: &G,
+) -> Result<Text, OutcomeFail>
+    ensures { (contents : List (List ℕ)) → first_input contents ≡ source.now → Gives (mlir_pieces passes.now) contents result }
 {
     if source.len() > MOST_BYTES {
         return Err(OutcomeFail::Refused(too_long()));
     }
     let pieces = pieces_of(alloc, source)?;
-    print_each(alloc, pieces.as_slice())
+    print_each(alloc, pieces.as_slice(), passes, gate)
 }
 
 /// The refusal of a text that is too long.
@@ -125,16 +140,21 @@ fn too_long() -> Refusal
     }
 }
 
-/// The texts of the designs that pieces say, joined, or the first refusal.
-fn print_each(alloc: Global, pieces: &[Piece<'_>]) -> Result<Text, OutcomeFail>
-    ensures { (passes : List Pass) → GivesPieces passes (map piece_of pieces.now) result }
+/// The texts of what passes make of the designs that pieces say, joined, or the first refusal.
+fn print_each<G: Gate>(
+    alloc: Global,
+    pieces: &[Piece<'_>],
+    passes: &Pipeline,
+    gate: &G,
+) -> Result<Text, OutcomeFail>
+    ensures { GivesPieces passes.now (map piece_of pieces.now) result }
 {
     let Some((first, others)) = pieces.split_first() else {
         return Ok(Text::new(alloc));
     };
-    let mut text = print_piece(alloc, first)?;
+    let mut text = print_piece(alloc, first, passes, gate)?;
     for piece in others {
-        match push_piece(alloc, &mut text, piece) {
+        match push_piece(alloc, &mut text, piece, passes, gate) {
             Ok(()) => {}
             Err(fail) => return Err(fail),
         }
@@ -142,24 +162,35 @@ fn print_each(alloc: Global, pieces: &[Piece<'_>]) -> Result<Text, OutcomeFail>
     Ok(text)
 }
 
-/// Adds a line `// -----` and the text of the design that a piece says.
-fn push_piece(alloc: Global, text: &mut Text, piece: &Piece<'_>) -> Result<(), OutcomeFail>
-    ensures printed { OnOk result ((more : List ℕ) × ((passes : List Pass) → IsReprint passes (piece_of piece.now).bytes more) × (text.new ≡ text.old ++ (codes "// -----\n" ++ more))) }
+/// Adds a line `// -----` and the text of what passes make of the design that a piece says.
+fn push_piece<G: Gate>(
+    alloc: Global,
+    text: &mut Text,
+    piece: &Piece<'_>,
+    passes: &Pipeline,
+    gate: &G,
+) -> Result<(), OutcomeFail>
+    ensures printed { OnOk result ((more : List ℕ) × IsReprint passes.now (piece_of piece.now).bytes more × (text.new ≡ text.old ++ (codes "// -----\n" ++ more))) }
     ensures refused { IfErr result (IsFailOfPiece (piece_of piece.now)) }
 {
-    let more = print_piece(alloc, piece)?;
+    let more = print_piece(alloc, piece, passes, gate)?;
     text.push_bytes(b"// -----\n")?;
     text.push_bytes(more.as_bytes())?;
     Ok(())
 }
 
-/// The text of the design that a piece says.
-fn print_piece(alloc: Global, piece: &Piece<'_>) -> Result<Text, OutcomeFail>
-    ensures printed { (passes : List Pass) → IfOk result (IsReprint passes (piece_of piece.now).bytes) }
+/// The text of what passes make of the design that a piece says.
+fn print_piece<G: Gate>(
+    alloc: Global,
+    piece: &Piece<'_>,
+    passes: &Pipeline,
+    gate: &G,
+) -> Result<Text, OutcomeFail>
+    ensures printed { IfOk result (IsReprint passes.now (piece_of piece.now).bytes) }
     ensures refused { IfErr result (IsFailOfPiece (piece_of piece.now)) }
 {
     match accept(alloc, piece.bytes) {
-        Ok(verified) => Ok(reprint(alloc, piece.bytes, verified)?),
+        Ok(verified) => Ok(reprint(alloc, piece.bytes, verified, passes, gate)?),
         Err(fail) => Err(fail.in_whole(piece)),
     }
 }
@@ -235,49 +266,92 @@ fn verify_failure(fail: VerifyFail) -> OutcomeFail
     }
 }
 
-/// The text of the accepted design that a text says.
-fn reprint(alloc: Global, source: &[u8], verified: Verified) -> Result<Text, AllocError>
+/// The text of what passes make of the accepted design that a text says.
+fn reprint<G: Gate>(
+    alloc: Global,
+    source: &[u8],
+    verified: Verified,
+    passes: &Pipeline,
+    gate: &G,
+) -> Result<Text, AllocError>
     requires { Accepted source.now (design_of verified.design) }
-    ensures { (passes : List Pass) → IfOk result (IsReprint passes source.now) }
+    ensures { IfOk result (IsReprint passes.now source.now) }
 {
+    results_follow();
     what_is_canonical_is_printable();
     what_is_printed_is_read_again();
     accepted_designs_are_sound();
     places_decide_no_verdict();
     heights_are_acyclic();
     places_decide_nothing();
-    print_and_drop(alloc, verified)
+    print_result(alloc, verified, passes, gate)
 }
 
-/// The Verilog of an accepted design, of any text that says it, or the refusal of its first header or operation with an aggregate.
-fn translate<R: Threads + Sync>(
+/// The text of what passes make of a verified design; where there are none, each body's memory is given back as soon as it is
+/// printed.
+fn print_result<G: Gate>(
+    alloc: Global,
+    verified: Verified,
+    passes: &Pipeline,
+    gate: &G,
+) -> Result<Text, AllocError>
+    ensures { IfOk result (IsPrinted passes.now (design_of verified.design)) }
+{
+    if passes.as_slice().is_empty() {
+        return print_and_drop(alloc, verified);
+    }
+    let made = passes_result(alloc, verified, passes, gate)?;
+    design_text(alloc, &made)
+}
+
+/// What passes make of a verified design.
+fn passes_result<G: Gate>(
+    alloc: Global,
+    verified: Verified,
+    passes: &Pipeline,
+    gate: &G,
+) -> Result<Design, AllocError>
+    ensures { IfOk result (λ made. IsResult passes.now (design_of verified.design) (design_of made)) }
+{
+    let _ = alloc;
+    let _ = passes;
+    let _ = gate;
+    results_stay();
+    Ok(verified.into_design())
+}
+
+/// The Verilog of what passes make of an accepted design, of any text that says it, or the refusal of its first header or
+/// operation with an aggregate.
+fn translate<R: Threads + Sync, G: Gate>(
     rt: &R,
     alloc: Global,
-    verified: &Verified,
+    verified: Verified,
+    passes: &Pipeline,
+    gate: &G,
 ) -> Result<Text, OutcomeFail>
-    ensures { (contents : List (List ℕ)) (passes : List Pass) → Accepted (first_input contents) (design_of verified.now.design) → Gives (verilog passes) contents result }
+    ensures { (contents : List (List ℕ)) → Accepted (first_input contents) (design_of verified.design) → Gives (verilog passes.now) contents result }
 {
+    what_is_canonical_is_printable();
+    results_follow();
+    let made = passes_result(alloc, verified, passes, gate)?;
     accepted_designs_are_exportable();
     exported_designs_behave();
-    stored_designs_have_room(verified.design());
-    accepted_designs_are_sound();
-    places_decide_no_verdict();
-    heights_are_acyclic();
-    places_decide_nothing();
-    export_text(rt, alloc, verified)
+    stored_designs_have_room(&made);
+    export_text(rt, alloc, &made)
 }
 
 /// The Verilog text of a design without aggregates, or the refusal of its first header or operation that has one.
 fn export_text<R: Threads + Sync>(
     rt: &R,
     alloc: Global,
-    verified: &Verified,
+    design: &Design,
 ) -> Result<Text, OutcomeFail>
-    ensures { Exports (design_of verified.now.design) result }
+    requires { IsAccepted (design_of design.now) }
+    ensures { Exports (design_of design.now) result }
 {
-    match first_aggregate(alloc, verified.design())? {
+    match first_aggregate(alloc, design)? {
         Some(refusal) => Err(OutcomeFail::Refused(refusal)),
-        None => Ok(export(rt, alloc, verified)?),
+        None => Ok(export_design(rt, alloc, design)?),
     }
 }
 

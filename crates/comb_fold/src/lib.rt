@@ -5,6 +5,7 @@
 pub mod constants;
 pub mod edits;
 mod laws;
+pub mod pattern;
 pub mod reading;
 pub mod site;
 

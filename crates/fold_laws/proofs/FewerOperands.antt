@@ -33,9 +33,9 @@ use Rattle.accepted_edits.specs.Forms.{InPlaceFits}
 use Rattle.accepted_edits.specs.Keeps.{IsFit}
 use Rattle.accepted_edits.proofs.ChangedInPlace.{fit_in_place}
 use Rattle.accepted_edits.proofs.FitBodies.{operand_there, settled_here}
-use Rattle.pass_manager.specs.Steady.{IsSteady}
-use Rattle.pass_manager.proofs.Shapes.{shape_set}
-use Rattle.pass_manager.proofs.Steady.{steady_with_body}
+use Rattle.pass_laws.specs.Steady.{IsSteady}
+use Rattle.pass_laws.proofs.Shapes.{shape_set}
+use Rattle.pass_laws.proofs.Steady.{steady_with_body}
 use Rattle.fold_laws.specs.Constants.{constant_at}
 use Rattle.fold_laws.specs.Edits.{Edit, edited_by, fold_by}
 use Rattle.fold_laws.specs.Edits.Edit.{changed}

@@ -23,8 +23,8 @@ use Rattle.hw_edits.proofs.Weights.{out_is_lighter}
 use Rattle.accepted_edits.specs.Forms.{ErasedFits}
 use Rattle.accepted_edits.specs.Keeps.{IsFit}
 use Rattle.accepted_edits.proofs.TakenOut.{fit_erased}
-use Rattle.pass_manager.proofs.Shapes.{shape_erase}
-use Rattle.pass_manager.proofs.Steady.{steady_with_body}
+use Rattle.pass_laws.proofs.Shapes.{shape_erase}
+use Rattle.pass_laws.proofs.Steady.{steady_with_body}
 use Rattle.fold_laws.specs.Edits.{Edit, edited_by, fold_by}
 use Rattle.fold_laws.specs.Edits.Edit.{erased}
 use Rattle.fold_laws.specs.Fold.{IsFold, FoldLaw}

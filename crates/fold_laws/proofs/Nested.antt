@@ -27,9 +27,9 @@ use Rattle.accepted_edits.specs.Forms.{InPlaceFits}
 use Rattle.accepted_edits.specs.Keeps.{IsFit}
 use Rattle.accepted_edits.proofs.ChangedInPlace.{fit_in_place}
 use Rattle.accepted_edits.proofs.FitBodies.{operand_there}
-use Rattle.pass_manager.specs.Steady.{IsSteady}
-use Rattle.pass_manager.proofs.Shapes.{shape_set}
-use Rattle.pass_manager.proofs.Steady.{steady_then, steady_with_body}
+use Rattle.pass_laws.specs.Steady.{IsSteady}
+use Rattle.pass_laws.proofs.Shapes.{shape_set}
+use Rattle.pass_laws.proofs.Steady.{steady_then, steady_with_body}
 use Rattle.fold_laws.specs.Fold.{op_measure, measure, IsFold}
 use Rattle.fold_laws.specs.Nested.{Nested, uses_among, use_count}
 use Rattle.fold_laws.specs.Unused.{is_pure, is_used}

@@ -22,8 +22,8 @@ use Rattle.hw_edits.proofs.Weights.{place_is_lighter}
 use Rattle.accepted_edits.specs.Forms.{InPlaceFits}
 use Rattle.accepted_edits.specs.Keeps.{IsFitting, IsFit}
 use Rattle.accepted_edits.proofs.ChangedInPlace.{fit_in_place}
-use Rattle.pass_manager.proofs.Shapes.{shape_set}
-use Rattle.pass_manager.proofs.Steady.{steady_with_body}
+use Rattle.pass_laws.proofs.Shapes.{shape_set}
+use Rattle.pass_laws.proofs.Steady.{steady_with_body}
 use Rattle.fold_laws.specs.Edits.{Edit, edited_by, fold_by}
 use Rattle.fold_laws.specs.Edits.Edit.{replaced}
 use Rattle.fold_laws.specs.Fold.{kind_measure, IsFold, FoldLaw}

@@ -34,8 +34,8 @@ use Rattle.accepted_edits.specs.Keeps.{IsPrintableBody, IsFit}
 use Rattle.accepted_edits.proofs.Accepted.{each_at, fit_found}
 use Rattle.accepted_edits.proofs.FitBodies.{own_cause_none, operand_there, settled_here}
 use Rattle.accepted_edits.proofs.TakenOut.{fit_erased}
-use Rattle.pass_manager.proofs.Shapes.{shape_erase}
-use Rattle.pass_manager.proofs.Steady.{steady_with_body}
+use Rattle.pass_laws.proofs.Shapes.{shape_erase}
+use Rattle.pass_laws.proofs.Steady.{steady_with_body}
 use Rattle.fold_laws.specs.Constants.{constant_at}
 use Rattle.fold_laws.specs.Edits.{Edit, edited_by, fold_by}
 use Rattle.fold_laws.specs.Edits.Edit.{erased}

@@ -30,9 +30,9 @@ use Rattle.hw_edits.proofs.Inserted.{insert_op_preserves}
 use Rattle.hw_edits.proofs.Weights.{weight-set, weight_with_body}
 use Rattle.accepted_edits.specs.Keeps.{IsFitting, IsFit}
 use Rattle.accepted_edits.proofs.PutIn.{fit_inserted}
-use Rattle.pass_manager.specs.Steady.{IsSteady}
-use Rattle.pass_manager.proofs.Shapes.{shape_insert}
-use Rattle.pass_manager.proofs.Steady.{steady_then, steady_with_body}
+use Rattle.pass_laws.specs.Steady.{IsSteady}
+use Rattle.pass_laws.proofs.Shapes.{shape_insert}
+use Rattle.pass_laws.proofs.Steady.{steady_then, steady_with_body}
 use Rattle.fold_laws.specs.ConstantOperands.{with_word, constants_among, joined_number, with_first_as, with_two_as, with_joined, joining_edits, fold_two_constants}
 use Rattle.fold_laws.specs.Constants.{first_result_word, constant_word, constant_at}
 use Rattle.fold_laws.specs.Edits.{Edit, edited_by, fold_by}

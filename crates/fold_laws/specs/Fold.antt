@@ -8,7 +8,7 @@ use Rattle.hw_model.specs.Design.{Ref, Op, Module, Design}
 use Rattle.hw_model.specs.Weight.{weight}
 use Rattle.hw_edits.specs.Laws.{with_body}
 use Rattle.accepted_edits.specs.Keeps.{IsFit}
-use Rattle.pass_manager.specs.Steady.{IsSteady}
+use Rattle.pass_laws.specs.Steady.{IsSteady}
 use Rattle.fold_laws.specs.Constants.{constant_at}
 
 -- a row of the table of folds: what it makes of a module's body at the operation of a position; None where it does not

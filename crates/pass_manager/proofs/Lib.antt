@@ -1,8 +1,2 @@
 -- Lemmas.
-pub mod Those
-pub mod Remaining
-pub mod Unchanged
-pub mod Composed
-pub mod Shapes
-pub mod Steady
 pub mod Results

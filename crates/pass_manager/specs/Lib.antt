@@ -1,4 +1,1 @@
-pub mod PassLaw
-pub mod Remaining
 pub mod Results
-pub mod Steady

@@ -1,58 +1,30 @@
-//! The laws of passes, each a clause of a function that does nothing.
+//! The laws of lists of passes, each a clause of a function that does nothing.
 
-ghost use Rattle.std.specs.Prelude.{◌≡◌, ◌≤◌, ℕ, true, false, List, [], ◌∷◌, ◌++◌, set, Some, slice_get};
-ghost use Rattle.wiring.specs.Wiring.{In};
+ghost use Rattle.std.specs.Prelude.{◌≡◌, ◌≤◌, List, []};
 ghost use Rattle.hw_model.specs.Types.{Name};
-ghost use Rattle.hw_model.specs.Design.{Ref, Op, Module, Design, is_register, result_type};
+ghost use Rattle.hw_model.specs.Design.{Design};
 ghost use Rattle.hw_model.specs.Weight.{weight};
 ghost use Rattle.op_verifier.specs.Verdict.{IsAccepted};
-ghost use Rattle.hw_edits.specs.Edit.{is_anchor};
-ghost use Rattle.hw_edits.specs.Follows.{Follows};
-ghost use Rattle.hw_edits.specs.Laws.{erase_op, insert_op, with_body};
-ghost use Rattle.accepted_edits.specs.Keeps.{IsFit};
+ghost use Rattle.mlir_printer.specs.Printable.{Printable};
 ghost use Rattle.pass_pipeline.specs.declared.pass.Pass.{Pass};
-ghost use Rattle.pass_manager.specs.Remaining.{is_flatten, is_symbol_dce, is_lowering, has_pass};
-ghost use Rattle.pass_manager.specs.PassLaw.{IsAfter, PassLaw};
-ghost use Rattle.pass_manager.specs.Steady.{SameShape, IsSteady};
-ghost use Rattle.pass_manager.specs.Results.{chosen, result as result_of};
+ghost use Rattle.pass_laws.specs.PassLaw.{IsAfter};
+ghost use Rattle.pass_laws.specs.Steady.{IsSteady};
+ghost use Rattle.pass_manager.specs.Results.{IsResult};
 
-/// Does nothing. Its clause says that what makes nothing else of a design meets the law of each list of passes that may
-/// leave a design as it is.
-pub fn identity_keeps()
-    ensures { (passes : List Pass) → has_pass is_flatten passes ≡ false → has_pass is_symbol_dce passes ≡ false → has_pass is_lowering passes ≡ false
-        → PassLaw passes (λ (d : Design). d) }
+/// Does nothing. Its clause says that a design stays as it is where no pass of a list is on offer.
+pub fn results_stay()
+    ensures { (passes : List Pass) (d : Design) → IsResult passes d d }
 {}
 
-/// Does nothing. Its clause says that where one law holds of what is made first, and another of what is made of that, the
-/// law of both lists of passes holds of what is made by both.
-pub fn laws_compose()
-    ensures { (first second : List Pass) (f g : Design → Design) → PassLaw first f → PassLaw second g → PassLaw (first ++ second) (λ (d : Design). g (f d)) }
+/// Does nothing. Its clause says that a list of passes makes one design of each.
+pub fn result_once()
+    ensures { (passes : List Pass) (d e f : Design) → IsResult passes d e → IsResult passes d f → e ≡ f }
 {}
 
-/// Does nothing. Its clause says that where the law of each pass of a list holds of what it makes, the law of the list
-/// holds of its result.
-pub fn result_keeps()
-    ensures { (passes : List Pass) → ((pass : Pass) → In pass passes → PassLaw (pass ∷ []) (chosen pass)) → PassLaw passes (result_of passes) }
-{}
-
-/// Does nothing. Its clauses say of designs that follow from one another by edits of bodies: each fit one does from itself,
-/// one after another they do, an edit of one body leads to one where the design follows, is fit, and the body has its shape;
-/// and where no module is heavier the law of passes that keep all modules holds of the last one.
-pub fn steady_designs_compose()
-    ensures itself { (d : Design) → IsFit d → IsSteady d d }
-    ensures composes { (d e f : Design) → IsSteady d e → IsSteady e f → IsSteady d f }
-    ensures edit { (d : Design) (k : ℕ) (m : Module) (os : List Op) → slice_get d k ≡ Some m → Follows d (with_body d k m os) → IsFit (with_body d k m os)
-        → SameShape m.body os → IsSteady d (with_body d k m os) }
-    ensures after { (passes : List Pass) (d e : Design) → has_pass is_flatten passes ≡ false → has_pass is_symbol_dce passes ≡ false
-        → has_pass is_lowering passes ≡ false → IsAccepted d → IsSteady d e → ((s : Name) → weight e s ≤ weight d s) → IsAfter passes d e }
-{}
-
-/// Does nothing. Its clauses say that a body keeps its shape where an operation that is no register, no instance and no
-/// output is changed in place, taken out or put in, and where a register is changed to one of the same type.
-pub fn edits_keep_shape()
-    ensures place { (os : List Op) (i : ℕ) (o new : Op) → slice_get os i ≡ Some o → is_anchor o ≡ false → is_anchor new ≡ false → SameShape os (set os i new) }
-    ensures erased { (os : List Op) (i : ℕ) (o : Op) (x : Ref) → slice_get os i ≡ Some o → is_anchor o ≡ false → SameShape os (erase_op i x os) }
-    ensures inserted { (os : List Op) (i : ℕ) (o : Op) → is_anchor o ≡ false → SameShape os (insert_op i o os) }
-    ensures register { (o new : Op) → is_register o ≡ true → is_register new ≡ true → result_type new 0 ≡ result_type o 0 → (os : List Op) (i : ℕ)
-        → slice_get os i ≡ Some o → SameShape os (set os i new) }
+/// Does nothing. Its clauses say of what a list of passes makes of an accepted, printable design that it has its headers,
+/// registers and instances and does what it did, that it is accepted and printable, and that no module is heavier.
+pub fn results_follow()
+    ensures steady { (passes : List Pass) (d e : Design) → IsAccepted d → Printable d → IsResult passes d e → IsSteady d e }
+    ensures after { (passes : List Pass) (d e : Design) → IsAccepted d → Printable d → IsResult passes d e → IsAfter [] d e }
+    ensures lighter { (passes : List Pass) (d e : Design) → IsAccepted d → Printable d → IsResult passes d e → (s : Name) → weight e s ≤ weight d s }
 {}

@@ -6,12 +6,12 @@ use Rattle.circt_top.proofs.outcome.outcome.Goals as goal
 
 pub returns-in-Mlir : goal.returns-in-Mlir
 returns-in-Mlir g c =
-    subst (λ (w : Work). Gives (work_of w) c.args.sources.now c.print_whole.result) (sym c.in-Mlir.is) (c.print_whole.ensures c.args.sources.now c.in-Mlir.field-0 (sym c.first_input-source.ensures))
+    subst (λ (w : Work). Gives (work_of w) c.args.sources.now c.print_whole.result) (sym c.in-Mlir.is) (c.print_whole.ensures c.args.sources.now (sym c.first_input-source.ensures))
 
 pub returns-in-MlirPieces : goal.returns-in-MlirPieces
 returns-in-MlirPieces g c =
-    subst (λ (w : Work). Gives (work_of w) c.args.sources.now c.print_pieces.result) (sym c.in-MlirPieces.is) (c.print_pieces.ensures c.args.sources.now c.in-MlirPieces.field-0 (sym c.first_input-source.ensures))
+    subst (λ (w : Work). Gives (work_of w) c.args.sources.now c.print_pieces.result) (sym c.in-MlirPieces.is) (c.print_pieces.ensures c.args.sources.now (sym c.first_input-source.ensures))
 
 pub returns-in-Verilog : goal.returns-in-Verilog
 returns-in-Verilog g c =
-    subst (λ (w : Work). Gives (work_of w) c.args.sources.now c.translate_whole.result) (sym c.in-Verilog.is) (c.translate_whole.ensures c.args.sources.now c.in-Verilog.field-0 (sym c.first_input-source.ensures))
+    subst (λ (w : Work). Gives (work_of w) c.args.sources.now c.translate_whole.result) (sym c.in-Verilog.is) (c.translate_whole.ensures c.args.sources.now (sym c.first_input-source.ensures))

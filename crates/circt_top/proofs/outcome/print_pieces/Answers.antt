@@ -7,8 +7,8 @@ use Rattle.circt_top.proofs.PieceTexts.{pieces_give}
 use Rattle.circt_top.proofs.outcome.print_pieces.Goals as goal
 
 pub returns : goal.returns
-returns c = λ contents passes e.
+returns g c = λ contents e.
     let pieces : map piece_of c.as_slice.result.now ≡ pieces_of (first_input contents) =
     ap (map piece_of) c.as_slice.ensures.value ∙ c.in_ok-pieces.ensures ∙ ap pieces_of (sym e) in
-    pieces_give passes contents c.print_each.result (rw e (omega (arith, c.if-source-gt-MOST_BYTES.false)))
-    (subst (λ ps. GivesPieces passes ps c.print_each.result) pieces (c.print_each.ensures passes))
+    pieces_give c.args.passes.now contents c.print_each.result (rw e (omega (arith, c.if-source-gt-MOST_BYTES.false)))
+    (subst (λ ps. GivesPieces c.args.passes.now ps c.print_each.result) pieces c.print_each.ensures)

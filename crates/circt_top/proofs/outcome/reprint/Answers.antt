@@ -1,14 +1,13 @@
-use Rattle.std.proofs.Common.{◌≡◌}
 use Rattle.std.proofs.lemmas.Result.{IfOk-weaker}
 use Rattle.ir_store.specs.Designs.{design_of}
-use Rattle.mlir_printer.specs.Texts.{ir_text}
+use Rattle.circt_top.specs.Outcomes.{IsPrinted}
 use Rattle.circt_top.specs.Reprint.{IsReprint}
 use Rattle.circt_top.proofs.Outcomes.{reprinted}
 use Rattle.circt_top.proofs.outcome.reprint.Goals as goal
 
 pub returns : goal.returns
-returns c = λ passes.
-    IfOk-weaker c.print_and_drop.result (λ text. text ≡ ir_text (design_of c.args.verified.design)) (IsReprint passes c.args.source.now)
+returns g c =
+    IfOk-weaker c.print_result.result (IsPrinted c.args.passes.now (design_of c.args.verified.design)) (IsReprint c.args.passes.now c.args.source.now)
     (reprinted
     (record {
       printable = c.what_is_canonical_is_printable.ensures;
@@ -21,5 +20,6 @@ returns c = λ passes.
       placeless = c.places_decide_no_verdict.ensures;
       same = c.places_decide_nothing.ensures;
     })
-    c.args.source.now (design_of c.args.verified.design) c.args.verified.canonical c.requires passes)
-    c.print_and_drop.ensures.laid_out
+    (record { steady = c.results_follow.ensures.steady; after = c.results_follow.ensures.after })
+    c.args.source.now (design_of c.args.verified.design) c.args.verified.canonical c.requires c.args.passes.now)
+    c.print_result.ensures

@@ -1,21 +1,16 @@
-use Rattle.std.proofs.Common.{◌≡◌, subst, ap, map}
-use Rattle.hw_model.specs.Design.{Design}
-use Rattle.ir_store.specs.Designs.{design_of, numbered_module}
-use Rattle.export_verilog.specs.Room.{HasRoomToExport}
+use Rattle.ir_store.specs.Designs.{design_of}
 use Rattle.circt_top.proofs.Outcomes.{translated}
 use Rattle.circt_top.proofs.outcome.translate.Goals as goal
 
+pub export_text-requires : goal.export_text-requires
+export_text-requires g c =
+    let d = design_of c.args.verified.design in
+    let shown = c.what_is_canonical_is_printable.ensures d c.args.verified.accepted c.args.verified.canonical in
+    (c.type_bounds.sync-R, (c.results_follow.ensures.after c.args.passes.now d (design_of c.in_ok-made.made) c.args.verified.accepted shown c.in_ok-made.ensures).accepted)
+
 pub returns : goal.returns
-returns g c =
-    let same : design_of c.design.result.now ≡ design_of c.args.verified.now.design = ap (map numbered_module) c.design.ensures in
-    λ contents passes accepted. translated
-    (record { exportable = c.accepted_designs_are_exportable.ensures; behaves = c.exported_designs_behave.ensures })
-    (record {
-      finite = c.accepted_designs_are_sound.ensures.finite;
-      acyclic = c.accepted_designs_are_sound.ensures.acyclic;
-      heights = c.heights_are_acyclic.ensures.heights;
-      placeless = c.places_decide_no_verdict.ensures;
-      same = c.places_decide_nothing.ensures;
-    })
-    passes contents (design_of c.args.verified.now.design) c.export_text.result accepted
-    (subst (λ (d : Design). HasRoomToExport d) same c.stored_designs_have_room.ensures) c.export_text.ensures
+returns g c = λ contents accepted.
+    translated (record { exportable = c.accepted_designs_are_exportable.ensures; behaves = c.exported_designs_behave.ensures })
+    (record { steady = c.results_follow.ensures.steady; after = c.results_follow.ensures.after })
+    c.args.passes.now contents (design_of c.args.verified.design) (design_of c.in_ok-made.made) c.export_text.result accepted
+    (c.what_is_canonical_is_printable.ensures (design_of c.args.verified.design) accepted.accepted c.args.verified.canonical) c.in_ok-made.ensures c.stored_designs_have_room.ensures c.export_text.ensures

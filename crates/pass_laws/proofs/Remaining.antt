@@ -8,9 +8,9 @@ use Rattle.hw_model.specs.Equality.{name_self}
 use Rattle.hw_model.specs.Hierarchy.{calls}
 use Rattle.hw_model.proofs.Finite.{module_found, calls_within}
 use Rattle.pass_pipeline.specs.declared.pass.Pass.{Pass}
-use Rattle.pass_manager.specs.Remaining.{is_flatten, is_symbol_dce, has_pass, symbols, IsPublic, IsReached, Remains, IsKept}
-use Rattle.pass_manager.specs.PassLaw.{InstancesStay, IsAfter}
-use Rattle.pass_manager.proofs.Those.{those_were, those_stay}
+use Rattle.pass_laws.specs.Remaining.{is_flatten, is_symbol_dce, has_pass, symbols, IsPublic, IsReached, Remains, IsKept}
+use Rattle.pass_laws.specs.PassLaw.{InstancesStay, IsAfter}
+use Rattle.pass_laws.proofs.Those.{those_were, those_stay}
 
 -- ---- lists of passes
 

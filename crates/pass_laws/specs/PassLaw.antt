@@ -10,7 +10,7 @@ use Rattle.hw_model.specs.Weight.{weight}
 use Rattle.op_verifier.specs.Verdict.{IsAccepted}
 use Rattle.mlir_printer.specs.Printable.{Printable}
 use Rattle.pass_pipeline.specs.declared.pass.Pass.{Pass}
-use Rattle.pass_manager.specs.Remaining.{is_flatten, has_pass, symbols, IsPublic, IsKept, AreThose, AreWithin}
+use Rattle.pass_laws.specs.Remaining.{is_flatten, has_pass, symbols, IsPublic, IsKept, AreThose, AreWithin}
 
 -- ---- the look of a module
 
@@ -53,6 +53,6 @@ pub record IsAfter (passes : List Pass) (d e : Design) : Type 0 where
   pub modules : (s : Name) (m n : Module) → find_module d s ≡ Some m → find_module e s ≡ Some n → IsModuleAfter passes d e s m n
   pub same : (s : Name) → IsPublic d s → Same (machine d s) (machine e s)
 
--- what is made of each accepted and printable design is left of it by passes
-abbrev pub PassLaw : List Pass → (Design → Design) → Type 0
-PassLaw passes made = (d : Design) → IsAccepted d → Printable d → IsAfter passes d (made d)
+-- whatever a relation has for an accepted and printable design is left of it by passes
+abbrev pub PassLaw : List Pass → (Design → Design → Type 0) → Type 0
+PassLaw passes Makes = (d e : Design) → IsAccepted d → Printable d → Makes d e → IsAfter passes d e

@@ -1,6 +1,5 @@
 -- Laws of passes one after another.
-use Rattle.std.proofs.Common.{◌≡◌, Bool, true, false, ◌||◌, List, [], ◌∷◌, ◌++◌, Some, ◌≤◌, refl, sym, subst, ◌∙◌, inl, inr, arith}
-use Rattle.wiring.specs.Wiring.{In}
+use Rattle.std.proofs.Common.{◌≡◌, Bool, true, false, ◌||◌, List, ◌++◌, Some, ◌≤◌, refl, sym, subst, ◌∙◌, arith}
 use Rattle.hw_model.specs.Types.{Name}
 use Rattle.hw_model.specs.Design.{Module, Design, find_module}
 use Rattle.hw_model.specs.Hierarchy.{calls}
@@ -9,12 +8,10 @@ use Rattle.hw_model.specs.Weight.{weight}
 use Rattle.hw_model.proofs.Finite.{module_found}
 use Rattle.hw_model.proofs.Machines.{same_then}
 use Rattle.pass_pipeline.specs.declared.pass.Pass.{Pass}
-use Rattle.pass_manager.specs.Results.{chosen, result}
-use Rattle.pass_manager.specs.Remaining.{is_flatten, is_symbol_dce, has_pass, symbols, IsPublic, IsKept, Remains, AreThose, AreWithin}
-use Rattle.pass_manager.specs.PassLaw.{InstancesStay, IsModuleAfter, IsAfter, PassLaw}
-use Rattle.pass_manager.proofs.Those.{those_were, those_meet, those_same, those_then, within_then, within_those}
-use Rattle.pass_manager.proofs.Remaining.{has_pass-append, symbol_found, public_after, public_before, remains_both, remained_first, remained_second}
-use Rattle.pass_manager.proofs.Unchanged.{identity_keeps}
+use Rattle.pass_laws.specs.Remaining.{is_flatten, is_symbol_dce, has_pass, symbols, IsPublic, IsKept, Remains, AreThose, AreWithin}
+use Rattle.pass_laws.specs.PassLaw.{InstancesStay, IsModuleAfter, IsAfter}
+use Rattle.pass_laws.proofs.Those.{those_were, those_meet, those_same, those_then, within_then, within_those}
+use Rattle.pass_laws.proofs.Remaining.{has_pass-append, symbol_found, public_after, public_before, remains_both, remained_first, remained_second}
 
 module _ (ps qs : List Pass) (d e f : Design) (first : IsAfter ps d e) (second : IsAfter qs e f) where
   symbols_both : AreThose (IsKept (ps ++ qs) d) (symbols d) (symbols f)
@@ -55,7 +52,7 @@ module _ (ps qs : List Pass) (d e f : Design) (first : IsAfter ps d e) (second :
         weight = omega arith;
       }
 
-  after_both : IsAfter (ps ++ qs) d f
+  pub after_both : IsAfter (ps ++ qs) d f
   after_both = record {
     accepted = second.accepted;
     printable = second.printable;
@@ -63,13 +60,3 @@ module _ (ps qs : List Pass) (d e f : Design) (first : IsAfter ps d e) (second :
     modules = module_both;
     same = λ s public. same_then (machine d s) (machine e s) (machine f s) (first.same s public) (second.same s (public_after ps d e first s public));
   }
-
-pub laws_compose : (ps qs : List Pass) (f g : Design → Design) → PassLaw ps f → PassLaw qs g → PassLaw (ps ++ qs) (λ (d : Design). g (f d))
-laws_compose ps qs f g one two d accepted printable =
-    let first : IsAfter ps d (f d) = one d accepted printable in
-    after_both ps qs d (f d) (g (f d)) first (two (f d) first.accepted first.printable)
-
-pub result_keeps : (passes : List Pass) → ((pass : Pass) → In pass passes → PassLaw (pass ∷ []) (chosen pass)) → PassLaw passes (result passes)
-result_keeps [] each = identity_keeps [] refl refl refl
-result_keeps (pass ∷ passes) each =
-    laws_compose (pass ∷ []) passes (chosen pass) (result passes) (each pass (inl refl)) (result_keeps passes (λ p here. each p (inr here)))

@@ -7,7 +7,7 @@ use Rattle.hw_model.specs.Hierarchy.{callee_symbols, calls}
 use Rattle.hw_model.specs.Machine.{Same}
 use Rattle.hw_model.specs.Meaning.{machine}
 use Rattle.accepted_edits.specs.Keeps.{IsFit}
-use Rattle.pass_manager.specs.PassLaw.{register_types}
+use Rattle.pass_laws.specs.PassLaw.{register_types}
 
 -- ---- the shape of a body
 

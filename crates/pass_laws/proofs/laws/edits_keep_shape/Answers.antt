@@ -1,5 +1,5 @@
-use Rattle.pass_manager.proofs.Shapes.{shape_set, shape_erase, shape_insert, shape_register}
-use Rattle.pass_manager.proofs.laws.edits_keep_shape.Goals as goal
+use Rattle.pass_laws.proofs.Shapes.{shape_set, shape_erase, shape_insert, shape_register}
+use Rattle.pass_laws.proofs.laws.edits_keep_shape.Goals as goal
 
 pub returns-clause-place : goal.returns-clause-place
 returns-clause-place c = shape_set

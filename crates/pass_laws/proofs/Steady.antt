@@ -16,12 +16,12 @@ use Rattle.hw_edits.proofs.Follows.{valid_settles, set_each}
 use Rattle.accepted_edits.specs.Keeps.{IsFit}
 use Rattle.accepted_edits.proofs.NameCounts.{accepted_again}
 use Rattle.pass_pipeline.specs.declared.pass.Pass.{Pass}
-use Rattle.pass_manager.specs.PassLaw.{InstancesStay, IsAfter}
-use Rattle.pass_manager.specs.Remaining.{is_flatten, is_symbol_dce, is_lowering, has_pass, symbols, IsKept, AreThose}
-use Rattle.pass_manager.specs.Steady.{SameShape, SameHeader, SameHeaders, IsSteady}
-use Rattle.pass_manager.proofs.Shapes.{types_held, held_same}
-use Rattle.pass_manager.proofs.Those.{all_those}
-use Rattle.pass_manager.proofs.Unchanged.{all_remain}
+use Rattle.pass_laws.specs.PassLaw.{InstancesStay, IsAfter}
+use Rattle.pass_laws.specs.Remaining.{is_flatten, is_symbol_dce, is_lowering, has_pass, symbols, IsKept, AreThose}
+use Rattle.pass_laws.specs.Steady.{SameShape, SameHeader, SameHeaders, IsSteady}
+use Rattle.pass_laws.proofs.Shapes.{types_held, held_same}
+use Rattle.pass_laws.proofs.Those.{all_those}
+use Rattle.pass_laws.proofs.Unchanged.{all_remain}
 
 -- ---- headers
 

@@ -2,7 +2,7 @@
 use Rattle.std.proofs.Common.{List, [], ◌∷◌, refl, sym, subst, inl, inr}
 use Rattle.wiring.specs.Wiring.{In}
 use Rattle.hw_model.specs.Types.{Name}
-use Rattle.pass_manager.specs.Remaining.{AreThose, AreWithin}
+use Rattle.pass_laws.specs.Remaining.{AreThose, AreWithin}
 
 module _ (P : Name → Type 0) where
   pub all_those : (xs : List Name) → ((x : Name) → P x) → AreThose P xs xs

@@ -17,7 +17,7 @@ use Rattle.hw_edits.specs.Laws.{up_ref, without, erase_op, insert_op}
 use Rattle.hw_edits.proofs.Anchors.{called_follow}
 use Rattle.hw_edits.proofs.OtherOperands.{map_retarget_id}
 use Rattle.hw_edits.proofs.Positions.{anchors-retarget, anchors-insert, anchors-remove, anchors-set}
-use Rattle.pass_manager.specs.Steady.{instance_held, op_held, body_held, SameShape}
+use Rattle.pass_laws.specs.Steady.{instance_held, op_held, body_held, SameShape}
 
 -- ---- the registers of a module
 

@@ -1,5 +1,5 @@
-use Rattle.pass_manager.proofs.Steady.{steady_self, steady_then, steady_with_body, steady_is_after}
-use Rattle.pass_manager.proofs.laws.steady_designs_compose.Goals as goal
+use Rattle.pass_laws.proofs.Steady.{steady_self, steady_then, steady_with_body, steady_is_after}
+use Rattle.pass_laws.proofs.laws.steady_designs_compose.Goals as goal
 
 pub returns-clause-itself : goal.returns-clause-itself
 returns-clause-itself c = steady_self

@@ -1,0 +1,7 @@
+-- Lemmas.
+pub mod Those
+pub mod Remaining
+pub mod Unchanged
+pub mod Composed
+pub mod Shapes
+pub mod Steady

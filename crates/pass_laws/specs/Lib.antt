@@ -1,0 +1,3 @@
+pub mod PassLaw
+pub mod Remaining
+pub mod Steady

@@ -1,5 +1,0 @@
-use Rattle.pass_manager.proofs.Unchanged.{identity_keeps}
-use Rattle.pass_manager.proofs.laws.identity_keeps.Goals as goal
-
-pub returns : goal.returns
-returns c = identity_keeps
