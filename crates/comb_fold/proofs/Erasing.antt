@@ -33,7 +33,7 @@ module _ {A : Type 0} (f g h : A → A) (same : (x : A) → f (g x) ≡ h x) whe
 -- ---- values
 
 -- a value that stands for the first result, once the operation is gone
-stand_pulled : (i : ℕ) (x : Ref) → pulled_ref i x ≡ without i undefined x
+pub stand_pulled : (i : ℕ) (x : Ref) → pulled_ref i x ≡ without i undefined x
 stand_pulled i (port n) = refl
 stand_pulled i undefined = refl
 stand_pulled i (result j k) = ap (λ z. result_at z k) (sym (down-erase i j)) ∙ go (down i j) k

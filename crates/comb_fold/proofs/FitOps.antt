@@ -1,5 +1,5 @@
 -- What is known of the operations of the body of a module of a fit design.
-use Rattle.std.proofs.Common.{◌≡◌, ℕ, suc, ◌<◌, ℤ, true, false, List, [], ◌∷◌, map, length, Option, Some, None, slice_get, refl, sym, ap, subst, ◌∙◌, arith}
+use Rattle.std.proofs.Common.{◌≡◌, ℕ, zero, suc, ◌<◌, ◌≤◌, ◌||◌, ℤ, true, false, List, [], ◌∷◌, map, length, Option, Some, None, slice_get, refl, sym, ap, subst, ◌∙◌, arith}
 use Rattle.std.specs.Prelude.{is_some, nat_lt, ◌==◌}
 use Rattle.std.specs.List.{list_any}
 use Rattle.std.proofs.lemmas.Bool.{ltb-false}
@@ -9,12 +9,13 @@ use Rattle.std.proofs.lemmas.Option.{slice_get_within}
 use Rattle.wiring.specs.Options.{bind, omap}
 use Rattle.wiring.specs.Wiring.{In}
 use Rattle.wiring.proofs.Members.{In-map, position_of_In, All-from_members}
-use Rattle.hw_model.specs.Types.{HwType}
+use Rattle.hw_model.specs.Types.{HwType, width, leaves}
 use Rattle.hw_model.specs.Types.HwType.{int}
 use Rattle.hw_model.specs.Kinds.Kind.{constant}
 use Rattle.hw_model.specs.Design.{Ref, OpResult, Op, Module, Design, result_type}
 use Rattle.hw_model.specs.Design.Ref.{result}
 use Rattle.hw_model.specs.Sound.{type_in}
+use Rattle.hw_model.specs.Value.{nth_type}
 use Rattle.ir_store.specs.declared.body.Body.{Body}
 use Rattle.ir_store.specs.declared.operation.OpId.{OpId}
 use Rattle.ir_store.specs.declared.operation.Value.{Value}
@@ -22,7 +23,7 @@ use Rattle.ir_store.specs.declared.operation.Value.TheVariants.{Port, Result, Un
 use Rattle.ir_store.specs.Bodies.{ids_of, ops_of}
 use Rattle.ir_store.specs.ResultTypes.{result_types, result_type as type_of_result}
 use Rattle.op_checks.specs.CountChecks.{type_count}
-use Rattle.op_checks.specs.TypeChecks.{is_outside}
+use Rattle.op_checks.specs.TypeChecks.{has_bad_part, is_outside}
 use Rattle.op_checks.proofs.Widths.{neither}
 use Rattle.op_verifier.proofs.NoCauseAlone.{no_cause_alone}
 use Rattle.mlir_printer.specs.Printable.{IsPrintableOp, settled_result}
@@ -37,6 +38,7 @@ use Rattle.fold_laws.proofs.Stands.{op_has_one}
 use Rattle.comb_fold.specs.FitBodies.{IsOfFit}
 use Rattle.comb_fold.specs.Readable.{IsWidth, IsReadable}
 use Rattle.comb_fold.specs.Replaceable.{HaveNoFurther, MayStand}
+use Rattle.comb_fold.specs.Replaced.{IsNamed}
 use Rattle.comb_fold.specs.Views.{body_ops, position_in, value_ref}
 use Rattle.comb_fold.proofs.Naming.{unused_replaced, first_named, other_value}
 use Rattle.comb_fold.proofs.Positions.{position_there}
@@ -84,6 +86,17 @@ lives d fit k md at ops is =
         let ids = length-map ops (λ (o : BodyOp). o.id) in
         position_there (ids_in ops) id.index (omega (arith, below, many, same, ids))
 
+-- an operand by positions that is a result is one of an operation that is there
+pub operand_within : (b : Body) → IsOfFit b → (j n : ℕ) → IsNamed (body_ops b) (result j n) → j < length (ids_of b)
+unfolding body_ops
+operand_within b of j n is =
+    let here = subst (In is.op) (sym of.is_body) is.there in
+    let below = result_there of.design of.fit of.number of.owner of.there j n (typed of.design of.fit of.number of.owner of.there is.op (result j n) here is.named) in
+    let many = ap length of.is_body in
+    let same = length-map (ops_of b) (op_by (position_of (ids_of b))) in
+    let ids = length-map (ops_of b) (λ (o : BodyOp). o.id) in
+    omega (arith, below, many, same, ids)
+
 pub fit_live : (b : Body) → IsOfFit b → AreLive (ops_of b)
 unfolding body_ops
 fit_live b of = lives of.design of.fit of.number of.owner of.there (ops_of b) of.is_body
@@ -94,7 +107,7 @@ fit_no_further b of i o there made =
 
 -- ---- the widths of constants
 
-within_limits : (w : ℕ) → is_outside (int w) ≡ false → IsWidth w
+pub within_limits : (w : ℕ) → is_outside (int w) ≡ false → IsWidth w
 unfolding is_outside
 within_limits w within =
     let bad = (neither _ _ within).0 in
@@ -125,6 +138,23 @@ fit_readable b of = record {
   live = fit_live b of;
   words = λ i o z w there. constant_width of.design of.fit of.number of.owner of.there i o z w (ap (λ os. slice_get os i) of.is_body ∙ there);
 }
+
+-- ---- the widths of types
+
+nth_within : (ts : List HwType) (n : ℕ) → list_any is_outside ts ≡ false → width (nth_type ts n) ≤ 4096
+unfolding is_outside
+nth_within [] n limits = omega arith
+nth_within (t ∷ ts) zero limits =
+    let outside = (neither (is_outside t) (list_any is_outside ts) limits).0 in
+    let large = (neither (has_bad_part t) (nat_lt 4096 (width t) || nat_lt 1024 (length (leaves t))) outside).1 in
+    ltb-false 4096 (width t) (neither (nat_lt 4096 (width t)) (nat_lt 1024 (length (leaves t))) large).0
+nth_within (t ∷ ts) (suc n) limits = nth_within ts n (neither (is_outside t) (list_any is_outside ts) limits).1
+
+pub fit_narrow : (b : Body) → IsOfFit b → (i : ℕ) (o : Op) → slice_get (body_ops b) i ≡ Some o → (n : ℕ) → width (nth_type o.types n) ≤ 4096
+fit_narrow b of i o there n =
+    nth_within o.types n
+    (no_cause_alone of.owner.ports of.owner.body o
+    (own_cause_none of.design of.fit of.number of.owner of.there i o (ap (λ os. slice_get os i) of.is_body ∙ there))).written
 
 -- nothing names an operation once a value stands for it that may
 pub fit_unused : (b : Body) (op : OpId) (x : Value) → MayStand (body_ops b) (position_in b op) (value_ref b x) → IsUnused op.index (all_replaced (Result op 0) x (ops_of b))

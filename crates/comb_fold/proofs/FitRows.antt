@@ -3,11 +3,12 @@ use Rattle.std.proofs.Common.{◌≡◌, ℕ, zero, suc, ◌<◌, false, length,
 use Rattle.wiring.specs.Options.{bind}
 use Rattle.wiring.specs.Wiring.{In}
 use Rattle.hw_model.specs.Types.{HwType}
-use Rattle.hw_model.specs.Design.{Ref, Op, Module, result_type}
+use Rattle.hw_model.specs.Design.{Ref, Op, Module, Design, result_type}
 use Rattle.hw_model.specs.Design.Ref.{result}
 use Rattle.hw_model.specs.Sound.{type_in}
 use Rattle.ir_store.specs.ResultTypes.{result_type as type_of_result}
 use Rattle.canonical_form.specs.ResultTypes.{type_or_none}
+use Rattle.accepted_edits.specs.Keeps.{IsFit}
 use Rattle.hw_edits.specs.Edit.{is_anchor}
 use Rattle.hw_edits.specs.Falls.{LocalHeight}
 use Rattle.hw_edits.specs.Laws.{IsNotOf}
@@ -16,12 +17,14 @@ use Rattle.fold_laws.specs.Standing.{Stand}
 use Rattle.fold_laws.proofs.MakerOperands.{IsMakerOperand}
 use Rattle.fold_laws.proofs.MadeKinds.{made_plain}
 use Rattle.fold_laws.proofs.Stands.{IsStand, op_found, op_plain, op_typed, op_has_one, op_known}
+use Rattle.comb_fold.specs.Replaceable.{MayStand}
 use Rattle.comb_fold.specs.Rows.{StandsInFit}
 use Rattle.comb_fold.proofs.FitOps.{no_further}
 
 -- an operand of the operation
-pub stands_in_fit : (stand : Stand) → IsStand stand → StandsInFit stand
-stands_in_fit stand shown d k md i o x fit at there is =
+of_stand : (stand : Stand) → IsStand stand → (d : Design) (k : ℕ) (md : Module) (i : ℕ) (o : Op) (x : Ref) → IsFit d → slice_get d k ≡ Some md → slice_get md.body i ≡ Some o
+    → stand md.body o.kind o.types o.operands ≡ Some x → MayStand md.body i x
+of_stand stand shown d k md i o x fit at there is =
     let made = shown.made md.body o.kind o.types o.operands x is in
     let typed = op_typed d fit k md at i o there made in
     let t = type_or_none (type_of_result o.kind o.types (length o.operands)) in
@@ -31,6 +34,9 @@ stands_in_fit stand shown d k md i o x fit at there is =
           (op_has_one d fit k md at i o there made) x stands.named stands.typed;
       no_further = no_further d fit k md at i o there made;
     }
+
+pub stands_in_fit : (stand : Stand) → IsStand stand → StandsInFit stand
+stands_in_fit stand shown = record { may = of_stand stand shown }
 
 -- what stands lower than an operand is no result
 not_its_own : (md : Module) (i : ℕ) (o : Op) (t u : HwType) → (h : Ref → ℕ) × LocalHeight md.body h → slice_get md.body i ≡ Some o → is_anchor o ≡ false
@@ -50,8 +56,9 @@ not_its_own md i o t u (h, local) there plain typed has_one j c made_there plain
         cc
 
 -- an operand of the operation that made an operand
-pub maker_operand_in_fit : (stand : Stand) → IsMakerOperand stand → StandsInFit stand
-maker_operand_in_fit stand shown d k md i o x fit at there is =
+of_maker_operand : (stand : Stand) → IsMakerOperand stand → (d : Design) (k : ℕ) (md : Module) (i : ℕ) (o : Op) (x : Ref) → IsFit d → slice_get d k ≡ Some md
+    → slice_get md.body i ≡ Some o → stand md.body o.kind o.types o.operands ≡ Some x → MayStand md.body i x
+of_maker_operand stand shown d k md i o x fit at there is =
     let made = shown.made md.body o.kind o.types o.operands x is in
     let maker = shown.maker md.body o.kind o.types o.operands x is in
     let t = type_or_none (type_of_result o.kind o.types (length o.operands)) in
@@ -66,3 +73,6 @@ maker_operand_in_fit stand shown d k md i o x fit at there is =
           (op_has_one d fit k md at i o there made) maker.position maker.op maker.there (made_plain maker.op.kind maker.made) made_type maker.operand x maker.named stands.typed;
       no_further = no_further d fit k md at i o there made;
     }
+
+pub maker_operand_in_fit : (stand : Stand) → IsMakerOperand stand → StandsInFit stand
+maker_operand_in_fit stand shown = record { may = of_maker_operand stand shown }

@@ -2,7 +2,9 @@
 use Rattle.std.proofs.Common.{◌≡◌, ℕ, zero, suc, Bool, true, false, cond, nat_eq, ◌&&◌, List, map, refl, sym, ap, ◌∙◌, eq-eqb}
 use Rattle.std.specs.Prelude.{All}
 use Rattle.std.proofs.lemmas.Bool.{eqb-true}
+use Rattle.wiring.specs.Wiring.{In}
 use Rattle.wiring.proofs.Members.{In-map, All-from_members}
+use Rattle.hw_model.specs.Design.{Ref}
 use Rattle.hw_model.specs.Design.Ref.{result}
 use Rattle.ir_store.specs.declared.operation.OpId.{OpId}
 use Rattle.ir_store.specs.declared.operation.Value.{Value}
@@ -11,7 +13,7 @@ use Rattle.ir_store.specs.BodyOps.{BodyOp, ids_in, all_replaced, same_value, rep
 use Rattle.ir_store.specs.Numbered.{position_of, ref_by, op_by, ops_by_position}
 use Rattle.ir_store.proofs.Living.{all_mapped}
 use Rattle.hw_edits.specs.Laws.{IsNotOf}
-use Rattle.comb_fold.specs.Replaceable.{HaveNoFurther}
+use Rattle.comb_fold.specs.Replaceable.{IsNoFurther, HaveNoFurther}
 
 -- a value is the first result of an operation where it is one of its results
 abbrev pub IsFirstIf : OpId → Value → Type 0
@@ -38,20 +40,22 @@ unused_replaced op x ops other first =
 
 -- ---- by positions
 
--- where operands by positions are no further results, operands by ids are first ones
-pub first_named : (op : OpId) (ops : List BodyOp) → HaveNoFurther (position_of (ids_in ops) op.index) (ops_by_position ops) → AreFirstIf op ops
-first_named op ops none =
-    All-from_members (λ (o : BodyOp). All (IsFirstIf op) o.operands) ops
-    (λ o here. All-from_members (IsFirstIf op) o.operands
-    (λ v named. of_value v
-    (none (op_by (position_of (ids_in ops)) o) (In-map (op_by (position_of (ids_in ops))) o ops here)
-    (ref_by (position_of (ids_in ops)) v) (In-map (ref_by (position_of (ids_in ops))) v o.operands named))))
+-- where values by positions are no further results, by ids they are first ones
+pub first_values : (op : OpId) (ids : List ℕ) (vs : List Value) → ((r : Ref) → In r (map (ref_by (position_of ids)) vs) → IsNoFurther (position_of ids op.index) r) → All (IsFirstIf op) vs
+first_values op ids vs none =
+    All-from_members (IsFirstIf op) vs (λ v named. of_value v (none (ref_by (position_of ids) v) (In-map (ref_by (position_of ids)) v vs named)))
   where
-    of_value : (v : Value) → ((k : ℕ) → ref_by (position_of (ids_in ops)) v ≡ result (position_of (ids_in ops) op.index) (suc k) → ⊥) → IsFirstIf op v
+    of_value : (v : Value) → ((k : ℕ) → ref_by (position_of ids) v ≡ result (position_of ids op.index) (suc k) → ⊥) → IsFirstIf op v
     of_value (Port n) none is = cc
     of_value Undefined none is = cc
     of_value (Result id zero) none is = ap (λ b. b && true) (eq-eqb op.index id.index (sym (eqb-true id.index op.index is)))
-    of_value (Result id (suc k)) none is = absurd (none k (ap (λ n. result (position_of (ids_in ops) n) (suc k)) (eqb-true id.index op.index is)))
+    of_value (Result id (suc k)) none is = absurd (none k (ap (λ n. result (position_of ids n) (suc k)) (eqb-true id.index op.index is)))
+
+-- so are the operands of a body
+pub first_named : (op : OpId) (ops : List BodyOp) → HaveNoFurther (position_of (ids_in ops) op.index) (ops_by_position ops) → AreFirstIf op ops
+first_named op ops none =
+    All-from_members (λ (o : BodyOp). All (IsFirstIf op) o.operands) ops
+    (λ o here. first_values op (ids_in ops) o.operands (none (op_by (position_of (ids_in ops)) o) (In-map (op_by (position_of (ids_in ops))) o ops here)))
 
 -- a value by positions that is no result of an operation is none by ids
 pub other_value : (op : OpId) (x : Value) (ids : List ℕ) → IsNotOf (position_of ids op.index) (ref_by (position_of ids) x) → is_of op.index x ≡ false

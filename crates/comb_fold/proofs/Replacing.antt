@@ -89,29 +89,24 @@ erase_put i c os within none new =
     put_in_place (retarget (without (suc i) (without (suc i) undefined (result i 0)))) (retarget (pushed_ref i)) (HasNoFurther i)
     (λ o all. ap (λ rs. record o { operands = rs }) (kept_all i o.operands all)) os i c within none new
 
--- the operation without operands put before another one, whose first result it then stands for, and which goes
-pub numbered_number : (op id : OpId) (o : BodyOp) (ops : List BodyOp) → AreLive ops → Contains (ids_in ops) op.index → o.id ≡ id.index → o.operands ≡ []
+-- an operation put before another one, whose first result it then stands for, and which goes
+pub numbered_in_place : (op id : OpId) (o : BodyOp) (ops : List BodyOp) → AreLive ops → Contains (ids_in ops) op.index → o.id ≡ id.index → HasLive (ids_in ops) o
     → (Contains (ids_in ops) id.index → ⊥) → HaveNoFurther (position_of (ids_in ops) op.index) (ops_by_position ops)
+    → HasNoFurther (position_of (ids_in ops) op.index) (op_by (position_of (ids_in ops)) o)
     → IsUnused op.index (all_replaced (Result op 0) (Result id 0) (put_before (Some op) o ops))
     → ops_by_position (taken_out op.index (all_replaced (Result op 0) (Result id 0) (put_before (Some op) o ops)))
     ≡ set (ops_by_position ops) (position_of (ids_in ops) op.index) (op_by (position_of (ids_in ops)) o)
-numbered_number op id o ops live there is none fresh further unused =
-    numbered_erase op (Result id 0) (put_before (Some op) o ops) more_live still unused
+numbered_in_place op id o ops live there is own fresh further new unused =
+    numbered_erase op (Result id 0) (put_before (Some op) o ops) (added_live (Some op) o ops live own) still unused
     ∙ ap₂ (λ i x. erase_op i x (ops_by_position (put_before (Some op) o ops))) (position_after op o ops there other) place
-    ∙ ap (erase_op (suc (position_of (ids_in ops) op.index)) (result (position_of (ids_in ops) op.index) 0)) (numbered-put_before op o ops live no_live there unknown)
-    ∙ erase_put (position_of (ids_in ops) op.index) (op_by (position_of (ids_in ops)) o) (ops_by_position ops) within further no_operands
+    ∙ ap (erase_op (suc (position_of (ids_in ops) op.index)) (result (position_of (ids_in ops) op.index) 0)) (numbered-put_before op o ops live own there unknown)
+    ∙ erase_put (position_of (ids_in ops) op.index) (op_by (position_of (ids_in ops)) o) (ops_by_position ops) within further new
   where
     unknown : Contains (ids_in ops) o.id → ⊥
     unknown here = fresh (subst (Contains (ids_in ops)) is here)
 
     other : o.id ≡ op.index → ⊥
     other same = unknown (subst (Contains (ids_in ops)) (sym same) there)
-
-    no_live : HasLive (ids_in ops) o
-    no_live = subst (All (IsLive (ids_in ops))) (sym none) (all_none (IsLive (ids_in ops)))
-
-    more_live : AreLive (put_before (Some op) o ops)
-    more_live = added_live (Some op) o ops live no_live
 
     still : Contains (ids_in (put_before (Some op) o ops)) op.index
     still =
@@ -127,5 +122,12 @@ numbered_number op id o ops live there is none fresh further unused =
         let same = length-map ops (op_by (position_of (ids_in ops))) in
         omega (arith, below, many, same)
 
-    no_operands : HasNoFurther (position_of (ids_in ops) op.index) (op_by (position_of (ids_in ops)) o)
-    no_operands r here = absurd (subst (λ (vs : List Value). In r (map (ref_by (position_of (ids_in ops))) vs)) none here)
+-- one without operands
+pub numbered_number : (op id : OpId) (o : BodyOp) (ops : List BodyOp) → AreLive ops → Contains (ids_in ops) op.index → o.id ≡ id.index → o.operands ≡ []
+    → (Contains (ids_in ops) id.index → ⊥) → HaveNoFurther (position_of (ids_in ops) op.index) (ops_by_position ops)
+    → IsUnused op.index (all_replaced (Result op 0) (Result id 0) (put_before (Some op) o ops))
+    → ops_by_position (taken_out op.index (all_replaced (Result op 0) (Result id 0) (put_before (Some op) o ops)))
+    ≡ set (ops_by_position ops) (position_of (ids_in ops) op.index) (op_by (position_of (ids_in ops)) o)
+numbered_number op id o ops live there is none fresh further unused =
+    numbered_in_place op id o ops live there is (subst (All (IsLive (ids_in ops))) (sym none) (all_none (IsLive (ids_in ops)))) fresh further
+    (λ r here. absurd (subst (λ (vs : List Value). In r (map (ref_by (position_of (ids_in ops))) vs)) none here)) unused

@@ -1,7 +1,7 @@
 -- What a row of the table of folds makes of a body in code at one of its operations (MLIR documentation, "Pattern Rewriting").
-use Rattle.std.specs.Prelude.{◌≡◌, ◌<◌, ℕ, suc, List, [], ◌∷◌, length, set, insert, remove, Some, Contains}
+use Rattle.std.specs.Prelude.{◌≡◌, ◌<◌, ℕ, suc, Bool, true, false, List, [], ◌∷◌, length, set, insert, remove, Some, None, Contains}
 use Rattle.ir_store.specs.declared.body.Body.{Body}
-use Rattle.ir_store.specs.Bodies.{ids_of}
+use Rattle.ir_store.specs.Bodies.{ids_of, ops_of}
 use Rattle.fold_laws.specs.Edits.{Edit, Row, edited_by}
 use Rattle.fold_laws.specs.Edits.Edit.{changed, replaced, erased, put_in}
 use Rattle.comb_fold.specs.Views.{body_ops}
@@ -38,3 +38,8 @@ pub record IsFolded (row : Row) (before after : Body) (i : ℕ) : Type 0 where
   pub fresh : ℕ
   pub is_fresh : Contains (ids_of before) fresh → ⊥
   pub ids : ids_of after ≡ ids_edited_by fresh edits (ids_of before)
+
+-- a row is tried at a position: it matches and the body is folded, or it does not and the operations stay
+abbrev pub Tries : Row → Body → Body → ℕ → Bool → Type 0
+Tries row before after i true = IsFolded row before after i
+Tries row before after i false = (row (body_ops before) i ≡ None) × (ops_of after ≡ ops_of before)

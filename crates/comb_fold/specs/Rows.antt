@@ -7,6 +7,6 @@ use Rattle.fold_laws.specs.Standing.{Stand}
 use Rattle.comb_fold.specs.Replaceable.{MayStand}
 
 -- in each module of a fit design the value may stand for the result
-abbrev pub StandsInFit : Stand → Type 0
-StandsInFit stand = (d : Design) (k : ℕ) (md : Module) (i : ℕ) (o : Op) (x : Ref) → IsFit d → slice_get d k ≡ Some md → slice_get md.body i ≡ Some o
-    → stand md.body o.kind o.types o.operands ≡ Some x → MayStand md.body i x
+pub record StandsInFit (stand : Stand) : Type 0 where
+  pub may : (d : Design) (k : ℕ) (md : Module) (i : ℕ) (o : Op) (x : Ref) → IsFit d → slice_get d k ≡ Some md → slice_get md.body i ≡ Some o
+      → stand md.body o.kind o.types o.operands ≡ Some x → MayStand md.body i x

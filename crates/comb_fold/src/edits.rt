@@ -1,6 +1,7 @@
 //! The edits by which rows change a body.
-ghost use Rattle.std.specs.Prelude.{◌≡◌};
+ghost use Rattle.std.specs.Prelude.{◌≡◌, remove};
 ghost use Rattle.hw_edits.specs.Laws.{erase_op};
+ghost use Rattle.ir_store.specs.Bodies.{ids_of};
 ghost use Rattle.comb_fold.specs.FitBodies.{IsOfFit};
 ghost use Rattle.comb_fold.specs.Replaceable.{MayStand};
 ghost use Rattle.comb_fold.specs.Views.{HasOp, body_ops, position_in, value_ref};
@@ -14,7 +15,8 @@ pub fn stand_in(body: &mut Body, op: OpId, value: Value)
     requires fit { IsOfFit body.old }
     requires live { HasOp body.old op }
     requires may { MayStand (body_ops body.old) (position_in body.old op) (value_ref body.old value) }
-    ensures { body_ops body.new ≡ erase_op (position_in body.old op) (value_ref body.old value) (body_ops body.old) }
+    ensures ops { body_ops body.new ≡ erase_op (position_in body.old op) (value_ref body.old value) (body_ops body.old) }
+    ensures ids { ids_of body.new ≡ remove (ids_of body.old) (position_in body.old op) }
 {
     body.replace_all_uses(Value::Result(op, 0), value);
     body.erase(op);

@@ -3,6 +3,8 @@ ghost use Rattle.std.specs.Prelude.{◌≡◌, ◌&&◌, map, cond, option_map, 
 ghost use Rattle.fold_laws.specs.Constants.{constant_at, is_constant_where, is_true, is_false};
 ghost use Rattle.fold_laws.specs.Standing.{when, only_operand, first_where, first_operand, of_three_operands, writes_one_type};
 ghost use Rattle.hw_model.specs.Value.{is_high};
+ghost use Rattle.ir_store.specs.Bodies.{ops_of, read_op};
+ghost use Rattle.ir_store.specs.BodyOps.{op_at};
 ghost use Rattle.ir_store.specs.Positions.{same_ref};
 ghost use Rattle.fold_laws.specs.Numbers.{number_where};
 ghost use Rattle.comb_fold.specs.FitBodies.{IsOfFit};
@@ -31,6 +33,7 @@ impl<'b> Site<'b> {
         requires live { HasOp body.now id }
         ensures body { result.body.now ≡ body.now }
         ensures there { slice_get (body_ops body.now) (position_in body.now id) ≡ Some (op_seen body.now result.op) }
+        ensures own { op_at (ops_of body.now) id.index ≡ Some (read_op id result.op) }
         ensures readable { IsReadableSite result }
     {
         let op = body.op(id);

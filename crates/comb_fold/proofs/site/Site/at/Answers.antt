@@ -1,4 +1,5 @@
-use Rattle.comb_fold.proofs.FitOps.{fit_live, fit_readable}
+use Rattle.comb_fold.specs.Views.{position_in, op_seen}
+use Rattle.comb_fold.proofs.FitOps.{fit_live, fit_readable, fit_narrow}
 use Rattle.comb_fold.proofs.ReadBodies.{op_seen_at, op_live}
 use Rattle.comb_fold.proofs.site.Site.at.Goals as goal
 
@@ -9,4 +10,6 @@ pub returns-clause-readable : goal.returns-clause-readable
 returns-clause-readable c = record {
   readable = fit_readable c.args.body.now c.requires.fit;
   live = op_live c.args.body.now c.args.id c.op-op.result (fit_live c.args.body.now c.requires.fit) c.op-op.ensures;
+  narrow = fit_narrow c.args.body.now c.requires.fit (position_in c.args.body.now c.args.id) (op_seen c.args.body.now c.op-op.result)
+      (op_seen_at c.args.body.now c.args.id c.op-op.result c.op-op.ensures);
 }

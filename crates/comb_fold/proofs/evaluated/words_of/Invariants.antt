@@ -1,0 +1,10 @@
+use Rattle.std.proofs.Common.{◌≡◌, ◌++◌, map, drop}
+use Rattle.wiring.specs.Options.{omap}
+use Rattle.fold_laws.specs.Evaluated.{constants_at}
+use Rattle.comb_fold.specs.Sites.{ops_at, ref_at, refs_at}
+use Rattle.comb_fold.proofs.evaluated.words_of.Given as goal
+
+abbrev pub invariant-loop-value : goal.invariant-loop-value
+invariant-loop-value l =
+    constants_at (ops_at l.site) (refs_at l.site)
+    ≡ omap (λ ws. l.words.items ++ ws) (constants_at (ops_at l.site) (map (ref_at l.site) (drop l.value-index l.site.op.operands.now)))

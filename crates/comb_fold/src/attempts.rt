@@ -1,0 +1,55 @@
+//! Lists of rows that are tried one after the other.
+
+use crate::pattern::Pattern;
+use ir_store::body::Body;
+use ir_store::operation::OpId;
+use std::alloc::{AllocError, Global};
+
+/// A list of rows of the table of folds.
+pub trait Rows {
+    ghost use Rattle.std.specs.Prelude.{◌≡◌, List, IfOk, OnErr};
+    ghost use Rattle.ir_store.specs.Bodies.{ops_of};
+    ghost use Rattle.fold_laws.specs.Edits.{Row};
+    ghost use Rattle.fold_laws.specs.Table.{first_row};
+    ghost use Rattle.comb_fold.specs.FitBodies.{IsOfFit};
+    ghost use Rattle.comb_fold.specs.Folded.{Tries};
+    ghost use Rattle.comb_fold.specs.Views.{HasOp, position_in};
+
+    // The rows, the first to be tried first.
+    ghost tried: { List Row };
+
+    /// Changes a body at an operation as the first row of the list says that matches there, and says whether one does. On an
+    /// error, which comes where memory that is needed is refused, the operations stay.
+    fn attempt(alloc: Global, body: &mut Body, op: OpId) -> Result<bool, AllocError>
+        requires fit { IsOfFit body.old }
+        requires live { HasOp body.old op }
+        ensures tries { IfOk result (Tries (first_row tried) body.old body.new (position_in body.old op)) }
+        ensures kept { OnErr result (ops_of body.new ≡ ops_of body.old) };
+}
+
+/// No row, of which none matches.
+impl Rows for () {
+    ghost use Rattle.std.specs.Prelude.{[]};
+
+    ghost tried = { [] };
+
+    fn attempt(_alloc: Global, _body: &mut Body, _op: OpId) -> Result<bool, AllocError> {
+        Ok(false)
+    }
+}
+
+/// A row, and the others that are tried where it does not match.
+impl<P: Pattern, R: Rows> Rows for (P, R) {
+    ghost use Rattle.std.specs.Prelude.{◌∷◌};
+
+    ghost tried = { P.change ∷ R.tried };
+
+    fn attempt(alloc: Global, body: &mut Body, op: OpId) -> Result<bool, AllocError> {
+        if P::matches(body, op) {
+            P::apply(alloc, body, op)?;
+            Ok(true)
+        } else {
+            R::attempt(alloc, body, op)
+        }
+    }
+}

@@ -1,0 +1,57 @@
+//! The table of folds, in the order in which its rows are tried.
+ghost use Rattle.std.specs.Prelude.{◌≡◌, IfOk, OnErr};
+ghost use Rattle.ir_store.specs.Bodies.{ops_of};
+ghost use Rattle.fold_laws.specs.Table.{rows, first_row};
+ghost use Rattle.comb_fold.specs.FitBodies.{IsOfFit};
+ghost use Rattle.comb_fold.specs.Folded.{Tries};
+ghost use Rattle.comb_fold.specs.Views.{HasOp, position_in};
+
+use crate::attempts::Rows;
+use crate::equal::F13;
+use crate::evaluated::F2;
+use crate::joined::F14;
+use crate::nested_rows::F16;
+use crate::numbered::{F18, F20, F22, F23};
+use crate::operand_rows::{F4, F5, F6, F7, F8, F12, F15};
+use crate::parts::{F29, F32};
+use crate::replaced_rows::{F28, F30};
+use crate::standing::{F3, F9, F10, F11, F17, F19, F21, F24, F25, F26, F27, F31};
+use crate::unused::F1;
+use ir_store::body::Body;
+use ir_store::operation::OpId;
+use std::alloc::{AllocError, Global};
+
+/// The rows on parts of values, from F27 on.
+type PartRows = (F27, (F28, (F29, (F30, (F31, (F32, ()))))));
+
+/// The rows on operations of two or three operands, from F17 on, and the later ones.
+type FixedRows = (
+    F17,
+    (
+        F18,
+        (
+            F19,
+            (F20, (F21, (F22, (F23, (F24, (F25, (F26, PartRows))))))),
+        ),
+    ),
+);
+
+/// The rows on operations of any number of operands, from F9 on, and the later ones.
+type VariadicRows = (
+    F9,
+    (F10, (F11, (F12, (F13, (F14, (F15, (F16, FixedRows))))))),
+);
+
+/// The rows of the table, the first to be tried first.
+type Table = (F1, (F2, (F3, (F4, (F5, (F6, (F7, (F8, VariadicRows))))))));
+
+/// Changes a body at an operation as the first row of the table says that matches there, and says whether one does. On an
+/// error, which comes where memory that is needed is refused, the operations stay.
+pub fn fold(alloc: Global, body: &mut Body, op: OpId) -> Result<bool, AllocError>
+    requires fit { IsOfFit body.old }
+    requires live { HasOp body.old op }
+    ensures tries { IfOk result (Tries (first_row rows) body.old body.new (position_in body.old op)) }
+    ensures kept { OnErr result (ops_of body.new ≡ ops_of body.old) }
+{
+    <Table as Rows>::attempt(alloc, body, op)
+}
