@@ -1,0 +1,23 @@
+use Rattle.std.proofs.Common.{Result, Ok, Err, OnErr}
+use Rattle.comb_fold.specs.Views.{body_ops}
+use Rattle.canonicalise.proofs.Ranks.{smaller_is_lower}
+use Rattle.canonicalise.proofs.Sweeping.{way_goes_on, way_leads}
+use Rattle.canonicalise.proofs.canonicalize.canonicalize.Goals as goal
+
+-- what holds holds of an error
+on_err : {T E : Type 0} (r : Result T E) {P : Type 0} → P → OnErr r P
+on_err (Ok x) p = tt
+on_err (Err e) p = p
+
+pub returns-in_err-sweep-clause-partly : goal.returns-in_err-sweep-clause-partly
+returns-in_err-sweep-clause-partly c =
+    on_err c.from_residual.result (way_leads (body_ops c.args.body.now) (body_ops c.loop.body) (body_ops c.sweep.new.body) c.loop.invariant.1 c.in_err-sweep.ensures.leads)
+
+pub loop-smaller : goal.loop-smaller
+loop-smaller c = smaller_is_lower (body_ops c.loop.body) (body_ops c.sweep.new.body) (c.in_ok-sweep.ensures.smaller c.if-branch.true)
+
+pub loop-preserved : goal.loop-preserved
+loop-preserved c = (
+  c.sweep.ensures.fit,
+  way_goes_on (body_ops c.args.body.now) (body_ops c.loop.body) (body_ops c.sweep.new.body) c.loop.invariant.1 (rw c.if-branch.true at c.in_ok-sweep.ensures.swept),
+)
