@@ -38,7 +38,8 @@ use op_verifier::{
     Verified, VerifyFail, accepted_designs_are_sound, places_decide_no_verdict, verify,
 };
 use pass_manager::gate::Gate;
-use pass_manager::{results_follow, results_stay};
+use pass_manager::results_follow;
+use pass_manager::run::run_pipeline;
 use pass_pipeline::pipeline::Pipeline;
 use std::alloc::{AllocError, Global};
 use std::thread::Threads;
@@ -313,11 +314,8 @@ fn passes_result<G: Gate>(
 ) -> Result<Design, AllocError>
     ensures { IfOk result (λ made. IsResult passes.now (design_of verified.design) (design_of made)) }
 {
-    let _ = alloc;
-    let _ = passes;
-    let _ = gate;
-    results_stay();
-    Ok(verified.into_design())
+    what_is_canonical_is_printable();
+    run_pipeline(alloc, verified.into_design(), passes, gate)
 }
 
 /// The Verilog of what passes make of an accepted design, of any text that says it, or the refusal of its first header or

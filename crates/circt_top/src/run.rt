@@ -26,8 +26,8 @@ use pass_pipeline::pass::Pass;
 use std::alloc::Global;
 use std::thread::Threads;
 
-/// The passes that words may name: none as yet.
-const PASSES_ON_OFFER: [Pass; 0] = [];
+/// The passes that words may name.
+const PASSES_ON_OFFER: [Pass; 1] = [Pass::Canonicalize];
 
 /// Runs the program: `words` are those after its name, `files` are read and written by name (`-` is
 /// standard input), the output goes to `out` or to the file of `-o`, and an error message of one line
@@ -35,7 +35,7 @@ const PASSES_ON_OFFER: [Pass; 0] = [];
 ///
 /// `opt [FILE] [-o FILE]` reads FILE and prints its design as MLIR text, and
 /// `translate [FILE] --export-verilog [-o FILE]` prints it as Verilog, each of the design that the
-/// passes of `--pass-pipeline=TEXT` make, if it is given. `opt --split-input-file` does so with each
+/// passes of `--canonicalize` or of `--pass-pipeline=TEXT` make, if it is given. `opt --split-input-file` does so with each
 /// piece of FILE between the lines that are `// -----`, and joins the texts by such lines. All other words are answered by
 /// [`Status::Usage`]. A fault of `err` changes no status.
 pub fn run_circt<R: Threads + Sync, F: Files, O: Sink, E: Sink, G: Gate + Sync>(

@@ -11,6 +11,12 @@ const UNKNOWN_AT_25: &str = "circt: usage: unknown pass at offset 25\n";
 
 const BAD_AT_15: &str = "circt: usage: bad pipeline text at offset 15\n";
 
+const BAD_AT_27: &str = "circt: usage: bad pipeline text at offset 27\n";
+
+const BAD_AT_28: &str = "circt: usage: bad pipeline text at offset 28\n";
+
+const MISPLACED_AT_0: &str = "circt: usage: pass in the wrong place at offset 0\n";
+
 const BAD_AT_16: &str = "circt: usage: bad pipeline text at offset 16\n";
 
 const UNNAMED: &str = "circt: usage: no translation named\n";
@@ -25,7 +31,7 @@ struct Row {
     err: &'static str,
 }
 
-const ROWS: [Row; 14] = [
+const ROWS: [Row; 19] = [
     // a pipeline without passes changes nothing
     Row {
         words: &["opt", "--pass-pipeline=builtin.module()"],
@@ -109,6 +115,44 @@ const ROWS: [Row; 14] = [
         code: 2,
         out: "",
         err: BAD_AT_16,
+    },
+    Row {
+        words: &["opt", "--pass-pipeline=builtin.module(canonicalize"],
+        code: 2,
+        out: "",
+        err: BAD_AT_27,
+    },
+    Row {
+        words: &["opt", "--pass-pipeline=builtin.module(canonicalize,)"],
+        code: 2,
+        out: "",
+        err: BAD_AT_28,
+    },
+    Row {
+        words: &[
+            "opt",
+            "--pass-pipeline=builtin.module(canonicalize canonicalize)",
+        ],
+        code: 2,
+        out: "",
+        err: BAD_AT_28,
+    },
+    // a pass stands in a list of passes
+    Row {
+        words: &["opt", "--pass-pipeline=canonicalize"],
+        code: 2,
+        out: "",
+        err: MISPLACED_AT_0,
+    },
+    Row {
+        words: &[
+            "opt",
+            "--pass-pipeline",
+            "builtin.module( canonicalize , hw.module( canonicalize ) )",
+        ],
+        code: 0,
+        out: ADDER_PRINTED,
+        err: "",
     },
     // a missing translation counts first, and bad arguments before that
     Row {

@@ -13,6 +13,26 @@ pub const ADDER: &str = "hw.module @Add8(in %a : i8, in %b : i8, out c : i8) {
 }
 ";
 
+/// The adder with operands that decide nothing, which folds to it.
+pub const FOLDABLE_ADDER: &str = "hw.module @Add8(in %a : i8, in %b : i8, out c : i8) {
+  %c0_i8 = hw.constant 0 : i8
+  %0 = comb.add %c0_i8, %a : i8
+  %1 = comb.add %0, %b : i8
+  hw.output %1 : i8
+}
+";
+
+/// That as it is printed where nothing is folded.
+pub const FOLDABLE_ADDER_PRINTED: &str = "module {
+  hw.module @Add8(in %a : i8, in %b : i8, out c : i8) {
+    %c0_i8 = hw.constant 0 : i8
+    %0 = comb.add %c0_i8, %a : i8
+    %1 = comb.add %0, %b : i8
+    hw.output %1 : i8
+  }
+}
+";
+
 /// The adder as Verilog.
 pub const ADDER_VERILOG: &str = "module Add8(
   input wire [7:0] a,

@@ -1,5 +1,8 @@
 //! What words, files and failing reads and writes answer.
-use crate::runs::{ADDER, ADDER_PRINTED, ADDER_VERILOG, Ended, Failing, run_words};
+use crate::runs::{
+    ADDER, ADDER_PRINTED, ADDER_VERILOG, Ended, FOLDABLE_ADDER, FOLDABLE_ADDER_PRINTED, Failing,
+    run_words,
+};
 use std::alloc::{AllocError, AllocGlobal};
 use std::test::Fail;
 use std::thread::Threads;
@@ -15,7 +18,7 @@ const REFUSED_FILE: &str = "a.mlir:1:1: error: 'foo' S3: unknown operation\n";
 const READ_FAULT: &str = "circt: cannot read b.mlir\n";
 
 // Words that are no command.
-const BAD: [&str; 31] = [
+const BAD: [&str; 36] = [
     "",
     "help",
     "--help",
@@ -33,7 +36,12 @@ const BAD: [&str; 31] = [
     "opt -passes cse",
     "opt --cse",
     "opt --canonicalise",
-    "opt -canonicalize",
+    "opt --canonicalize=x",
+    "opt --canonicalize -passes=canonicalize",
+    "opt - - --canonicalize",
+    "--canonicalize opt",
+    "--canonicalize",
+    "translate --canonicalise --export-verilog",
     "opt --workers 4",
     "opt -o",
     "opt -ox.v",
@@ -63,7 +71,7 @@ struct Group {
     text: &'static str,
 }
 
-const GROUPS: [Group; 23] = [
+const GROUPS: [Group; 31] = [
     // words that are bad are told so, and no file is touched
     Group {
         words: &BAD,
@@ -123,6 +131,117 @@ const GROUPS: [Group; 23] = [
         code: 0,
         out: ADDER_VERILOG,
         err: "",
+        file: "x.v",
+        text: "old",
+    },
+    // passes are named by flags or by a pipeline, and change nothing where none is named
+    Group {
+        words: &[
+            "opt --canonicalize",
+            "opt -canonicalize",
+            "opt --canonicalize --canonicalize",
+            "opt -canonicalize a.mlir --canonicalize",
+            "opt a.mlir --canonicalize",
+            "opt -o --canonicalize -",
+            "opt --pass-pipeline=builtin.module(canonicalize)",
+            "opt --pass-pipeline=builtin.module(hw.module(canonicalize,canonicalize))",
+            "opt --pass-pipeline=builtin.module(canonicalize,hw.module(),hw.module(canonicalize))",
+            "opt --canonicalize --split-input-file",
+        ],
+        input: FOLDABLE_ADDER,
+        failing: Failing::No,
+        code: 0,
+        out: ADDER_PRINTED,
+        err: "",
+        file: "x.v",
+        text: "old",
+    },
+    Group {
+        words: &["opt", "opt --pass-pipeline=builtin.module(hw.module())"],
+        input: FOLDABLE_ADDER,
+        failing: Failing::No,
+        code: 0,
+        out: FOLDABLE_ADDER_PRINTED,
+        err: "",
+        file: "x.v",
+        text: "old",
+    },
+    Group {
+        words: &[
+            "translate --export-verilog --canonicalize",
+            "translate --canonicalize --export-verilog",
+            "translate -canonicalize a.mlir -export-verilog",
+            "translate --pass-pipeline=builtin.module(canonicalize) --export-verilog",
+        ],
+        input: FOLDABLE_ADDER,
+        failing: Failing::No,
+        code: 0,
+        out: ADDER_VERILOG,
+        err: "",
+        file: "x.v",
+        text: "old",
+    },
+    Group {
+        words: &[
+            "opt --canonicalize -o x.v",
+            "opt -o --canonicalize x.v a.mlir",
+        ],
+        input: FOLDABLE_ADDER,
+        failing: Failing::No,
+        code: 0,
+        out: "",
+        err: "",
+        file: "x.v",
+        text: ADDER_PRINTED,
+    },
+    // not in two ways, and a translation is to be named
+    Group {
+        words: &[
+            "opt --canonicalize --pass-pipeline=builtin.module()",
+            "opt --pass-pipeline=builtin.module(canonicalize) -canonicalize",
+            "opt --pass-pipeline=dce --canonicalize",
+            "translate --canonicalize --pass-pipeline=builtin.module()",
+        ],
+        input: FOLDABLE_ADDER,
+        failing: Failing::No,
+        code: 2,
+        out: "",
+        err: "circt: usage: passes given in two ways\n",
+        file: "x.v",
+        text: "old",
+    },
+    Group {
+        words: &["translate --canonicalize", "translate a.mlir -canonicalize"],
+        input: FOLDABLE_ADDER,
+        failing: Failing::No,
+        code: 2,
+        out: "",
+        err: UNNAMED,
+        file: "x.v",
+        text: "old",
+    },
+    // a word after `--` is a file
+    Group {
+        words: &["opt -- --canonicalize"],
+        input: FOLDABLE_ADDER,
+        failing: Failing::No,
+        code: 5,
+        out: "",
+        err: "circt: cannot read --canonicalize\n",
+        file: "x.v",
+        text: "old",
+    },
+    // what is refused is not folded
+    Group {
+        words: &[
+            "opt --canonicalize",
+            "translate --canonicalize --export-verilog",
+        ],
+        input: "foo",
+        failing: Failing::No,
+        code: 1,
+        out: "",
+        err: REFUSED,
         file: "x.v",
         text: "old",
     },

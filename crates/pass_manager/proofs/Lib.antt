@@ -1,2 +1,3 @@
 -- Lemmas.
+pub mod Canonical
 pub mod Results

@@ -1,19 +1,20 @@
 //! The laws of lists of passes, each a clause of a function that does nothing.
 
-ghost use Rattle.std.specs.Prelude.{◌≡◌, ◌≤◌, List, []};
+ghost use Rattle.std.specs.Prelude.{◌≡◌, ◌≤◌, List, [], ◌∷◌};
 ghost use Rattle.hw_model.specs.Types.{Name};
 ghost use Rattle.hw_model.specs.Design.{Design};
 ghost use Rattle.hw_model.specs.Weight.{weight};
 ghost use Rattle.op_verifier.specs.Verdict.{IsAccepted};
 ghost use Rattle.mlir_printer.specs.Printable.{Printable};
 ghost use Rattle.pass_pipeline.specs.declared.pass.Pass.{Pass};
-ghost use Rattle.pass_laws.specs.PassLaw.{IsAfter};
+ghost use Rattle.pass_pipeline.specs.declared.pass.Pass.TheVariants.{Canonicalize};
+ghost use Rattle.pass_laws.specs.PassLaw.{IsAfter, PassLaw};
 ghost use Rattle.pass_laws.specs.Steady.{IsSteady};
-ghost use Rattle.pass_manager.specs.Results.{IsResult};
+ghost use Rattle.pass_manager.specs.Results.{IsChosen, IsResult};
 
-/// Does nothing. Its clause says that a design stays as it is where no pass of a list is on offer.
-pub fn results_stay()
-    ensures { (passes : List Pass) (d : Design) → IsResult passes d d }
+/// Does nothing. Its clause says that `canonicalize` meets the law of passes.
+pub fn canonicalize_keeps()
+    ensures { PassLaw (Canonicalize ∷ []) (IsChosen Canonicalize) }
 {}
 
 /// Does nothing. Its clause says that a list of passes makes one design of each.

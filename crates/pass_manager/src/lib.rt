@@ -3,5 +3,6 @@
 
 pub mod gate;
 mod laws;
+pub mod run;
 
-pub use laws::{result_once, results_follow, results_stay};
+pub use laws::{canonicalize_keeps, result_once, results_follow};

@@ -1,0 +1,150 @@
+#!/usr/bin/env python3
+"""Measures what folding costs: the processor times of `opt` and of `opt --canonicalize` on large texts, in turn.
+
+    canonicalize.py PROGRAM [ROUNDS]     the program `circt`, 5 rounds by default
+    canonicalize.py --text NAME          writes one of the texts to standard output
+
+The texts are
+    modules    the 10,000 modules of reader_texts.py, in which nothing folds
+    third      one body of 100,000 operations, of which each third one folds
+    chain      100,000 adds, each of the one before it and a constant, which fold to one add
+    chain2     the same of 200,000 adds, to see how the time grows
+    last       chain, the last add first in the text
+    shared     100,000 operations that each use the same value, which folds last
+    long       10,000 adds, each of the one before it and an input, which fold to one add of 10,001 operands
+    long2      the same of 20,000 adds
+    back       2,000 operations, each after the one that uses it and folding once the one after it has, so one in a sweep
+    back2      the same of 4,000 operations
+"""
+import pathlib
+import resource
+import statistics
+import subprocess
+import sys
+import tempfile
+
+sys.dont_write_bytecode = True
+sys.path.insert(0, str(pathlib.Path(__file__).resolve().parent))
+import reader_texts
+
+HEADER = "hw.module @M(in %a : i32, in %b : i32, in %c : i1, out o : i32) {\n"
+
+# What stands at each third place of a body; each folds to the value before it.
+FOLDED = ["add %{0}, %z", "mul %k, %{0}", "sub %{0}, %z", "shl %{0}, %z", "mux %t, %{0}, %a", "or %{0}, %{0}"]
+
+
+def third(count, write):
+    """So many operations, of which each third one folds."""
+    write(HEADER + "  %z = hw.constant 0 : i32\n  %k = hw.constant 1 : i32\n  %t = hw.constant true\n")
+    write("  %0 = comb.mul %a, %b : i32\n")
+    for number in range(1, count):
+        before = number - 1
+        if number % 3 == 0:
+            row = FOLDED[number // 3 % len(FOLDED)].format(before)
+        else:
+            row = ("sub %{0}, %b", "shl %{0}, %a")[number % 2].format(before)
+        write(f"  %{number} = comb.{row} : i32\n")
+    write(f"  hw.output %{count - 1} : i32\n}}\n")
+
+
+def add(number):
+    """An add of the one before it and a constant."""
+    return f"  %k{number} = hw.constant {number % 1000} : i32\n  %{number} = comb.add %{number - 1}, %k{number} : i32\n"
+
+
+def chain(count, write):
+    """So many adds of constants, each of the one before it."""
+    write(HEADER + "  %0 = comb.add %a, %b : i32\n")
+    for number in range(1, count):
+        write(add(number))
+    write(f"  hw.output %{count - 1} : i32\n}}\n")
+
+
+def last(count, write):
+    """The same, each add before the one that it uses."""
+    write(HEADER)
+    for number in reversed(range(1, count)):
+        write(add(number))
+    write(f"  %0 = comb.add %a, %b : i32\n  hw.output %{count - 1} : i32\n}}\n")
+
+
+def shared(count, write):
+    """So many operations of the one before each and a value that folds after them."""
+    write(HEADER + "  %0 = comb.mul %a, %b : i32\n")
+    for number in range(1, count):
+        write(f"  %{number} = comb.sub %{number - 1}, %s : i32\n")
+    write(f"  %s = comb.mux %t, %b, %a : i32\n  %t = hw.constant true\n  hw.output %{count - 1} : i32\n}}\n")
+
+
+def long(count, write):
+    """So many adds, each of the one before it and an input."""
+    write(HEADER + "  %0 = comb.add %a, %b : i32\n")
+    for number in range(1, count):
+        write(f"  %{number} = comb.add %{number - 1}, %a : i32\n")
+    write(f"  hw.output %{count - 1} : i32\n}}\n")
+
+
+def back(count, write):
+    """So many products that are 0, each before the one that it uses."""
+    write(HEADER)
+    for number in reversed(range(1, count)):
+        write(f"  %{number} = comb.mul %{number - 1}, %a : i32\n")
+    write(f"  %0 = comb.sub %a, %a : i32\n  hw.output %{count - 1} : i32\n}}\n")
+
+
+TEXTS = {
+    "modules": (reader_texts.many_modules, 10000),
+    "third": (third, 100000),
+    "chain": (chain, 100000),
+    "chain2": (chain, 200000),
+    "last": (last, 100000),
+    "shared": (shared, 100000),
+    "long": (long, 10000),
+    "long2": (long, 20000),
+    "back": (back, 2000),
+    "back2": (back, 4000),
+}
+
+
+def seconds(words, text, printed):
+    """The processor time of a run on a text, whose output goes to a file."""
+    before = resource.getrusage(resource.RUSAGE_CHILDREN)
+    subprocess.run(words, stdin=open(text, "rb"), stdout=open(printed, "wb"), check=True)
+    after = resource.getrusage(resource.RUSAGE_CHILDREN)
+    return after.ru_utime - before.ru_utime + after.ru_stime - before.ru_stime
+
+
+def measure(program, name, rounds, folder):
+    """Says the times of one text: the medians of both commands and of their differences, and the sizes of what is printed."""
+    text, plain, folded = folder / "text", folder / "plain", folder / "folded"
+    make, count = TEXTS[name]
+    with open(text, "w") as file:
+        make(count, file.write)
+    times = []
+    for _ in range(rounds):
+        first = seconds([program, "opt"], text, plain)
+        times.append((first, seconds([program, "opt", "--canonicalize"], text, folded)))
+    opt = statistics.median(time[0] for time in times)
+    canonicalize = statistics.median(time[1] for time in times)
+    difference = statistics.median(time[1] - time[0] for time in times)
+    sizes = f"{plain.stat().st_size:>12}{folded.stat().st_size:>12}"
+    print(f"{name:10}{opt:>10.3f}{canonicalize:>14.3f}{difference:>12.3f}{sizes}", flush=True)
+
+
+def main():
+    """Measures all texts, or writes one."""
+    if len(sys.argv) == 3 and sys.argv[1] == "--text" and sys.argv[2] in TEXTS:
+        make, count = TEXTS[sys.argv[2]]
+        make(count, sys.stdout.write)
+        return
+    if len(sys.argv) < 2 or sys.argv[1].startswith("-"):
+        sys.exit(__doc__)
+    rounds = int(sys.argv[2]) if len(sys.argv) > 2 else 5
+    print(f"{'text':10}{'opt':>10}{'canonicalize':>14}{'difference':>12}{'printed':>12}{'folded':>12}")
+    with tempfile.TemporaryDirectory() as folder:
+        for name in TEXTS:
+            measure(sys.argv[1], name, rounds, pathlib.Path(folder))
+
+
+if __name__ == "__main__":
+    main()

@@ -1,0 +1,440 @@
+//! Differences, quotients, shifts, comparisons and muxes.
+use crate::canonicalize::{Row, UNCHANGED, first_other};
+use std::test::Fail;
+
+const DIFFERENCES: [Row; 4] = [
+    // less 0
+    Row {
+        ports: "in %a : i8, in %b : i1, in %c : i128, out o : i8, out p : i1, out q : i128",
+        text: "
+    %c0_i8 = hw.constant 0 : i8
+    %false = hw.constant false
+    %c0_i128 = hw.constant 0 : i128
+    %0 = comb.sub %a, %c0_i8 {k} : i8
+    %1 = comb.sub %b, %false : i1
+    %2 = comb.sub %c, %c0_i128 : i128
+    hw.output %0, %1, %2 : i8, i1, i128",
+        folded: "
+    hw.output %a, %b, %c : i8, i1, i128",
+    },
+    // less itself
+    Row {
+        ports: "in %a : i8, in %b : i1, in %c : i128, out o : i8, out p : i1, out q : i128",
+        text: "
+    %0 = comb.sub %a, %a {k} : i8
+    %1 = comb.sub %b, %b : i1
+    %2 = comb.sub %c, %c : i128
+    hw.output %0, %1, %2 : i8, i1, i128",
+        folded: "
+    %c0_i8 = hw.constant 0 : i8
+    %false = hw.constant false
+    %c0_i128 = hw.constant 0 : i128
+    hw.output %c0_i8, %false, %c0_i128 : i8, i1, i128",
+    },
+    // a register less itself
+    Row {
+        ports: "in %clk : !seq.clock, in %a : i8, out o : i8",
+        text: "
+    %0 = comb.sub %r, %r : i8
+    %r = seq.compreg %1, %clk : i8
+    %1 = comb.add %r, %0 : i8
+    hw.output %0 : i8",
+        folded: "
+    %c0_i8 = hw.constant 0 : i8
+    %r = seq.compreg %r, %clk : i8
+    hw.output %c0_i8 : i8",
+    },
+    // 0 less a value, other constants, and results of two operations alike
+    Row {
+        ports: "in %a : i8, in %b : i1, out o : i8, out p : i8, out q : i1, out r : i8",
+        text: "
+    %c0_i8 = hw.constant 0 : i8
+    %c-1_i8 = hw.constant -1 : i8
+    %true = hw.constant true
+    %0 = comb.sub %c0_i8, %a : i8
+    %1 = comb.sub %a, %c-1_i8 : i8
+    %2 = comb.sub %b, %true : i1
+    %3 = comb.parity %a : i8
+    %4 = comb.parity %a : i8
+    %5 = comb.replicate %3 : (i1) -> i8
+    %6 = comb.replicate %4 : (i1) -> i8
+    %7 = comb.sub %5, %6 : i8
+    hw.output %0, %1, %2, %7 : i8, i8, i1, i8",
+        folded: UNCHANGED,
+    },
+];
+
+const SHIFTS: [Row; 7] = [
+    // by 0
+    Row {
+        ports: "in %a : i8, in %b : i1, in %c : i128, out o : i8, out p : i8, out q : i8, out r : i1, out s : i128",
+        text: "
+    %c0_i8 = hw.constant 0 : i8
+    %false = hw.constant false
+    %c0_i128 = hw.constant 0 : i128
+    %0 = comb.shl %a, %c0_i8 : i8
+    %1 = comb.shru %a, %c0_i8 : i8
+    %2 = comb.shrs %a, %c0_i8 : i8
+    %3 = comb.shrs %b, %false : i1
+    %4 = comb.shl %c, %c0_i128 : i128
+    hw.output %0, %1, %2, %3, %4 : i8, i8, i8, i1, i128",
+        folded: "
+    hw.output %a, %a, %a, %b, %c : i8, i8, i8, i1, i128",
+    },
+    Row {
+        ports: "in %clk : !seq.clock, in %a : i8, out o : i8",
+        text: "
+    %c0_i8 = hw.constant 0 : i8
+    %0 = comb.shru %r, %c0_i8 : i8
+    %r = seq.compreg %0, %clk : i8
+    hw.output %0 : i8",
+        folded: "
+    %r = seq.compreg %r, %clk : i8
+    hw.output %r : i8",
+    },
+    // 0 by a value, and by 1
+    Row {
+        ports: "in %a : i8, out o : i8, out p : i8, out q : i8, out r : i8",
+        text: "
+    %c0_i8 = hw.constant 0 : i8
+    %c1_i8 = hw.constant 1 : i8
+    %0 = comb.shl %c0_i8, %a : i8
+    %1 = comb.shl %a, %c1_i8 : i8
+    %2 = comb.shru %a, %c1_i8 : i8
+    %3 = comb.shrs %a, %a : i8
+    hw.output %0, %1, %2, %3 : i8, i8, i8, i8",
+        folded: UNCHANGED,
+    },
+    // by the width, above it, and by all ones
+    Row {
+        ports: "in %a : i8, out o : i8, out p : i8, out q : i8, out r : i8",
+        text: "
+    %c8_i8 = hw.constant 8 : i8
+    %c9_i8 = hw.constant 9 : i8
+    %c-1_i8 = hw.constant -1 : i8
+    %0 = comb.shl %a, %c8_i8 {k} : i8
+    %1 = comb.shru %a, %c9_i8 : i8
+    %2 = comb.shru %a, %c-1_i8 : i8
+    %3 = comb.shl %a, %c-1_i8 : i8
+    hw.output %0, %1, %2, %3 : i8, i8, i8, i8",
+        folded: "
+    %c0_i8 = hw.constant 0 : i8
+    %c0_i8_0 = hw.constant 0 : i8
+    %c0_i8_1 = hw.constant 0 : i8
+    %c0_i8_2 = hw.constant 0 : i8
+    hw.output %c0_i8, %c0_i8_0, %c0_i8_1, %c0_i8_2 : i8, i8, i8, i8",
+    },
+    Row {
+        ports: "in %a : i1, in %b : i128, out o : i1, out p : i1, out q : i128, out r : i128",
+        text: "
+    %true = hw.constant true
+    %c128_i128 = hw.constant 128 : i128
+    %c-1_i128 = hw.constant -1 : i128
+    %0 = comb.shl %a, %true : i1
+    %1 = comb.shru %a, %true : i1
+    %2 = comb.shl %b, %c128_i128 : i128
+    %3 = comb.shru %b, %c-1_i128 : i128
+    hw.output %0, %1, %2, %3 : i1, i1, i128, i128",
+        folded: "
+    %false = hw.constant false
+    %false_0 = hw.constant false
+    %c0_i128 = hw.constant 0 : i128
+    %c0_i128_0 = hw.constant 0 : i128
+    hw.output %false, %false_0, %c0_i128, %c0_i128_0 : i1, i1, i128, i128",
+    },
+    // by the width less 1
+    Row {
+        ports: "in %a : i8, in %b : i128, out o : i8, out p : i8, out q : i128, out r : i128",
+        text: "
+    %c7_i8 = hw.constant 7 : i8
+    %c127_i128 = hw.constant 127 : i128
+    %0 = comb.shl %a, %c7_i8 : i8
+    %1 = comb.shru %a, %c7_i8 : i8
+    %2 = comb.shl %b, %c127_i128 : i128
+    %3 = comb.shru %b, %c127_i128 : i128
+    hw.output %0, %1, %2, %3 : i8, i8, i128, i128",
+        folded: UNCHANGED,
+    },
+    // what is shifted arithmetically keeps its sign
+    Row {
+        ports: "in %a : i8, in %b : i1, in %c : i128, out o : i8, out p : i8, out q : i1, out r : i128",
+        text: "
+    %c8_i8 = hw.constant 8 : i8
+    %c-1_i8 = hw.constant -1 : i8
+    %true = hw.constant true
+    %c128_i128 = hw.constant 128 : i128
+    %0 = comb.shrs %a, %c8_i8 : i8
+    %1 = comb.shrs %a, %c-1_i8 : i8
+    %2 = comb.shrs %b, %true : i1
+    %3 = comb.shrs %c, %c128_i128 : i128
+    hw.output %0, %1, %2, %3 : i8, i8, i1, i128",
+        folded: UNCHANGED,
+    },
+];
+
+const QUOTIENTS: [Row; 4] = [
+    // by 1, which one bit of 1 is too
+    Row {
+        ports: "in %a : i8, in %b : i1, in %c : i128, out o : i8, out p : i8, out q : i1, out r : i1, out s : i128",
+        text: "
+    %c1_i8 = hw.constant 1 : i8
+    %true = hw.constant true
+    %c1_i128 = hw.constant 1 : i128
+    %0 = comb.divu %a, %c1_i8 {k} : i8
+    %1 = comb.divs %a, %c1_i8 : i8
+    %2 = comb.divu %b, %true : i1
+    %3 = comb.divs %b, %true : i1
+    %4 = comb.divs %c, %c1_i128 : i128
+    hw.output %0, %1, %2, %3, %4 : i8, i8, i1, i1, i128",
+        folded: "
+    hw.output %a, %a, %b, %b, %c : i8, i8, i1, i1, i128",
+    },
+    // rests
+    Row {
+        ports: "in %a : i8, in %b : i1, out o : i8, out p : i8, out q : i1",
+        text: "
+    %c1_i8 = hw.constant 1 : i8
+    %true = hw.constant true
+    %0 = comb.modu %a, %c1_i8 : i8
+    %1 = comb.mods %a, %c1_i8 {k} : i8
+    %2 = comb.mods %b, %true : i1
+    hw.output %0, %1, %2 : i8, i8, i1",
+        folded: "
+    %c0_i8 = hw.constant 0 : i8
+    %c0_i8_0 = hw.constant 0 : i8
+    %false = hw.constant false
+    hw.output %c0_i8, %c0_i8_0, %false : i8, i8, i1",
+    },
+    Row {
+        ports: "in %a : i128, out o : i128, out p : i128",
+        text: "
+    %c1_i128 = hw.constant 1 : i128
+    %0 = comb.modu %a, %c1_i128 : i128
+    %1 = comb.divu %a, %c1_i128 : i128
+    hw.output %0, %1 : i128, i128",
+        folded: "
+    %c0_i128 = hw.constant 0 : i128
+    hw.output %c0_i128, %a : i128, i128",
+    },
+    // by -1, by 2
+    Row {
+        ports: "in %a : i8, in %b : i128, out o : i8, out p : i8, out q : i8, out r : i8, out s : i128",
+        text: "
+    %c-1_i8 = hw.constant -1 : i8
+    %c2_i8 = hw.constant 2 : i8
+    %c-1_i128 = hw.constant -1 : i128
+    %0 = comb.divs %a, %c-1_i8 : i8
+    %1 = comb.mods %a, %c-1_i8 : i8
+    %2 = comb.divu %a, %c2_i8 : i8
+    %3 = comb.modu %a, %c2_i8 : i8
+    %4 = comb.mods %b, %c-1_i128 : i128
+    hw.output %0, %1, %2, %3, %4 : i8, i8, i8, i8, i128",
+        folded: UNCHANGED,
+    },
+];
+
+const COMPARISONS: [Row; 4] = [
+    // of a value and itself
+    Row {
+        ports: "in %a : i8, out o : i1, out p : i1, out q : i1, out r : i1, out s : i1, out t : i1, out u : i1",
+        text: "
+    %0 = comb.icmp eq %a, %a {k} : i8
+    %1 = comb.icmp ceq %a, %a : i8
+    %2 = comb.icmp weq %a, %a : i8
+    %3 = comb.icmp sle %a, %a : i8
+    %4 = comb.icmp sge %a, %a : i8
+    %5 = comb.icmp ule %a, %a : i8
+    %6 = comb.icmp uge %a, %a : i8
+    hw.output %0, %1, %2, %3, %4, %5, %6 : i1, i1, i1, i1, i1, i1, i1",
+        folded: "
+    %true = hw.constant true
+    %true_0 = hw.constant true
+    %true_1 = hw.constant true
+    %true_2 = hw.constant true
+    %true_3 = hw.constant true
+    %true_4 = hw.constant true
+    %true_5 = hw.constant true
+    hw.output %true, %true_0, %true_1, %true_2, %true_3, %true_4, %true_5 : i1, i1, i1, i1, i1, i1, i1",
+    },
+    Row {
+        ports: "in %a : i8, out o : i1, out p : i1, out q : i1, out r : i1, out s : i1, out t : i1, out u : i1",
+        text: "
+    %0 = comb.icmp ne %a, %a : i8
+    %1 = comb.icmp cne %a, %a : i8
+    %2 = comb.icmp wne %a, %a : i8
+    %3 = comb.icmp slt %a, %a : i8
+    %4 = comb.icmp sgt %a, %a : i8
+    %5 = comb.icmp ult %a, %a : i8
+    %6 = comb.icmp bin ugt %a, %a : i8
+    hw.output %0, %1, %2, %3, %4, %5, %6 : i1, i1, i1, i1, i1, i1, i1",
+        folded: "
+    %false = hw.constant false
+    %false_0 = hw.constant false
+    %false_1 = hw.constant false
+    %false_2 = hw.constant false
+    %false_3 = hw.constant false
+    %false_4 = hw.constant false
+    %false_5 = hw.constant false
+    hw.output %false, %false_0, %false_1, %false_2, %false_3, %false_4, %false_5 : i1, i1, i1, i1, i1, i1, i1",
+    },
+    Row {
+        ports: "in %a : i1, in %b : i128, out o : i1, out p : i1",
+        text: "
+    %0 = comb.icmp uge %a, %a : i1
+    %1 = comb.icmp slt %b, %b : i128
+    hw.output %0, %1 : i1, i1",
+        folded: "
+    %true = hw.constant true
+    %false = hw.constant false
+    hw.output %true, %false : i1, i1",
+    },
+    // of others, and with the ends of the range
+    Row {
+        ports: "in %a : i8, in %b : i8, out o : i1, out p : i1, out q : i1",
+        text: "
+    %c0_i8 = hw.constant 0 : i8
+    %c-128_i8 = hw.constant -128 : i8
+    %0 = comb.icmp eq %a, %b : i8
+    %1 = comb.icmp uge %a, %c0_i8 : i8
+    %2 = comb.icmp slt %a, %c-128_i8 : i8
+    hw.output %0, %1, %2 : i1, i1, i1",
+        folded: UNCHANGED,
+    },
+];
+
+const MUXES: [Row; 8] = [
+    // a constant condition
+    Row {
+        ports: "in %a : i8, in %b : i8, in %c : i128, in %d : i128, out o : i8, out p : i8, out q : i128",
+        text: "
+    %true = hw.constant true
+    %false = hw.constant false
+    %0 = comb.mux %true, %a, %b : i8
+    %1 = comb.mux %false, %a, %b {k} : i8
+    %2 = comb.mux %false, %c, %d : i128
+    hw.output %0, %1, %2 : i8, i8, i128",
+        folded: "
+    hw.output %a, %b, %d : i8, i8, i128",
+    },
+    // of aggregates
+    Row {
+        ports: "in %s : !hw.struct<x: i8, y: i1>, in %t : !hw.struct<x: i8, y: i1>, out o : !hw.struct<x: i8, y: i1>, out p : !hw.array<2xi8>",
+        text: "
+    %true = hw.constant true
+    %0 = hw.aggregate_constant [1 : i8, 2 : i8] : !hw.array<2xi8>
+    %1 = hw.aggregate_constant [3 : i8, 4 : i8] : !hw.array<2xi8>
+    %2 = comb.mux %true, %s, %t : !hw.struct<x: i8, y: i1>
+    %3 = comb.mux %true, %0, %1 : !hw.array<2xi8>
+    hw.output %2, %3 : !hw.struct<x: i8, y: i1>, !hw.array<2xi8>",
+        folded: "
+    %0 = hw.aggregate_constant [1 : i8, 2 : i8] : !hw.array<2xi8>
+    hw.output %s, %0 : !hw.struct<x: i8, y: i1>, !hw.array<2xi8>",
+    },
+    // one value on both sides
+    Row {
+        ports: "in %c : i1, in %a : i8, in %s : !hw.struct<x: i8>, out o : i8, out p : i1, out q : !hw.struct<x: i8>",
+        text: "
+    %0 = comb.mux %c, %a, %a : i8
+    %1 = comb.mux %c, %c, %c : i1
+    %2 = comb.mux %c, %s, %s : !hw.struct<x: i8>
+    hw.output %0, %1, %2 : i8, i1, !hw.struct<x: i8>",
+        folded: "
+    hw.output %a, %c, %s : i8, i1, !hw.struct<x: i8>",
+    },
+    Row {
+        ports: "in %clk : !seq.clock, in %c : i1, in %a : i128, out o : i128",
+        text: "
+    %0 = comb.mux %c, %r, %r : i128
+    %1 = comb.mux %c, %0, %r : i128
+    %r = seq.compreg %1, %clk : i128
+    hw.output %1 : i128",
+        folded: "
+    %r = seq.compreg %r, %clk : i128
+    hw.output %r : i128",
+    },
+    // true and false
+    Row {
+        ports: "in %c : i1, in %a : i8, out o : i1, out p : i1",
+        text: "
+    %true = hw.constant true
+    %false = hw.constant false
+    %0 = comb.mux %c, %true, %false : i1
+    %1 = comb.icmp ult %a, %2 : i8
+    %2 = comb.add %a, %a : i8
+    %3 = comb.mux %1, %true, %false : i1
+    hw.output %0, %3 : i1, i1",
+        folded: "
+    %0 = comb.icmp ult %a, %1 : i8
+    %1 = comb.add %a, %a : i8
+    hw.output %c, %0 : i1, i1",
+    },
+    Row {
+        ports: "in %c : i1, out o : i1",
+        text: "
+    %0 = hw.constant 1 : i1
+    %1 = hw.constant -1 : i1
+    %2 = hw.constant 0 : i1
+    %3 = comb.mux %c, %0, %2 : i1
+    %4 = comb.mux %3, %1, %2 : i1
+    hw.output %4 : i1",
+        folded: "
+    hw.output %c : i1",
+    },
+    // false and true, 1 and 0 of more bits
+    Row {
+        ports: "in %c : i1, out o : i1, out p : i8",
+        text: "
+    %true = hw.constant true
+    %false = hw.constant false
+    %c1_i8 = hw.constant 1 : i8
+    %c0_i8 = hw.constant 0 : i8
+    %0 = comb.mux %c, %false, %true : i1
+    %1 = comb.mux %c, %c1_i8, %c0_i8 : i8
+    hw.output %0, %1 : i1, i8",
+        folded: UNCHANGED,
+    },
+    // two constants of one value are two values, and a wire is no constant
+    Row {
+        ports: "in %c : i1, in %a : i8, in %b : i8, out o : i8, out p : i8, out q : i8",
+        text: "
+    %c5_i8 = hw.constant 5 : i8
+    %c5_i8_0 = hw.constant 5 : i8
+    %true = hw.constant true
+    %w = hw.wire %true : i1
+    %0 = comb.mux %c, %c5_i8, %c5_i8_0 : i8
+    %1 = comb.mux %w, %a, %b : i8
+    %2 = comb.mux %c, %a, %b : i8
+    hw.output %0, %1, %2 : i8, i8, i8",
+        folded: UNCHANGED,
+    },
+];
+
+#[test]
+fn differences_are_folded(rt: HostRuntime) -> Result<(), Fail> {
+    assert_eq!(rt; first_other(&rt, &DIFFERENCES)?, None);
+    Ok(())
+}
+
+#[test]
+fn shifts_are_folded(rt: HostRuntime) -> Result<(), Fail> {
+    assert_eq!(rt; first_other(&rt, &SHIFTS)?, None);
+    Ok(())
+}
+
+#[test]
+fn quotients_are_folded(rt: HostRuntime) -> Result<(), Fail> {
+    assert_eq!(rt; first_other(&rt, &QUOTIENTS)?, None);
+    Ok(())
+}
+
+#[test]
+fn comparisons_are_folded(rt: HostRuntime) -> Result<(), Fail> {
+    assert_eq!(rt; first_other(&rt, &COMPARISONS)?, None);
+    Ok(())
+}
+
+#[test]
+fn muxes_are_folded(rt: HostRuntime) -> Result<(), Fail> {
+    assert_eq!(rt; first_other(&rt, &MUXES)?, None);
+    Ok(())
+}

@@ -1,0 +1,10 @@
+use Rattle.std.proofs.Common.{drop}
+use Rattle.ir_store.specs.Designs.{design_of}
+use Rattle.hw_model.specs.Design.{Design}
+use Rattle.accepted_edits.specs.Keeps.{IsFit}
+use Rattle.pass_manager.specs.Results.{IsResult}
+use Rattle.pass_manager.proofs.run.run_pipeline.Given as goal
+
+abbrev pub invariant-loop-pass : goal.invariant-loop-pass
+invariant-loop-pass g l =
+    IsFit (design_of l.design) × ((f : Design) → IsResult (drop l.pass-index l.pass-items) (design_of l.design) f → IsResult l.pass-items (design_of l.initial.design) f)

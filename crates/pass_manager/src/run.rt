@@ -1,0 +1,81 @@
+//! Runs of passes over a design.
+ghost use Rattle.std.specs.Prelude.{◌≡◌, ◌<◌, length, IfOk, OnOk};
+ghost use Rattle.ir_store.specs.Designs.{design_of, modules_of};
+ghost use Rattle.accepted_edits.specs.Keeps.{IsFit};
+ghost use Rattle.op_verifier.specs.Verdict.{IsAccepted};
+ghost use Rattle.mlir_printer.specs.Printable.{Printable};
+ghost use Rattle.pass_manager.specs.Results.{AreCanonicalModules, HasCanonicalAt, IsChosen, IsResult};
+
+use crate::gate::Gate;
+use canonicalise::canonicalize::canonicalize;
+use ir_store::design::Design;
+use pass_pipeline::pass::Pass;
+use pass_pipeline::pipeline::Pipeline;
+use std::alloc::{AllocError, Global};
+
+/// What the passes of a pipeline make of a design of which nothing is refused, one pass after another, and of each one module
+/// after another. `gate` is told of each module before a pass works on it. The error comes only when out of memory, and the
+/// design is dropped then.
+pub fn run_pipeline<G: Gate>(
+    alloc: Global,
+    mut design: Design,
+    pipeline: &Pipeline,
+    gate: &G,
+) -> Result<Design, AllocError>
+    requires accepted { IsAccepted (design_of design) }
+    requires printable { Printable (design_of design) }
+    ensures { IfOk result (λ done. IsResult pipeline.now (design_of design) (design_of done)) }
+{
+    for pass in pipeline.as_slice() {
+        run_pass(alloc, &mut design, *pass, gate)?;
+    }
+    Ok(design)
+}
+
+/// One pass.
+fn run_pass<G: Gate>(
+    alloc: Global,
+    design: &mut Design,
+    pass: Pass,
+    gate: &G,
+) -> Result<(), AllocError>
+    requires { IsFit (design_of design.old) }
+    ensures { OnOk result (IsChosen pass (design_of design.old) (design_of design.new)) }
+{
+    match pass {
+        Pass::Canonicalize => canonicalize_modules(alloc, design, gate),
+        Pass::Cse
+        | Pass::SeqLowerRegs
+        | Pass::HwLowerAggregates
+        | Pass::HwFlattenModules
+        | Pass::SymbolDce => Ok(()),
+    }
+}
+
+/// Brings the body of each module into its canonical form.
+fn canonicalize_modules<G: Gate>(
+    alloc: Global,
+    design: &mut Design,
+    gate: &G,
+) -> Result<(), AllocError>
+    requires { IsFit (design_of design.old) }
+    ensures { OnOk result (AreCanonicalModules (design_of design.old) (design_of design.new)) }
+{
+    for number in 0..design.module_count() {
+        gate.enter(number);
+        canonicalize_module(alloc, design, number)?;
+    }
+    Ok(())
+}
+
+/// Brings the body of the module of a number into its canonical form.
+fn canonicalize_module(alloc: Global, design: &mut Design, number: u32) -> Result<(), AllocError>
+    requires within { number < length (modules_of design.old) }
+    requires fit { IsFit (design_of design.old) }
+    ensures { OnOk result (HasCanonicalAt number (design_of design.old) (design_of design.new)) }
+{
+    let mut body = design.take_body(number);
+    canonicalize(alloc, &mut body)?;
+    design.put_body(number, body);
+    Ok(())
+}
