@@ -1,5 +1,5 @@
 //! `comb.add`, `comb.mul`, `comb.and`, `comb.or`, `comb.xor`: several constants, the order of operands, and operands of the same kind.
-use crate::canonicalize::{Row, UNCHANGED, first_other};
+use crate::rows::{Row, UNCHANGED, first_other};
 use std::test::Fail;
 
 // Two constants are joined, and constants stand last.

@@ -1,5 +1,5 @@
 //! `comb.add`, `comb.mul`, `comb.and`, `comb.or`, `comb.xor`: operands that decide nothing, or everything, and equal operands.
-use crate::canonicalize::{Row, UNCHANGED, first_other};
+use crate::rows::{Row, UNCHANGED, first_other};
 use std::test::Fail;
 
 // One operand stands for the result.
@@ -301,92 +301,6 @@ const ABSORBING: [Row; 6] = [
     },
 ];
 
-// Equal operands.
-const EQUAL: [Row; 7] = [
-    // and, or: each once, in the order of the first ones
-    Row {
-        ports: "in %a : i8, in %b : i8, out o : i8, out p : i8, out q : i8",
-        text: "
-    %0 = comb.and %a, %b, %a : i8
-    %1 = comb.or %b, %a, %b, %a, %b {k} : i8
-    %2 = comb.and %a, %a, %a : i8
-    hw.output %0, %1, %2 : i8, i8, i8",
-        folded: "
-    %0 = comb.and %a, %b : i8
-    %1 = comb.or %b, %a {k} : i8
-    hw.output %0, %1, %a : i8, i8, i8",
-    },
-    Row {
-        ports: "in %a : i1, in %b : i128, in %c : i128, out o : i1, out p : i128",
-        text: "
-    %0 = comb.or %a, %a : i1
-    %1 = comb.and %b, %c, %c, %b : i128
-    hw.output %0, %1 : i1, i128",
-        folded: "
-    %0 = comb.and %b, %c : i128
-    hw.output %a, %0 : i1, i128",
-    },
-    // results of one operation of several
-    Row {
-        ports: "in %s : !hw.struct<x: i8, y: i8>, out o : i8",
-        text: "
-    %0:2 = hw.struct_explode %s : !hw.struct<x: i8, y: i8>
-    %1 = comb.and %0#0, %0#1, %0#0 : i8
-    hw.output %1 : i8",
-        folded: "
-    %0:2 = hw.struct_explode %s : !hw.struct<x: i8, y: i8>
-    %1 = comb.and %0#0, %0#1 : i8
-    hw.output %1 : i8",
-    },
-    // add, mul keep equal operands
-    Row {
-        ports: "in %a : i8, in %b : i8, out o : i8, out p : i8, out q : i8",
-        text: "
-    %0 = comb.add %a, %b, %a : i8
-    %1 = comb.mul %a, %a, %a : i8
-    %2 = comb.and %a, %b : i8
-    hw.output %0, %1, %2 : i8, i8, i8",
-        folded: UNCHANGED,
-    },
-    // xor: two go, and 0 is left of two
-    Row {
-        ports: "in %a : i8, in %b : i8, in %c : i8, out o : i8, out p : i8, out q : i8, out r : i8, out s : i8",
-        text: "
-    %0 = comb.xor %a, %a {k} : i8
-    %1 = comb.xor %a, %b, %a : i8
-    %2 = comb.xor %a, %a, %a : i8
-    %3 = comb.xor %a, %b, %a, %b : i8
-    %4 = comb.xor %b, %a, %c, %a {k} : i8
-    hw.output %0, %1, %2, %3, %4 : i8, i8, i8, i8, i8",
-        folded: "
-    %c0_i8 = hw.constant 0 : i8
-    %c0_i8_0 = hw.constant 0 : i8
-    %0 = comb.xor %b, %c {k} : i8
-    hw.output %c0_i8, %b, %a, %c0_i8_0, %0 : i8, i8, i8, i8, i8",
-    },
-    Row {
-        ports: "in %a : i1, in %b : i128, out o : i1, out p : i128, out q : i1",
-        text: "
-    %0 = comb.xor %a, %a : i1
-    %1 = comb.xor %b, %b : i128
-    %2 = comb.xor %a, %a, %a : i1
-    hw.output %0, %1, %2 : i1, i128, i1",
-        folded: "
-    %false = hw.constant false
-    %c0_i128 = hw.constant 0 : i128
-    hw.output %false, %c0_i128, %a : i1, i128, i1",
-    },
-    Row {
-        ports: "in %a : i8, in %b : i8, in %s : !hw.struct<x: i8, y: i8>, out o : i8, out p : i8",
-        text: "
-    %0:2 = hw.struct_explode %s : !hw.struct<x: i8, y: i8>
-    %1 = comb.xor %0#0, %0#1 : i8
-    %2 = comb.xor %a, %b : i8
-    hw.output %1, %2 : i8, i8",
-        folded: UNCHANGED,
-    },
-];
-
 #[test]
 fn single_operands_stand_for_results(rt: HostRuntime) -> Result<(), Fail> {
     assert_eq!(rt; first_other(&rt, &SINGLE)?, None);
@@ -402,11 +316,5 @@ fn neutral_operands_are_dropped(rt: HostRuntime) -> Result<(), Fail> {
 #[test]
 fn absorbing_operands_stand_for_results(rt: HostRuntime) -> Result<(), Fail> {
     assert_eq!(rt; first_other(&rt, &ABSORBING)?, None);
-    Ok(())
-}
-
-#[test]
-fn equal_operands_are_dropped(rt: HostRuntime) -> Result<(), Fail> {
-    assert_eq!(rt; first_other(&rt, &EQUAL)?, None);
     Ok(())
 }

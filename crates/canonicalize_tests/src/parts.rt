@@ -1,5 +1,5 @@
 //! Bits, fields and elements.
-use crate::canonicalize::{Row, UNCHANGED, first_other};
+use crate::rows::{Row, UNCHANGED, first_other};
 use std::test::Fail;
 
 const EXTRACTS: [Row; 9] = [

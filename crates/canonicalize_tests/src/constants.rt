@@ -1,5 +1,5 @@
 //! Unused operations, and operations of constants.
-use crate::canonicalize::{Row, UNCHANGED, first_other};
+use crate::rows::{Row, UNCHANGED, first_other};
 use std::test::Fail;
 
 const UNUSED: [Row; 7] = [

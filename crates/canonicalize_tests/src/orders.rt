@@ -1,5 +1,5 @@
 //! The order of the rows of the table, and sweeps until nothing changes.
-use crate::canonicalize::{Row, UNCHANGED, first_other};
+use crate::rows::{Row, UNCHANGED, first_other};
 use std::test::Fail;
 
 // Each text would end otherwise if a later row came first: what an operation becomes has no dictionary where it is new, and that of

@@ -1,5 +1,8 @@
 //! Runs of `opt --canonicalize` on the rows of tables, each a text and the text that it folds to.
-use crate::runs::{Failing, run_words};
+use circt_top::run::run_circt;
+use io_edge::memory_files::{MemoryFile, MemoryFiles};
+use io_edge::memory_sink::MemorySink;
+use pass_manager::gate::Open;
 use std::alloc::{AllocError, AllocGlobal, Global};
 use std::test::Fail;
 use std::thread::Threads;
@@ -28,6 +31,32 @@ fn file_of(alloc: Global, ports: &str, body: &str) -> Result<String, AllocError>
     Ok(text)
 }
 
+// What `opt --canonicalize` prints of a text, where it ends well.
+fn printed(
+    rt: &(impl Threads + Sync + AllocGlobal),
+    input: &str,
+) -> Result<Option<MemorySink>, AllocError> {
+    let alloc = rt.alloc();
+    let words = vec![in alloc;
+        String::from_str(alloc, "opt")?,
+        String::from_str(alloc, "--canonicalize")?,
+    ]?;
+    let files = vec![in alloc; MemoryFile::of(alloc, "-", input.as_bytes())?]?;
+    let mut files = MemoryFiles::new(alloc, files);
+    let mut out = MemorySink::new(alloc, 16384)?;
+    let mut err = MemorySink::new(alloc, 16384)?;
+    let status = run_circt(
+        rt,
+        alloc,
+        words.as_slice(),
+        &mut files,
+        &mut out,
+        &mut err,
+        &Open,
+    );
+    Ok(if status.code() == 0 { Some(out) } else { None })
+}
+
 // Whether the text of a row is printed as it is to be.
 fn is_folded(rt: &(impl Threads + Sync + AllocGlobal), row: &Row) -> Result<bool, AllocError> {
     let folded = if row.folded.is_empty() {
@@ -37,8 +66,10 @@ fn is_folded(rt: &(impl Threads + Sync + AllocGlobal), row: &Row) -> Result<bool
     };
     let input = file_of(rt.alloc(), row.ports, row.text)?;
     let expected = file_of(rt.alloc(), row.ports, folded)?;
-    let run = run_words(rt, "opt --canonicalize", input.as_str(), Failing::No)?;
-    Ok(run.code == 0 && run.out.contents() == expected.as_bytes())
+    Ok(match printed(rt, input.as_str())? {
+        Some(out) => out.contents() == expected.as_bytes(),
+        None => false,
+    })
 }
 
 /// The number of the first row whose text is printed in another way than it is to be.
