@@ -60,7 +60,7 @@ module _ (d : Design) (k : ℕ) (m : Module) (fit : IsFit d) (at : slice_get d k
           let here : up k place.0 ≡ k = was_distinct (up k place.0) k n m (stood_at place.0 n place.1) at (find_symbol (remove d k) m.symbol n is) in
           let clash : Some place.0 ≡ None = sym (down-up k place.0) ∙ ap (down k) here ∙ down_same k in cc
 
-  is_without : IsWithout d (remove d k) m.symbol
+  pub is_without : IsWithout d (remove d k) m.symbol
   is_without = record { others = removed_others d k m at; absent = none_found; unused = unused }
 
   pub fit_without_module : IsFit (remove d k)

@@ -16,7 +16,7 @@ use ir_store::operation::OpId;
 use std::alloc::{AllocError, Global};
 
 /// Of each module, the numbers of those that it instances.
-pub(crate) fn call_graph(alloc: Global, design: &Design) -> Result<Vec<NodeList>, AllocError>
+pub fn call_graph(alloc: Global, design: &Design) -> Result<Vec<NodeList>, AllocError>
     ensures { IfOk result (λ graph. lists_of graph.items ≡ call_lists (design_of design.now)) }
 {
     let mut graph = Vec::with_capacity(alloc, design.module_count() as usize)?;

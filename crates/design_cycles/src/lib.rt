@@ -21,6 +21,7 @@ mod weights;
 mod wired;
 mod wires;
 
+pub use calls::call_graph;
 pub use cycles::first_cycle;
 pub use hierarchy::Hierarchy;
 pub use ops::op_at;

@@ -5,7 +5,7 @@ use Rattle.hw_model.specs.KindViews.{kind_of}
 use Rattle.ir_store.specs.declared.operation.OpId.{OpId}
 use Rattle.ir_store.specs.declared.body.Body.{Body}
 use Rattle.ir_store.specs.declared.body.Op.{Op}
-use Rattle.ir_store.specs.declared.body.Ops.{Ops}
+use Rattle.ir_store.specs.declared.ops.Ops.{Ops}
 use Rattle.ir_store.specs.DictionaryViews.{entries_in}
 use Rattle.ir_store.specs.OperationViews.{OpParts, parts_of, types_in, results_in, place_of}
 use Rattle.linked_lists.specs.Links.{walk}

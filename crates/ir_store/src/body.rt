@@ -9,12 +9,12 @@ use crate::operands::OperandTable;
 use crate::operation::{
     NewOp, NewResultList, OpId, Parts, TyList, UseId, UsePlace, Value, copied_parts,
 };
+use crate::ops::Ops;
 use crate::order::Order;
 use crate::uses::Uses;
 use diag::refusal::Place;
 use hw_model::kinds::OpKind;
 use io_edge::byte_text::Text;
-use linked_lists::links::{Link, next_of};
 use std::alloc::{AllocError, Global};
 
 /// The operations of a module in text order, each with an id that stays while the body changes.
@@ -49,69 +49,6 @@ pub struct Op<'b> {
     pub bin: bool,
     /// Its place in the source.
     pub place: Place,
-}
-
-/// The ids of a body's operations in text order: a walk along the links between them.
-#[derive(Drop)]
-pub struct Ops<'b> {
-    links: &'b [Link],
-    at: u32,
-    left: usize,
-}
-
-impl<'b> Iterator for Ops<'b> {
-    ghost use Rattle.std.specs.Iterator.{YieldsFirst, item_count};
-    ghost use Rattle.ir_store.specs.Bodies.{ids_left};
-
-    type Item = OpId;
-
-    ghost next_gives = { YieldsFirst ids_left };
-
-    ghost remaining = { item_count ids_left };
-
-    fn next(&mut self) -> Option<OpId> {
-        let first = self.first()?;
-        self.advance();
-        Some(first)
-    }
-}
-
-impl<'b> Ops<'b> {
-    ghost use Rattle.std.specs.Prelude.{drop};
-    ghost use Rattle.ir_store.specs.Bodies.{ids_left, first_id};
-    ghost use Rattle.linked_lists.specs.Links.{walk};
-    ghost use Rattle.ir_store.specs.Orders.{live_ids};
-
-    /// The ids of an order.
-    fn along(order: &'b Order) -> Ops<'b>
-        ensures ids { walk result.links.now result.left result.at ≡ live_ids order.now }
-    {
-        Ops {
-            links: order.links(),
-            at: order.first(),
-            left: order.count(),
-        }
-    }
-
-    /// The first of those that are left.
-    pub(crate) fn first(&self) -> Option<OpId>
-        ensures { result ≡ first_id (ids_left self.now) }
-    {
-        if self.left == 0 {
-            return None;
-        }
-        Some(OpId { index: self.at })
-    }
-
-    /// Leaves the first out, where there is one.
-    pub(crate) fn advance(&mut self)
-        ensures { ids_left self.new ≡ drop 1 (ids_left self.old) }
-    {
-        if self.left > 0 {
-            self.at = next_of(self.links, self.at);
-            self.left -= 1;
-        }
-    }
 }
 
 impl Body {
@@ -322,6 +259,21 @@ impl Body {
     {
         let index = self.index_of(op);
         self.operands.set(index, at as usize, value);
+    }
+
+    /// Puts `values` in the place of the operands of `op`. On an error, which comes where memory that is needed is refused,
+    /// the operations stay. Linear in both lists, and constant on average in the body.
+    pub fn set_operands(&mut self, op: OpId, values: &[Value]) -> Result<(), AllocError>
+        requires live { Contains (ids_of self.old) op.index }
+        ensures ok { OnOk result (ops_of self.new ≡ operands_at op.index (λ operands. values.now) (ops_of self.old)) }
+        ensures err { OnErr result (ops_of self.new ≡ ops_of self.old) }
+        ensures succeeds { length values.now ≤ spare_uses self.old → IsOk result }
+        ensures spare { (spare_ops self.old ≤ spare_ops self.new) × (spare_uses self.old ≤ spare_uses self.new + length values.now) }
+    {
+        let index = self.index_of(op);
+        self.operands.reserve_operands(values.len())?;
+        self.operands.put(index, values);
+        Ok(())
     }
 
     /// Takes operand `at` of `op` out. Linear in the operands of `op`.

@@ -197,6 +197,17 @@ impl Design {
         self.symbols.get(symbol).copied()
     }
 
+    /// The modules in order, without the design. It takes no memory.
+    pub fn into_modules(self) -> Vec<Module>
+        ensures { map module_of result.items ≡ modules_of self }
+    {
+        let Design {
+            modules,
+            symbols: _,
+        } = self;
+        modules
+    }
+
     /// Takes the body of module `m`, which has an empty one afterwards.
     pub fn take_body(&mut self, m: u32) -> Body
         requires { m < length (modules_of self.old) }

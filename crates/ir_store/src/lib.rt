@@ -17,6 +17,7 @@ mod operand_lists;
 mod operand_uses;
 mod operands;
 pub mod operation;
+pub mod ops;
 mod order;
 pub mod position_table;
 pub mod result_types;

@@ -48,9 +48,9 @@ pub fn print_and_drop(alloc: Global, verified: Verified) -> Result<Text, AllocEr
     text_and_drop(alloc, verified.into_design())
 }
 
-// The text of a design, whose bodies are dropped one by one.
+/// The text of a design, whose bodies are dropped one by one, each after its text. The error comes where memory is refused.
 #[tactic(auto, using(std::proofs::Common::append_assoc), unfolding(crate::specs::Texts::ir_text, crate::specs::Modules::file_bytes))]
-fn text_and_drop(alloc: Global, design: Design) -> Result<Text, AllocError>
+pub fn text_and_drop(alloc: Global, design: Design) -> Result<Text, AllocError>
     ensures { IfOk result (λ text. text ≡ ir_text (design_of design)) }
 {
     let mut out = Text::new(alloc);

@@ -5,3 +5,4 @@ pub mod Unchanged
 pub mod Composed
 pub mod Shapes
 pub mod Steady
+pub mod Steps

@@ -45,7 +45,7 @@ public_reached d s is = (s, 0, is, refl)
 -- ---- one law after another
 
 module _ (ps : List Pass) (d e : Design) (after : IsAfter ps d e) where
-  public_kept : (a b : Bool) (s : Name) → IsPublic d s → Remains a b d s
+  pub public_kept : (a b : Bool) (s : Name) → IsPublic d s → Remains a b d s
   public_kept true b s is = is
   public_kept false true s is = public_reached d s is
   public_kept false false s is = tt

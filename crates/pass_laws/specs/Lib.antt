@@ -1,3 +1,4 @@
 pub mod PassLaw
 pub mod Remaining
 pub mod Steady
+pub mod Steps
