@@ -12,7 +12,7 @@ use Rattle.ir_store.specs.Numbered.{position_of}
 use Rattle.hw_model.specs.Design.{Ref, Op}
 use Rattle.fold_laws.specs.Edits.{Edit}
 use Rattle.fold_laws.specs.Edits.Edit.{changed, replaced, erased, put_in}
-use Rattle.comb_fold.specs.Folded.{ids_edited_by, IsRowEdit}
+use Rattle.body_edits.specs.Folded.{ids_edited_by, IsRowEdit}
 use Rattle.canonicalise.specs.Dues.{IsDue}
 use Rattle.canonicalise.specs.Sweeps.{moved_by}
 

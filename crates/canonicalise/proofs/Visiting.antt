@@ -12,9 +12,9 @@ use Rattle.ir_store.specs.Numbered.{position_of, op_by, ops_by_position}
 use Rattle.ir_store.proofs.BodyLemmas.{ids_once}
 use Rattle.fold_laws.specs.Edits.{Edit}
 use Rattle.fold_laws.specs.Fold.{IsSmaller}
-use Rattle.comb_fold.specs.FitBodies.{IsOfFit}
-use Rattle.comb_fold.specs.Folded.{ids_edited_by, IsRowEdit, IsFolded}
-use Rattle.comb_fold.specs.Views.{body_ops, position_in}
+use Rattle.body_edits.specs.FitBodies.{IsOfFit}
+use Rattle.body_edits.specs.Folded.{ids_edited_by, IsRowEdit, IsFolded}
+use Rattle.body_edits.specs.Views.{body_ops, position_in}
 use Rattle.canonicalise.specs.Canonical.{table, IsFoldOf, Leads}
 use Rattle.canonicalise.specs.Dues.{id_after, after_some, IsDue}
 use Rattle.canonicalise.specs.Sweeps.{Sweep, sweep_of, moved_by, with_edits, visit, visits, IsSwept}

@@ -1,8 +1,9 @@
 -- The canonical form of a body (MLIR documentation, "Operation canonicalization").
-use Rattle.std.specs.Prelude.{◌≡◌, ◌<◌, ℕ, zero, suc, List, length, Some, None}
+use Rattle.std.specs.Prelude.{◌≡◌, ◌<◌, ℕ, List, length, Some, None}
 use Rattle.hw_model.specs.Design.{Op}
 use Rattle.fold_laws.specs.Edits.{Edit, Row, edited_by}
 use Rattle.fold_laws.specs.Table.{rows, first_row}
+use Rattle.pass_laws.specs.Steps.{StepsBy}
 use Rattle.canonicalise.specs.Sweeps.{IsSweptOut}
 
 -- the first row that matches
@@ -23,8 +24,7 @@ IsFoldOf row before after = (i : ℕ) × (es : List Edit) × (row before i ≡ S
 
 -- so many do, one after another
 abbrev pub LeadsBy : Row → ℕ → List Op → List Op → Type 0
-LeadsBy row zero before after = after ≡ before
-LeadsBy row (suc n) before after = (between : List Op) × LeadsBy row n before between × IsFoldOf row between after
+LeadsBy row n before after = StepsBy (IsFoldOf row) n before after
 
 pub record Leads (row : Row) (before after : List Op) : Type 0 where
   pub folds : ℕ

@@ -2,8 +2,8 @@
 ghost use Rattle.std.specs.Prelude.{◌≡◌, true, Some, map, Contains, IfOk, IfSome, OnOk, OnErr};
 ghost use Rattle.ir_store.specs.Bodies.{ids_of, op_id, first_id};
 ghost use Rattle.fold_laws.specs.Fold.{IsSmaller};
-ghost use Rattle.comb_fold.specs.FitBodies.{IsOfFit};
-ghost use Rattle.comb_fold.specs.Views.{body_ops};
+ghost use Rattle.body_edits.specs.FitBodies.{IsOfFit};
+ghost use Rattle.body_edits.specs.Views.{body_ops};
 ghost use Rattle.canonicalise.specs.Canonical.{table, IsCanonicalOf, Leads};
 ghost use Rattle.canonicalise.specs.Dues.{after_some, IsDue};
 ghost use Rattle.canonicalise.specs.Sweeps.{IsSwept};

@@ -25,14 +25,14 @@ use Rattle.fold_laws.specs.Evaluated.{is_comb, constants_at, value_of_constants,
 use Rattle.fold_laws.proofs.Evaluated.{evaluated_makes}
 use Rattle.fold_laws.proofs.MadeKinds.{is_made}
 use Rattle.fold_laws.proofs.Stands.{Known, op_typed, op_known}
-use Rattle.comb_fold.specs.declared.site.Site.{Site}
-use Rattle.comb_fold.specs.FitBodies.{IsOfFit}
-use Rattle.comb_fold.specs.Readable.{IsWidth}
+use Rattle.body_edits.specs.declared.site.Site.{Site}
+use Rattle.body_edits.specs.FitBodies.{IsOfFit}
+use Rattle.body_edits.specs.Readable.{IsWidth}
 use Rattle.comb_fold.specs.Evaluable.{bits_of_type, IsEvaluable, IsEvaluableSite}
-use Rattle.comb_fold.specs.Sites.{kind_at, first_type_of}
-use Rattle.comb_fold.specs.Views.{body_ops, value_ref, op_seen}
-use Rattle.comb_fold.proofs.FitOps.{within_limits}
-use Rattle.comb_fold.proofs.NumberOps.{row_found}
+use Rattle.body_edits.specs.Sites.{kind_at, first_type_of}
+use Rattle.body_edits.specs.Views.{body_ops, value_ref, op_seen}
+use Rattle.body_edits.proofs.FitOps.{within_limits}
+use Rattle.body_edits.proofs.NumberOps.{row_found}
 
 -- ---- words of constants
 

@@ -17,9 +17,9 @@ use Rattle.fold_laws.proofs.ArrayParts.{array_part_law}
 use Rattle.fold_laws.proofs.Parts.{struct_part_law}
 use Rattle.fold_laws.proofs.WholeValues.{trivial_concat_stands, trivial_replicate_stands, trivial_bitcast_stands}
 use Rattle.comb_fold.specs.Choices.{trivial, made_part}
-use Rattle.comb_fold.specs.Folded.{IsFolded}
+use Rattle.body_edits.specs.Folded.{IsFolded}
 use Rattle.comb_fold.specs.Rows.{StandsInFit}
-use Rattle.comb_fold.specs.Views.{body_ops}
+use Rattle.body_edits.specs.Views.{body_ops}
 use Rattle.comb_fold.proofs.FitRows.{stands_in_fit, maker_operand_in_fit}
 
 -- what a row makes of a body another one does that is the same

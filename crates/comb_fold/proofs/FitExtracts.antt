@@ -16,8 +16,8 @@ use Rattle.op_checks.proofs.Agreeing.{agreed}
 use Rattle.op_checks.proofs.Widths.{neither, bits_within}
 use Rattle.fold_laws.proofs.MadeKinds.{is_made}
 use Rattle.fold_laws.proofs.Stands.{Known, op_known}
-use Rattle.comb_fold.specs.FitBodies.{IsOfFit}
-use Rattle.comb_fold.specs.Views.{body_ops}
+use Rattle.body_edits.specs.FitBodies.{IsOfFit}
+use Rattle.body_edits.specs.Views.{body_ops}
 
 -- one that reaches no further than its operand takes low bits
 reaches : (low : ℕ) (ts : List HwType) (xs : List (Option HwType)) (t : HwType) → length ts ≡ 2 → has_other_operand (extract low) ts xs ≡ false → list_any is_outside ts ≡ false

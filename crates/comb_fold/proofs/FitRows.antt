@@ -17,9 +17,9 @@ use Rattle.fold_laws.specs.Standing.{Stand}
 use Rattle.fold_laws.proofs.MakerOperands.{IsMakerOperand}
 use Rattle.fold_laws.proofs.MadeKinds.{made_plain}
 use Rattle.fold_laws.proofs.Stands.{IsStand, op_found, op_plain, op_typed, op_has_one, op_known}
-use Rattle.comb_fold.specs.Replaceable.{MayStand}
+use Rattle.body_edits.specs.Replaceable.{MayStand}
 use Rattle.comb_fold.specs.Rows.{StandsInFit}
-use Rattle.comb_fold.proofs.FitOps.{no_further}
+use Rattle.body_edits.proofs.FitOps.{no_further}
 
 -- an operand of the operation
 of_stand : (stand : Stand) → IsStand stand → (d : Design) (k : ℕ) (md : Module) (i : ℕ) (o : Op) (x : Ref) → IsFit d → slice_get d k ≡ Some md → slice_get md.body i ≡ Some o

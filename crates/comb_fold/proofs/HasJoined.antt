@@ -8,8 +8,8 @@ use Rattle.ir_store.specs.OperationViews.{new_parts}
 use Rattle.fold_laws.specs.Numbers.{number_op}
 use Rattle.comb_fold.specs.declared.joined.Two.{Two}
 use Rattle.comb_fold.specs.Joins.{IsPutIn, HasJoined}
-use Rattle.comb_fold.specs.Replaced.{plain_op, IsNumberOp}
-use Rattle.comb_fold.specs.Views.{body_ops}
+use Rattle.body_edits.specs.Replaced.{plain_op, IsNumberOp}
+use Rattle.body_edits.specs.Views.{body_ops}
 
 pub has_joined : (b b' : Body) (i first second : ℕ) (two : Two) (n : ℕ) (o : Op) (t : HwType) (new : NewOp) → slice_get (body_ops b) i ≡ Some o → result_type o 0 ≡ Some t
     → IsNumberOp n t o.place new → first ≡ two.first → second ≡ two.second → IsPutIn b b' i first second (plain_op (new_parts new)) → HasJoined b b' i two n

@@ -27,19 +27,19 @@ use Rattle.fold_laws.specs.Edits.Edit.{replaced, erased}
 use Rattle.fold_laws.specs.Nested.{Nested, uses_among, first_nested, splice, new_op, joined_extract, joined_concat, lowest_bit, is_extract, is_concat, extract_edits, concat_edits, fold_extract_extract, fold_nested_concat}
 use Rattle.fold_laws.proofs.NestedUses.{uses-splice, own_result, named_once, IsNested, first_nested_is}
 use Rattle.fold_laws.proofs.Splices.{In-splice, map-splice}
-use Rattle.comb_fold.specs.declared.nested.InnerKind.{InnerKind}
-use Rattle.comb_fold.specs.FitBodies.{IsOfFit}
-use Rattle.comb_fold.specs.Folded.{IsFolded}
+use Rattle.body_edits.specs.declared.nested.InnerKind.{InnerKind}
+use Rattle.body_edits.specs.FitBodies.{IsOfFit}
+use Rattle.body_edits.specs.Folded.{IsFolded}
 use Rattle.comb_fold.specs.Merges.{low_of, nested_of, nested_in, TakesBoth, IsJoin, IsJoined}
-use Rattle.comb_fold.specs.Nests.{kind_test, IsInner}
-use Rattle.comb_fold.specs.Replaceable.{HaveNoFurther}
-use Rattle.comb_fold.specs.Replaced.{new_seen}
-use Rattle.comb_fold.specs.Views.{body_ops, position_in, value_ref, op_seen}
+use Rattle.body_edits.specs.Nests.{kind_test, IsInner}
+use Rattle.body_edits.specs.Replaceable.{HaveNoFurther}
+use Rattle.body_edits.specs.Replaced.{new_seen}
+use Rattle.body_edits.specs.Views.{body_ops, position_in, value_ref, op_seen}
 use Rattle.comb_fold.proofs.FitExtracts.{extract_types, low_within, concat_types}
-use Rattle.comb_fold.proofs.FitOps.{fit_no_further}
-use Rattle.comb_fold.proofs.NestedReads.{kinds_made}
+use Rattle.body_edits.proofs.FitOps.{fit_no_further}
+use Rattle.body_edits.proofs.NestedReads.{kinds_made}
 use Rattle.comb_fold.proofs.NestedRow.{within_ids}
-use Rattle.comb_fold.proofs.ReadBodies.{op_seen_at}
+use Rattle.body_edits.proofs.ReadBodies.{op_seen_at}
 
 -- ---- what is found
 

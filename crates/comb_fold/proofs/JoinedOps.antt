@@ -16,12 +16,12 @@ use Rattle.ir_store.specs.Numbered.{position_of}
 use Rattle.fold_laws.specs.Unused.{is_used}
 use Rattle.fold_laws.proofs.NestedUses.{named_once, uses-set, uses_of_two, unused_then}
 use Rattle.comb_fold.specs.Merges.{TakesBoth, IsJoined}
-use Rattle.comb_fold.specs.Replaced.{IsNamed, HasNamed, IsReplaced}
-use Rattle.comb_fold.specs.Views.{HasOp, body_ops, position_in}
+use Rattle.body_edits.specs.Replaced.{IsNamed, HasNamed, IsReplaced}
+use Rattle.body_edits.specs.Views.{HasOp, body_ops, position_in}
 use Rattle.comb_fold.proofs.NestedRow.{within_ids}
-use Rattle.comb_fold.proofs.Positions.{position_there}
-use Rattle.comb_fold.proofs.TakenIn.{id_there, gone_seen, gone_ids}
-use Rattle.comb_fold.proofs.UnusedRow.{body_unused}
+use Rattle.body_edits.proofs.Positions.{position_there}
+use Rattle.body_edits.proofs.TakenIn.{id_there, gone_seen, gone_ids}
+use Rattle.body_edits.proofs.UnusedRow.{body_unused}
 
 -- its operands are operands of the body
 pub takes_named : (os : List Op) (i j : ℕ) (o : Op) → TakesBoth os i j o → HasNamed os o

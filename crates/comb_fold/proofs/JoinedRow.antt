@@ -31,13 +31,13 @@ use Rattle.fold_laws.specs.Numbers.{number_op}
 use Rattle.fold_laws.proofs.MadeKinds.{is_made}
 use Rattle.fold_laws.proofs.Stands.{op_known}
 use Rattle.comb_fold.specs.declared.joined.Two.{Two}
-use Rattle.comb_fold.specs.declared.site.Site.{Site}
-use Rattle.comb_fold.specs.FitBodies.{IsOfFit}
-use Rattle.comb_fold.specs.Folded.{IsFolded}
+use Rattle.body_edits.specs.declared.site.Site.{Site}
+use Rattle.body_edits.specs.FitBodies.{IsOfFit}
+use Rattle.body_edits.specs.Folded.{IsFolded}
 use Rattle.comb_fold.specs.Joins.{first_two, two_of_kind, joined_of_kind, AreEven, joined_operands, HasJoined}
-use Rattle.comb_fold.specs.Sites.{kind_at, ops_at, ref_at, refs_at}
-use Rattle.comb_fold.specs.Views.{body_ops, value_ref, op_seen}
-use Rattle.comb_fold.proofs.FirstPositions.{position_cons}
+use Rattle.body_edits.specs.Sites.{kind_at, ops_at, ref_at, refs_at}
+use Rattle.body_edits.specs.Views.{body_ops, value_ref, op_seen}
+use Rattle.body_edits.proofs.FirstPositions.{position_cons}
 
 -- ---- the first two that meet a test
 

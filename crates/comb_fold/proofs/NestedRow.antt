@@ -15,10 +15,10 @@ use Rattle.ir_store.specs.Numbered.{position_of, op_by}
 use Rattle.fold_laws.specs.Edits.Edit.{changed, erased}
 use Rattle.fold_laws.specs.Nested.{Nested, is_variadic, first_nested, joined_operation, operand_edits, fold_nested_operand}
 use Rattle.fold_laws.proofs.NestedUses.{first_nested_is}
-use Rattle.comb_fold.specs.Folded.{IsFolded}
-use Rattle.comb_fold.specs.Nests.{same_nested, same_nested_at, IsInner, IsTakenIn}
-use Rattle.comb_fold.specs.Views.{body_ops}
-use Rattle.comb_fold.proofs.IdsAfter.{unlisted}
+use Rattle.body_edits.specs.Folded.{IsFolded}
+use Rattle.body_edits.specs.Nests.{same_nested, same_nested_at, IsInner, IsTakenIn}
+use Rattle.body_edits.specs.Views.{body_ops}
+use Rattle.body_edits.proofs.IdsAfter.{unlisted}
 
 -- the operation at a position, of any number of operands, and the one that made an operand of it
 record IsSame (os : List Op) (i : ℕ) (n : Nested) : Type 0 where

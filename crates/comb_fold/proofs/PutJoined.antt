@@ -21,15 +21,15 @@ use Rattle.ir_store.proofs.BodyLemmas.{ids_once}
 use Rattle.ir_store.proofs.Living.{all_none, ids_stay, still_contained, times-put_before}
 use Rattle.ir_store.proofs.Numbering.{numbered-put_before, numbered-set}
 use Rattle.fold_laws.proofs.PutIn.{next_op}
-use Rattle.comb_fold.specs.FitBodies.{IsOfFit}
+use Rattle.body_edits.specs.FitBodies.{IsOfFit}
 use Rattle.comb_fold.specs.Joins.{IsPutIn}
-use Rattle.comb_fold.specs.OperandEdits.{operands_there}
-use Rattle.comb_fold.specs.Replaced.{plain_op}
-use Rattle.comb_fold.specs.Views.{HasOp, body_ops, position_in, value_ref}
-use Rattle.comb_fold.proofs.FitOps.{fit_live}
-use Rattle.comb_fold.proofs.OperandChanges.{with_operands_set}
-use Rattle.comb_fold.proofs.OperandEditing.{op_there, operands_seen, has_operand, op_stays, then_dropped}
-use Rattle.comb_fold.proofs.Positions.{position_within, position_after, position_before}
+use Rattle.body_edits.specs.OperandEdits.{operands_there}
+use Rattle.body_edits.specs.Replaced.{plain_op}
+use Rattle.body_edits.specs.Views.{HasOp, body_ops, position_in, value_ref}
+use Rattle.body_edits.proofs.FitOps.{fit_live}
+use Rattle.body_edits.proofs.OperandChanges.{with_operands_set}
+use Rattle.body_edits.proofs.OperandEditing.{op_there, operands_seen, has_operand, op_stays, then_dropped}
+use Rattle.body_edits.proofs.Positions.{position_within, position_after, position_before}
 
 -- ---- an operation put in
 

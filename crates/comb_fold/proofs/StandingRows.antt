@@ -11,14 +11,14 @@ use Rattle.ir_store.specs.Bodies.{ids_of}
 use Rattle.ir_store.specs.OperationViews.{types_in}
 use Rattle.fold_laws.specs.Edits.Edit.{erased}
 use Rattle.fold_laws.specs.Standing.{Stand, by_stand}
-use Rattle.comb_fold.specs.declared.site.Site.{Site}
-use Rattle.comb_fold.specs.FitBodies.{IsOfFit}
-use Rattle.comb_fold.specs.Folded.{IsFolded}
-use Rattle.comb_fold.specs.Replaceable.{MayStand}
+use Rattle.body_edits.specs.declared.site.Site.{Site}
+use Rattle.body_edits.specs.FitBodies.{IsOfFit}
+use Rattle.body_edits.specs.Folded.{IsFolded}
+use Rattle.body_edits.specs.Replaceable.{MayStand}
 use Rattle.comb_fold.specs.Rows.{StandsInFit}
-use Rattle.comb_fold.specs.Sites.{ref_at, stand_of}
-use Rattle.comb_fold.specs.Views.{body_ops, value_ref, op_seen}
-use Rattle.comb_fold.proofs.IdsAfter.{unlisted}
+use Rattle.body_edits.specs.Sites.{ref_at, stand_of}
+use Rattle.body_edits.specs.Views.{body_ops, value_ref, op_seen}
+use Rattle.body_edits.proofs.IdsAfter.{unlisted}
 
 -- the value of a site is that of its body
 pub chosen_at : (stand : Stand) (b : Body) (s : Site) (v : Value) → s.body.now ≡ b → stand_of stand s ≡ Some (ref_at s v)

@@ -7,9 +7,9 @@ use Rattle.hw_model.specs.Kinds.{Kind}
 use Rattle.hw_model.specs.Design.{Ref, Op}
 use Rattle.hw_model.specs.IntegerKinds.{TakesWords}
 use Rattle.fold_laws.specs.Evaluated.{is_comb, constants_at}
-use Rattle.comb_fold.specs.declared.site.Site.{Site}
-use Rattle.comb_fold.specs.Readable.{IsWidth}
-use Rattle.comb_fold.specs.Sites.{ops_at, kind_at, refs_at, first_type_of}
+use Rattle.body_edits.specs.declared.site.Site.{Site}
+use Rattle.body_edits.specs.Readable.{IsWidth}
+use Rattle.body_edits.specs.Sites.{ops_at, kind_at, refs_at, first_type_of}
 
 -- the number of bits of an integer's type
 abbrev pub bits_of_type : Option HwType → Option ℕ

@@ -16,7 +16,7 @@ use Rattle.fold_laws.specs.Constants.{constant_at}
 use Rattle.fold_laws.specs.ConstantOperands.{constants_among, joined_number}
 use Rattle.fold_laws.specs.Numbers.{number_op}
 use Rattle.comb_fold.specs.declared.joined.Two.{Two}
-use Rattle.comb_fold.specs.Views.{body_ops}
+use Rattle.body_edits.specs.Views.{body_ops}
 
 -- the positions of the first two elements that meet a test
 abbrev pub first_two : {A : Type 0} → (A → Bool) → List A → Option Two

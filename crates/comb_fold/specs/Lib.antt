@@ -1,16 +1,5 @@
-pub mod Views
-pub mod Replaceable
-pub mod Readable
-pub mod FitBodies
-pub mod Folded
 pub mod Choices
-pub mod Widths
-pub mod Replaced
 pub mod Rows
-pub mod Tests
-pub mod Sites
-pub mod OperandEdits
 pub mod Evaluable
-pub mod Nests
 pub mod Joins
 pub mod Merges

@@ -14,9 +14,9 @@ use Rattle.ir_store.specs.Bodies.{ids_of}
 use Rattle.fold_laws.specs.Edits.{Row}
 use Rattle.fold_laws.specs.Edits.Edit.{replaced, erased}
 use Rattle.fold_laws.specs.Nested.{Nested, uses_among, first_nested}
-use Rattle.comb_fold.specs.Nests.{IsInner}
-use Rattle.comb_fold.specs.Replaced.{new_seen}
-use Rattle.comb_fold.specs.Views.{body_ops}
+use Rattle.body_edits.specs.Nests.{IsInner}
+use Rattle.body_edits.specs.Replaced.{new_seen}
+use Rattle.body_edits.specs.Views.{body_ops}
 
 -- the lowest bit that an extract takes; of another kind 0
 abbrev pub low_of : Kind → ℕ

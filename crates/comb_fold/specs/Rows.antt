@@ -4,7 +4,7 @@ use Rattle.std.specs.Prelude.{◌≡◌, ℕ, Some, slice_get}
 use Rattle.hw_model.specs.Design.{Ref, Op, Module, Design}
 use Rattle.accepted_edits.specs.Keeps.{IsFit}
 use Rattle.fold_laws.specs.Standing.{Stand}
-use Rattle.comb_fold.specs.Replaceable.{MayStand}
+use Rattle.body_edits.specs.Replaceable.{MayStand}
 
 -- in each module of a fit design the value may stand for the result
 pub record StandsInFit (stand : Stand) : Type 0 where

@@ -11,9 +11,9 @@ pub trait Rows {
     ghost use Rattle.ir_store.specs.Bodies.{ops_of};
     ghost use Rattle.fold_laws.specs.Edits.{Row};
     ghost use Rattle.fold_laws.specs.Table.{first_row};
-    ghost use Rattle.comb_fold.specs.FitBodies.{IsOfFit};
-    ghost use Rattle.comb_fold.specs.Folded.{Tries};
-    ghost use Rattle.comb_fold.specs.Views.{HasOp, position_in};
+    ghost use Rattle.body_edits.specs.FitBodies.{IsOfFit};
+    ghost use Rattle.body_edits.specs.Folded.{Tries};
+    ghost use Rattle.body_edits.specs.Views.{HasOp, position_in};
 
     // The rows, the first to be tried first.
     ghost tried: { List Row };

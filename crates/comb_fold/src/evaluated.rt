@@ -5,13 +5,13 @@ ghost use Rattle.hw_model.specs.KindViews.{kind_of};
 ghost use Rattle.ir_store.specs.OperationViews.{results_in};
 ghost use Rattle.fold_laws.specs.Evaluated.{is_comb, constants_at, value_of_constants, fold_evaluated};
 ghost use Rattle.comb_fold.specs.Evaluable.{bits_of_type, IsEvaluableSite};
-ghost use Rattle.comb_fold.specs.Sites.{ops_at, kind_at, refs_at, first_type_of, number_of, IsReadableSite};
+ghost use Rattle.body_edits.specs.Sites.{ops_at, kind_at, refs_at, first_type_of, number_of, IsReadableSite};
 
-use crate::numbers::{first_type, put_number};
 use crate::pattern::Pattern;
-use crate::reading::constant_of;
-use crate::site::Site;
 use bits_core::Bits;
+use body_edits::numbers::{first_type, put_number};
+use body_edits::reading::constant_of;
+use body_edits::site::Site;
 use hw_model::integer_values::op_value;
 use hw_model::kinds::OpKind;
 use hw_model::types::Ty;

@@ -1,13 +1,13 @@
 //! The rows by which an operation takes in another one that made an operand of it and has no other use.
 ghost use Rattle.std.specs.Prelude.{◌≡◌, option_map};
-ghost use Rattle.comb_fold.specs.FitBodies.{IsOfFit};
-ghost use Rattle.comb_fold.specs.Nests.{nested_seen, same_nested_at};
-ghost use Rattle.comb_fold.specs.Views.{HasOp, body_ops, position_in};
+ghost use Rattle.body_edits.specs.FitBodies.{IsOfFit};
+ghost use Rattle.body_edits.specs.Nests.{nested_seen, same_nested_at};
+ghost use Rattle.body_edits.specs.Views.{HasOp, body_ops, position_in};
 
-use crate::nested::{InnerKind, NestedOp, first_nested};
 use crate::pattern::Pattern;
-use crate::site::Site;
-use crate::splices::take_in;
+use body_edits::nested::{InnerKind, NestedOp, first_nested};
+use body_edits::site::Site;
+use body_edits::splices::take_in;
 use hw_model::families::Family;
 use ir_store::body::Body;
 use ir_store::operation::OpId;
@@ -26,12 +26,12 @@ impl Pattern for F16 {
         same_nested(body, op).is_some()
     }
 
-    fn apply(_alloc: Global, body: &mut Body, op: OpId) -> Result<(), AllocError> {
+    fn apply(alloc: Global, body: &mut Body, op: OpId) -> Result<(), AllocError> {
         match same_nested(body, op) {
             Some(nested) => {
                 let number = nested.number;
                 let inner = nested.id;
-                take_in(body, op, number, inner)
+                take_in(alloc, body, op, number, inner)
             }
             None => unreachable!(),
         }

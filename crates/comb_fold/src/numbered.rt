@@ -5,14 +5,14 @@ ghost use Rattle.hw_model.specs.KindViews.{predicate_of};
 ghost use Rattle.ir_store.specs.Bodies.{ops_of};
 ghost use Rattle.fold_laws.specs.Numbers.{by_number, holds_of_equals, sub_self, xor_self, shift_out, rest_by_one, icmp_self, fold_sub_self, fold_xor_self, fold_shift_out, fold_mod_one, fold_icmp_self};
 ghost use Rattle.fold_laws.proofs.NumberRows.{sub_self_makes, xor_self_makes, shift_out_makes, rest_by_one_makes, icmp_self_makes};
-ghost use Rattle.comb_fold.specs.FitBodies.{IsOfFit};
-ghost use Rattle.comb_fold.specs.Folded.{IsFolded};
-ghost use Rattle.comb_fold.specs.Views.{HasOp, body_ops, position_in};
+ghost use Rattle.body_edits.specs.FitBodies.{IsOfFit};
+ghost use Rattle.body_edits.specs.Folded.{IsFolded};
+ghost use Rattle.body_edits.specs.Views.{HasOp, body_ops, position_in};
 
-use crate::constants::Test;
-use crate::numbers::{first_type, put_number};
 use crate::pattern::Pattern;
-use crate::site::Site;
+use body_edits::constants::Test;
+use body_edits::numbers::{first_type, put_number};
+use body_edits::site::Site;
 use hw_model::kinds::{OpKind, Predicate};
 use ir_store::body::Body;
 use ir_store::operation::OpId;
@@ -24,7 +24,7 @@ pub trait Numbered {
     ghost use Rattle.hw_model.specs.Types.{HwType};
     ghost use Rattle.fold_laws.specs.Numbers.{Numbering};
     ghost use Rattle.fold_laws.proofs.Numbered.{IsNumbering};
-    ghost use Rattle.comb_fold.specs.Sites.{IsReadableSite, number_of};
+    ghost use Rattle.body_edits.specs.Sites.{IsReadableSite, number_of};
 
     // The number.
     ghost numbering: { Numbering };

@@ -1,10 +1,12 @@
 //! The rows by which an operation of any number of operands has others.
 
-use crate::constants::Test;
-use crate::operand_choices::{with_constant_last, without_constant, without_pair, without_repeat};
-use crate::operands::{OperandEdit, OperandRow, apply_operands, operands_match};
 use crate::pattern::Pattern;
-use crate::site::Site;
+use body_edits::constants::Test;
+use body_edits::operand_choices::{
+    with_constant_last, without_constant, without_pair, without_repeat,
+};
+use body_edits::operands::{OperandEdit, OperandRow, apply_operands, operands_match};
+use body_edits::site::Site;
 use hw_model::families::Variadic;
 use ir_store::body::Body;
 use ir_store::operation::OpId;

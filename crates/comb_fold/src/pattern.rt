@@ -9,9 +9,9 @@ pub trait Pattern {
     ghost use Rattle.std.specs.Prelude.{◌≡◌, true, is_some, OnOk, OnErr};
     ghost use Rattle.ir_store.specs.Bodies.{ops_of};
     ghost use Rattle.fold_laws.specs.Edits.{Row};
-    ghost use Rattle.comb_fold.specs.FitBodies.{IsOfFit};
-    ghost use Rattle.comb_fold.specs.Folded.{IsFolded};
-    ghost use Rattle.comb_fold.specs.Views.{HasOp, body_ops, position_in};
+    ghost use Rattle.body_edits.specs.FitBodies.{IsOfFit};
+    ghost use Rattle.body_edits.specs.Folded.{IsFolded};
+    ghost use Rattle.body_edits.specs.Views.{HasOp, body_ops, position_in};
 
     // The row.
     ghost change: { Row };

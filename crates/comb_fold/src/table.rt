@@ -2,9 +2,9 @@
 ghost use Rattle.std.specs.Prelude.{◌≡◌, IfOk, OnErr};
 ghost use Rattle.ir_store.specs.Bodies.{ops_of};
 ghost use Rattle.fold_laws.specs.Table.{rows, first_row};
-ghost use Rattle.comb_fold.specs.FitBodies.{IsOfFit};
-ghost use Rattle.comb_fold.specs.Folded.{Tries};
-ghost use Rattle.comb_fold.specs.Views.{HasOp, position_in};
+ghost use Rattle.body_edits.specs.FitBodies.{IsOfFit};
+ghost use Rattle.body_edits.specs.Folded.{Tries};
+ghost use Rattle.body_edits.specs.Views.{HasOp, position_in};
 
 use crate::attempts::Rows;
 use crate::equal::F13;

@@ -1,11 +1,8 @@
 //! The row by which an operation goes whose results nothing uses (MLIR documentation, "Operation canonicalization").
-ghost use Rattle.std.specs.Prelude.{◌≡◌};
-ghost use Rattle.fold_laws.specs.Unused.{is_pure, fold_unused};
-ghost use Rattle.hw_model.specs.KindViews.{kind_of};
+ghost use Rattle.fold_laws.specs.Unused.{fold_unused};
 
 use crate::pattern::Pattern;
-use hw_model::families::Family;
-use hw_model::kinds::OpKind;
+use body_edits::purity::is_pure;
 use ir_store::body::Body;
 use ir_store::operation::OpId;
 use std::alloc::{AllocError, Global};
@@ -23,19 +20,5 @@ impl Pattern for F1 {
     fn apply(_alloc: Global, body: &mut Body, op: OpId) -> Result<(), AllocError> {
         body.erase(op);
         Ok(())
-    }
-}
-
-/// Whether an operation only computes its results: all but registers, wires, instances and outputs do.
-pub fn is_pure(kind: &OpKind) -> bool
-    ensures { result ≡ is_pure (kind_of kind.now) }
-{
-    match kind.family() {
-        Family::Wire
-        | Family::Instance(_)
-        | Family::Output
-        | Family::Register(..)
-        | Family::AsyncFirReg => false,
-        _ => true,
     }
 }

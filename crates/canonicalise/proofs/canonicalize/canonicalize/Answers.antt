@@ -1,5 +1,5 @@
 use Rattle.std.proofs.Common.{Result, Ok, Err, OnErr}
-use Rattle.comb_fold.specs.Views.{body_ops}
+use Rattle.body_edits.specs.Views.{body_ops}
 use Rattle.canonicalise.proofs.Ranks.{smaller_is_lower}
 use Rattle.canonicalise.proofs.Sweeping.{way_goes_on, way_leads}
 use Rattle.canonicalise.proofs.canonicalize.canonicalize.Goals as goal

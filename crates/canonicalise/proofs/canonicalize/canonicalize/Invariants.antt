@@ -1,5 +1,5 @@
-use Rattle.comb_fold.specs.FitBodies.{IsOfFit}
-use Rattle.comb_fold.specs.Views.{body_ops}
+use Rattle.body_edits.specs.FitBodies.{IsOfFit}
+use Rattle.body_edits.specs.Views.{body_ops}
 use Rattle.canonicalise.proofs.Ranks.{rank}
 use Rattle.canonicalise.proofs.Sweeping.{IsOnWay}
 use Rattle.canonicalise.proofs.canonicalize.canonicalize.Given as goal

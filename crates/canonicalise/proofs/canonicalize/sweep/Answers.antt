@@ -1,5 +1,5 @@
 use Rattle.std.proofs.Common.{subst, sym, arith}
-use Rattle.comb_fold.specs.Views.{body_ops}
+use Rattle.body_edits.specs.Views.{body_ops}
 use Rattle.canonicalise.specs.Canonical.{table, Leads}
 use Rattle.canonicalise.proofs.Visiting.{begin, has_op, next_live, fit_same, same_ops, passes, passes_less, folds, swept, changed_less}
 use Rattle.canonicalise.proofs.canonicalize.sweep.Goals as goal

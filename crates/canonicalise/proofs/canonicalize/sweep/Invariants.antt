@@ -1,6 +1,6 @@
 use Rattle.std.proofs.Common.{◌+◌}
 use Rattle.ir_store.specs.Bodies.{ids_of}
-use Rattle.comb_fold.specs.Views.{body_ops}
+use Rattle.body_edits.specs.Views.{body_ops}
 use Rattle.canonicalise.proofs.Ranks.{rank}
 use Rattle.canonicalise.proofs.Visiting.{Visiting, left}
 use Rattle.canonicalise.proofs.canonicalize.sweep.Given as goal

@@ -1,6 +1,6 @@
 use Rattle.std.proofs.Common.{◌≡◌, is_some, map, drop}
 use Rattle.fold_laws.specs.Evaluated.{constants_at}
-use Rattle.comb_fold.specs.Sites.{ops_at, ref_at, refs_at}
+use Rattle.body_edits.specs.Sites.{ops_at, ref_at, refs_at}
 use Rattle.comb_fold.proofs.evaluated.are_constants.Given as goal
 
 abbrev pub invariant-loop-value : goal.invariant-loop-value

@@ -1,6 +1,6 @@
 use Rattle.std.proofs.Common.{◌≡◌, Some, None, sym, ap, ◌∙◌}
 use Rattle.comb_fold.specs.Evaluable.{bits_of_type}
-use Rattle.comb_fold.specs.Sites.{ops_at, kind_at, refs_at, first_type_of}
+use Rattle.body_edits.specs.Sites.{ops_at, kind_at, refs_at, first_type_of}
 use Rattle.comb_fold.proofs.EvaluatedOps.{int_typed, has_width, words_suit}
 use Rattle.comb_fold.proofs.evaluated.value_of_constants.Goals as goal
 

@@ -1,7 +1,7 @@
 use Rattle.std.proofs.Common.{◌≡◌, ◌++◌, map, drop}
 use Rattle.wiring.specs.Options.{omap}
 use Rattle.fold_laws.specs.Evaluated.{constants_at}
-use Rattle.comb_fold.specs.Sites.{ops_at, ref_at, refs_at}
+use Rattle.body_edits.specs.Sites.{ops_at, ref_at, refs_at}
 use Rattle.comb_fold.proofs.evaluated.words_of.Given as goal
 
 abbrev pub invariant-loop-value : goal.invariant-loop-value

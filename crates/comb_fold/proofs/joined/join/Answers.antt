@@ -1,10 +1,10 @@
 use Rattle.std.proofs.Common.{sym}
 use Rattle.std.proofs.lemmas.Result.{on_ok_weaker}
 use Rattle.hw_model.specs.TypeViews.{type_of}
-use Rattle.comb_fold.specs.Views.{body_ops, position_in, op_seen}
+use Rattle.body_edits.specs.Views.{body_ops, position_in, op_seen}
 use Rattle.comb_fold.proofs.HasJoined.{has_joined}
-use Rattle.comb_fold.proofs.NumberOps.{untyped_none}
-use Rattle.comb_fold.proofs.ReadBodies.{op_seen_at}
+use Rattle.body_edits.proofs.NumberOps.{untyped_none}
+use Rattle.body_edits.proofs.ReadBodies.{op_seen_at}
 use Rattle.comb_fold.proofs.joined.join.Goals as goal
 
 pub unreachable-requires : goal.unreachable-requires

@@ -1,7 +1,7 @@
 use Rattle.std.proofs.Common.{slice_set, arith}
 use Rattle.std.proofs.lemmas.List.{length-set}
 use Rattle.ir_store.specs.declared.operation.Value.TheVariants.{Result}
-use Rattle.comb_fold.proofs.OperandEditing.{op_stays, operand_stays}
+use Rattle.body_edits.proofs.OperandEditing.{op_stays, operand_stays}
 use Rattle.comb_fold.proofs.PutJoined.{still_put, operand_put, put_joined}
 use Rattle.comb_fold.proofs.joined.put_joined.Goals as goal
 

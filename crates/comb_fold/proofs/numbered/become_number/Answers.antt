@@ -1,7 +1,7 @@
 use Rattle.std.proofs.Common.{◌∙◌}
 use Rattle.std.proofs.lemmas.Result.{on_ok_weaker}
-use Rattle.comb_fold.specs.Views.{position_in, op_seen}
-use Rattle.comb_fold.proofs.NumberOps.{number_at, row_alone, number_folded}
+use Rattle.body_edits.specs.Views.{position_in, op_seen}
+use Rattle.body_edits.proofs.NumberOps.{number_at, row_alone, number_folded}
 use Rattle.comb_fold.proofs.numbered.become_number.Goals as goal
 
 pub put_number-requires-clause-alone : goal.put_number-requires-clause-alone

@@ -2,7 +2,7 @@ use Rattle.std.proofs.Common.{◌<◌, length, map, refl, sym, ap₂, subst, ◌
 use Rattle.hw_model.specs.TypeViews.{type_of}
 use Rattle.ir_store.specs.OperationViews.{types_in}
 use Rattle.fold_laws.specs.Nested.{splice, is_concat}
-use Rattle.comb_fold.specs.Nests.{nested_seen}
+use Rattle.body_edits.specs.Nests.{nested_seen}
 use Rattle.comb_fold.proofs.JoinRows.{no_untyped, number_within, number_of_types, concat_if}
 use Rattle.comb_fold.proofs.replaced_rows.joined_concat.Goals as goal
 

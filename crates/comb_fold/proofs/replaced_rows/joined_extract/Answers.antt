@@ -2,8 +2,8 @@ use Rattle.std.proofs.Common.{◌+◌, map, ap, ap₂, arith}
 use Rattle.hw_model.specs.TypeViews.{type_of}
 use Rattle.ir_store.specs.OperationViews.{types_in}
 use Rattle.fold_laws.specs.Nested.{is_extract}
-use Rattle.comb_fold.specs.Nests.{nested_seen}
-use Rattle.comb_fold.specs.Views.{value_ref}
+use Rattle.body_edits.specs.Nests.{nested_seen}
+use Rattle.body_edits.specs.Views.{value_ref}
 use Rattle.comb_fold.proofs.JoinRows.{no_untyped, inner_types, low_sum, extract_if}
 use Rattle.comb_fold.proofs.replaced_rows.joined_extract.Goals as goal
 

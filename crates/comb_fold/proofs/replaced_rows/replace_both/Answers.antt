@@ -1,5 +1,5 @@
-use Rattle.comb_fold.specs.Replaced.{new_seen}
-use Rattle.comb_fold.specs.Views.{body_ops, position_in}
+use Rattle.body_edits.specs.Replaced.{new_seen}
+use Rattle.body_edits.specs.Views.{body_ops, position_in}
 use Rattle.comb_fold.proofs.JoinedOps.{takes_named, inner_after, unused_after, is_joined}
 use Rattle.comb_fold.proofs.replaced_rows.replace_both.Goals as goal
 

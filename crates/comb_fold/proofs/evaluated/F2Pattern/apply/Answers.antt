@@ -2,9 +2,9 @@ use Rattle.std.proofs.Common.{◌∙◌}
 use Rattle.std.proofs.lemmas.Result.{on_ok_weaker}
 use Rattle.fold_laws.specs.Evaluated.{value_of_constants}
 use Rattle.fold_laws.proofs.Evaluated.{evaluated_makes}
-use Rattle.comb_fold.specs.Views.{position_in, op_seen}
+use Rattle.body_edits.specs.Views.{position_in, op_seen}
 use Rattle.comb_fold.proofs.EvaluatedOps.{site_evaluable}
-use Rattle.comb_fold.proofs.NumberOps.{number_at, row_alone, number_folded}
+use Rattle.body_edits.proofs.NumberOps.{number_at, row_alone, number_folded}
 use Rattle.comb_fold.proofs.evaluated.F2Pattern.apply.Goals as goal
 
 pub value_of_constants-requires-clause-evaluable : goal.value_of_constants-requires-clause-evaluable

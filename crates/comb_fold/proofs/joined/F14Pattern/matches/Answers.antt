@@ -1,7 +1,7 @@
 use Rattle.std.proofs.Common.{refl, sym, ap, ◌∙◌}
 use Rattle.std.specs.Prelude.{is_some}
 use Rattle.hw_model.specs.TypeViews.{type_of}
-use Rattle.comb_fold.specs.Views.{body_ops, position_in, value_ref, op_seen}
+use Rattle.body_edits.specs.Views.{body_ops, position_in, value_ref, op_seen}
 use Rattle.comb_fold.proofs.JoinedRow.{two_if, row_at, site_two}
 use Rattle.comb_fold.proofs.joined.F14Pattern.matches.Goals as goal
 

@@ -1,5 +1,5 @@
-use Rattle.comb_fold.specs.Nests.{nested_seen}
-use Rattle.comb_fold.specs.Views.{body_ops, position_in}
+use Rattle.body_edits.specs.Nests.{nested_seen}
+use Rattle.body_edits.specs.Views.{body_ops, position_in}
 use Rattle.comb_fold.proofs.NestedRow.{same_inner, taken_folded_if}
 use Rattle.comb_fold.proofs.nested_rows.F16Pattern.apply.Goals as goal
 

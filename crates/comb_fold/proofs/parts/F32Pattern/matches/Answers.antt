@@ -1,6 +1,6 @@
 use Rattle.std.proofs.Common.{ap, ◌∙◌}
 use Rattle.std.specs.Prelude.{is_some}
-use Rattle.comb_fold.specs.Views.{body_ops, position_in}
+use Rattle.body_edits.specs.Views.{body_ops, position_in}
 use Rattle.comb_fold.proofs.FirstStands.{made_part_row}
 use Rattle.comb_fold.proofs.parts.F32Pattern.matches.Goals as goal
 

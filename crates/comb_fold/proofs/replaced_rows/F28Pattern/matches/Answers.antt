@@ -1,6 +1,6 @@
 use Rattle.std.proofs.Common.{◌∙◌}
-use Rattle.comb_fold.specs.Nests.{nested_seen}
-use Rattle.comb_fold.specs.Views.{body_ops, position_in}
+use Rattle.body_edits.specs.Nests.{nested_seen}
+use Rattle.body_edits.specs.Views.{body_ops, position_in}
 use Rattle.comb_fold.proofs.JoinRows.{there_if, extract_matches}
 use Rattle.comb_fold.proofs.replaced_rows.F28Pattern.matches.Goals as goal
 

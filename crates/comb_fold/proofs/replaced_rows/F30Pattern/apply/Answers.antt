@@ -1,8 +1,8 @@
 use Rattle.std.proofs.lemmas.Result.{on_ok_weaker}
-use Rattle.comb_fold.specs.declared.nested.InnerKind.TheVariants.{Concat}
+use Rattle.body_edits.specs.declared.nested.InnerKind.TheVariants.{Concat}
 use Rattle.fold_laws.specs.Nested.{fold_nested_concat}
-use Rattle.comb_fold.specs.Nests.{nested_seen}
-use Rattle.comb_fold.specs.Views.{position_in}
+use Rattle.body_edits.specs.Nests.{nested_seen}
+use Rattle.body_edits.specs.Views.{position_in}
 use Rattle.comb_fold.proofs.JoinRows.{found_alone, join_folded}
 use Rattle.comb_fold.proofs.replaced_rows.F30Pattern.apply.Goals as goal
 

@@ -3,7 +3,7 @@ use Rattle.std.specs.Prelude.{is_some}
 use Rattle.fold_laws.specs.Standing.{by_stand}
 use Rattle.fold_laws.specs.Table.{fold_trivial}
 use Rattle.comb_fold.specs.Choices.{trivial}
-use Rattle.comb_fold.specs.Views.{body_ops, position_in}
+use Rattle.body_edits.specs.Views.{body_ops, position_in}
 use Rattle.comb_fold.proofs.FirstStands.{same_folded, trivial_row, trivial_in_fit}
 use Rattle.comb_fold.proofs.standing.F31Pattern.apply.Goals as goal
 

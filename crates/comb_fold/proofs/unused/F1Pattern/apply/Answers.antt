@@ -1,6 +1,6 @@
-use Rattle.comb_fold.specs.Views.{body_ops, position_in}
-use Rattle.comb_fold.proofs.FitOps.{fit_live}
-use Rattle.comb_fold.proofs.UnusedRow.{body_unused, row_matched, unused_folded}
+use Rattle.body_edits.specs.Views.{body_ops, position_in}
+use Rattle.body_edits.proofs.FitOps.{fit_live}
+use Rattle.body_edits.proofs.UnusedRow.{body_unused, row_matched, unused_folded}
 use Rattle.comb_fold.proofs.unused.F1Pattern.apply.Goals as goal
 
 pub erase-requires-clause-unused : goal.erase-requires-clause-unused

@@ -1,0 +1,11 @@
+pub mod Views
+pub mod Replaceable
+pub mod Readable
+pub mod FitBodies
+pub mod Folded
+pub mod Widths
+pub mod Replaced
+pub mod Tests
+pub mod Sites
+pub mod OperandEdits
+pub mod Nests
