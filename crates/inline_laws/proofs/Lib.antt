@@ -1,0 +1,23 @@
+-- Lemmas.
+pub mod Samples
+pub mod Sides
+pub mod Parts
+pub mod Moved
+pub mod Ends
+pub mod Sources
+pub mod Inlining
+pub mod Origins
+pub mod Views
+pub mod Homes
+pub mod Positions
+pub mod Comes
+pub mod Carried
+pub mod RegisterLists
+pub mod Slots
+pub mod Registers
+pub mod Types
+pub mod Follows
+pub mod Unwired
+pub mod WithoutWires
+pub mod Instances
+pub mod Weights
