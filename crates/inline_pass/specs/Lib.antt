@@ -1,0 +1,2 @@
+pub mod DeadModules
+pub mod Marks
