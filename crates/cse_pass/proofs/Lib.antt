@@ -1,0 +1,25 @@
+-- Lemmas.
+pub mod ConstantTypes
+pub mod ConstantWords
+pub mod EqualParts
+pub mod EqualPlaces
+pub mod Following
+pub mod Leading
+pub mod MergedFits
+pub mod Merging
+pub mod NoEqual
+pub mod Once
+pub mod UnusedOps
+mod SameNumbers
+mod SameParts
+mod SameOps
+mod SameHashes
+mod EqualFinding
+mod Grouping
+mod EarlierEqual
+mod Walking
+mod MergedBodies
+mod MergedVisits
+mod Sweeping
+mod Trimming
+pub mod Samples

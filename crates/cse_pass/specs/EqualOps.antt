@@ -1,0 +1,54 @@
+-- Operations that have one value, since their kinds, operands and types are the same (MLIR documentation, "Passes": `cse`).
+use Rattle.std.specs.Prelude.{ℕ, suc, ℤ, pos, Bool, ◌&&◌, cond, List, [], ◌∷◌, map, take, Option, Some, None, slice_get}
+use Rattle.std.specs.Cmp.Lexicographic.{pointwise}
+use Rattle.wiring.specs.Options.{bind, omap}
+use Rattle.bits_core.specs.Word.{number, bits_of_ℤ}
+use Rattle.hw_model.specs.Types.{HwType, width}
+use Rattle.hw_model.specs.Kinds.{Kind, Literal, Literals}
+use Rattle.hw_model.specs.Kinds.Kind.{constant, aggregate_constant}
+use Rattle.hw_model.specs.Kinds.Literal.{leaf, parts}
+use Rattle.hw_model.specs.Kinds.Literals.{no_literals, literal}
+use Rattle.hw_model.specs.Design.{Op, OpResult, result_type}
+use Rattle.hw_model.specs.SameKind.{same_kind}
+use Rattle.hw_model.specs.SameType.{same_type}
+use Rattle.ir_store.specs.Positions.{same_ref}
+use Rattle.fold_laws.specs.Unused.{is_pure}
+
+-- a number as a type of so many bits reads it: 255 and -1 are one of 8 bits
+abbrev pub value_number : HwType → ℤ → ℤ
+value_number t z = pos (number (bits_of_ℤ (width t) z))
+
+-- so each number of a constant of an aggregate type
+abbrev mutual
+  pub value_literal : Literal → Literal
+  value_literal (leaf z t) = leaf (value_number t z) t
+  value_literal (parts ls) = parts (value_literals ls)
+
+  pub value_literals : Literals → Literals
+  value_literals no_literals = no_literals
+  value_literals (literal l ls) = literal (value_literal l) (value_literals ls)
+
+-- a kind with the attributes that decide the value, numbers being read so by the type of the result
+abbrev pub value_kind : Option HwType → Kind → Kind
+value_kind (Some t) (constant z) = constant (value_number t z)
+value_kind t (aggregate_constant ls) = aggregate_constant (value_literals ls)
+value_kind t kind = kind
+
+-- the types of an operation's results
+abbrev pub result_types : Op → List HwType
+result_types o = map (λ (r : OpResult). r.type) o.results
+
+-- whether two operations have the same kind, operands and types; names, dictionaries and the mark `bin` are not compared
+abbrev pub are_equal : Op → Op → Bool
+are_equal o p =
+    same_kind (value_kind (result_type o 0) o.kind) (value_kind (result_type p 0) p.kind)
+    && (pointwise same_ref o.operands p.operands && (pointwise same_type o.types p.types && pointwise same_type (result_types o) (result_types p)))
+
+-- the first position of an operation that is equal
+abbrev pub equal_place : Op → List Op → Option ℕ
+equal_place o [] = None
+equal_place o (p ∷ os) = cond (are_equal p o) (Some 0) (omap suc (equal_place o os))
+
+-- that before the pure operation at a position
+abbrev pub equal_before : List Op → ℕ → Option ℕ
+equal_before os i = bind (slice_get os i) (λ (o : Op). cond (is_pure o.kind) (equal_place o (take i os)) None)

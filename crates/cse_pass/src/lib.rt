@@ -1,0 +1,13 @@
+//! Elimination of common subexpressions: equal pure operations of a body are merged, and those without uses go.
+#![tactic(auto)]
+
+pub mod cse;
+mod equal_constants;
+mod equal_ops;
+mod groups;
+mod hashes;
+mod laws;
+mod merges;
+mod trims;
+
+pub use laws::{cse_follows, cse_leaves_none, cse_once};
