@@ -304,24 +304,24 @@ const COMPARISONS: [Row; 4] = [
 
 #[test]
 fn differences_are_folded(rt: HostRuntime) -> Result<(), Fail> {
-    assert_eq!(rt; first_other(&rt, &DIFFERENCES)?, None);
+    assert_eq!(rt; first_other(&rt, "--canonicalize", &DIFFERENCES)?, None);
     Ok(())
 }
 
 #[test]
 fn shifts_are_folded(rt: HostRuntime) -> Result<(), Fail> {
-    assert_eq!(rt; first_other(&rt, &SHIFTS)?, None);
+    assert_eq!(rt; first_other(&rt, "--canonicalize", &SHIFTS)?, None);
     Ok(())
 }
 
 #[test]
 fn quotients_are_folded(rt: HostRuntime) -> Result<(), Fail> {
-    assert_eq!(rt; first_other(&rt, &QUOTIENTS)?, None);
+    assert_eq!(rt; first_other(&rt, "--canonicalize", &QUOTIENTS)?, None);
     Ok(())
 }
 
 #[test]
 fn comparisons_are_folded(rt: HostRuntime) -> Result<(), Fail> {
-    assert_eq!(rt; first_other(&rt, &COMPARISONS)?, None);
+    assert_eq!(rt; first_other(&rt, "--canonicalize", &COMPARISONS)?, None);
     Ok(())
 }

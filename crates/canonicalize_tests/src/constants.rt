@@ -351,12 +351,12 @@ const OF_CONSTANTS: [Row; 12] = [
 
 #[test]
 fn unused_operations_go(rt: HostRuntime) -> Result<(), Fail> {
-    assert_eq!(rt; first_other(&rt, &UNUSED)?, None);
+    assert_eq!(rt; first_other(&rt, "--canonicalize", &UNUSED)?, None);
     Ok(())
 }
 
 #[test]
 fn operations_of_constants_are_constants(rt: HostRuntime) -> Result<(), Fail> {
-    assert_eq!(rt; first_other(&rt, &OF_CONSTANTS)?, None);
+    assert_eq!(rt; first_other(&rt, "--canonicalize", &OF_CONSTANTS)?, None);
     Ok(())
 }

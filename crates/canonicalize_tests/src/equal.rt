@@ -90,6 +90,6 @@ const EQUAL: [Row; 7] = [
 
 #[test]
 fn equal_operands_are_dropped(rt: HostRuntime) -> Result<(), Fail> {
-    assert_eq!(rt; first_other(&rt, &EQUAL)?, None);
+    assert_eq!(rt; first_other(&rt, "--canonicalize", &EQUAL)?, None);
     Ok(())
 }

@@ -17,5 +17,4 @@ mod operands;
 mod orders;
 #[cfg(test)]
 mod parts;
-#[cfg(test)]
-mod rows;
+pub mod rows;

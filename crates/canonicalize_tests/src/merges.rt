@@ -296,12 +296,12 @@ const NESTED: [Row; 10] = [
 
 #[test]
 fn constants_are_joined_and_stand_last(rt: HostRuntime) -> Result<(), Fail> {
-    assert_eq!(rt; first_other(&rt, &CONSTANTS)?, None);
+    assert_eq!(rt; first_other(&rt, "--canonicalize", &CONSTANTS)?, None);
     Ok(())
 }
 
 #[test]
 fn nested_operands_are_taken_in(rt: HostRuntime) -> Result<(), Fail> {
-    assert_eq!(rt; first_other(&rt, &NESTED)?, None);
+    assert_eq!(rt; first_other(&rt, "--canonicalize", &NESTED)?, None);
     Ok(())
 }

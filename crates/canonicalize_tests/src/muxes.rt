@@ -111,6 +111,6 @@ const MUXES: [Row; 8] = [
 
 #[test]
 fn muxes_are_folded(rt: HostRuntime) -> Result<(), Fail> {
-    assert_eq!(rt; first_other(&rt, &MUXES)?, None);
+    assert_eq!(rt; first_other(&rt, "--canonicalize", &MUXES)?, None);
     Ok(())
 }

@@ -303,18 +303,18 @@ const ABSORBING: [Row; 6] = [
 
 #[test]
 fn single_operands_stand_for_results(rt: HostRuntime) -> Result<(), Fail> {
-    assert_eq!(rt; first_other(&rt, &SINGLE)?, None);
+    assert_eq!(rt; first_other(&rt, "--canonicalize", &SINGLE)?, None);
     Ok(())
 }
 
 #[test]
 fn neutral_operands_are_dropped(rt: HostRuntime) -> Result<(), Fail> {
-    assert_eq!(rt; first_other(&rt, &NEUTRAL)?, None);
+    assert_eq!(rt; first_other(&rt, "--canonicalize", &NEUTRAL)?, None);
     Ok(())
 }
 
 #[test]
 fn absorbing_operands_stand_for_results(rt: HostRuntime) -> Result<(), Fail> {
-    assert_eq!(rt; first_other(&rt, &ABSORBING)?, None);
+    assert_eq!(rt; first_other(&rt, "--canonicalize", &ABSORBING)?, None);
     Ok(())
 }

@@ -334,12 +334,12 @@ const SWEEPS: [Row; 13] = [
 
 #[test]
 fn the_first_row_that_matches_comes_first(rt: HostRuntime) -> Result<(), Fail> {
-    assert_eq!(rt; first_other(&rt, &ORDERS)?, None);
+    assert_eq!(rt; first_other(&rt, "--canonicalize", &ORDERS)?, None);
     Ok(())
 }
 
 #[test]
 fn sweeps_go_on_until_nothing_changes(rt: HostRuntime) -> Result<(), Fail> {
-    assert_eq!(rt; first_other(&rt, &SWEEPS)?, None);
+    assert_eq!(rt; first_other(&rt, "--canonicalize", &SWEEPS)?, None);
     Ok(())
 }

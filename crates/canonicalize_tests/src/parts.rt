@@ -299,18 +299,18 @@ const MADE: [Row; 7] = [
 
 #[test]
 fn extracts_are_folded(rt: HostRuntime) -> Result<(), Fail> {
-    assert_eq!(rt; first_other(&rt, &EXTRACTS)?, None);
+    assert_eq!(rt; first_other(&rt, "--canonicalize", &EXTRACTS)?, None);
     Ok(())
 }
 
 #[test]
 fn concats_copies_and_bitcasts_are_folded(rt: HostRuntime) -> Result<(), Fail> {
-    assert_eq!(rt; first_other(&rt, &CONCATS)?, None);
+    assert_eq!(rt; first_other(&rt, "--canonicalize", &CONCATS)?, None);
     Ok(())
 }
 
 #[test]
 fn parts_of_what_was_made_are_folded(rt: HostRuntime) -> Result<(), Fail> {
-    assert_eq!(rt; first_other(&rt, &MADE)?, None);
+    assert_eq!(rt; first_other(&rt, "--canonicalize", &MADE)?, None);
     Ok(())
 }

@@ -1,16 +1,15 @@
-//! Runs of `opt --canonicalize` on the rows of tables, each a text and the text that it folds to.
+//! Runs of `opt` with a pass on the rows of tables, each a text and the text that the pass makes of it.
 use circt_top::run::run_circt;
 use io_edge::memory_files::{MemoryFile, MemoryFiles};
 use io_edge::memory_sink::MemorySink;
 use pass_manager::gate::Open;
 use std::alloc::{AllocError, AllocGlobal, Global};
-use std::test::Fail;
 use std::thread::Threads;
 
 /// What a row has in `folded` where its text stays as it is.
 pub const UNCHANGED: &str = "";
 
-/// The body of a module, and what it folds to. Both begin with a line end and have the layout of a printed body; a text may close its
+/// The body of a module, and what the pass makes of it. Both begin with a line end and have the layout of a printed body; a text may close its
 /// module and begin another one.
 pub struct Row {
     /// The ports of the module.
@@ -31,15 +30,16 @@ fn file_of(alloc: Global, ports: &str, body: &str) -> Result<String, AllocError>
     Ok(text)
 }
 
-// What `opt --canonicalize` prints of a text, where it ends well.
+// What `opt` with a flag prints of a text, where it ends well.
 fn printed(
     rt: &(impl Threads + Sync + AllocGlobal),
+    flag: &str,
     input: &str,
 ) -> Result<Option<MemorySink>, AllocError> {
     let alloc = rt.alloc();
     let words = vec![in alloc;
         String::from_str(alloc, "opt")?,
-        String::from_str(alloc, "--canonicalize")?,
+        String::from_str(alloc, flag)?,
     ]?;
     let files = vec![in alloc; MemoryFile::of(alloc, "-", input.as_bytes())?]?;
     let mut files = MemoryFiles::new(alloc, files);
@@ -58,7 +58,11 @@ fn printed(
 }
 
 // Whether the text of a row is printed as it is to be.
-fn is_folded(rt: &(impl Threads + Sync + AllocGlobal), row: &Row) -> Result<bool, AllocError> {
+fn is_folded(
+    rt: &(impl Threads + Sync + AllocGlobal),
+    flag: &str,
+    row: &Row,
+) -> Result<bool, AllocError> {
     let folded = if row.folded.is_empty() {
         row.text
     } else {
@@ -66,19 +70,21 @@ fn is_folded(rt: &(impl Threads + Sync + AllocGlobal), row: &Row) -> Result<bool
     };
     let input = file_of(rt.alloc(), row.ports, row.text)?;
     let expected = file_of(rt.alloc(), row.ports, folded)?;
-    Ok(match printed(rt, input.as_str())? {
+    Ok(match printed(rt, flag, input.as_str())? {
         Some(out) => out.contents() == expected.as_bytes(),
         None => false,
     })
 }
 
-/// The number of the first row whose text is printed in another way than it is to be.
+/// The number of the first row whose text `opt` with a flag prints in another way than it is to be. The error comes only when
+/// out of memory.
 pub fn first_other(
     rt: &(impl Threads + Sync + AllocGlobal),
+    flag: &str,
     rows: &[Row],
 ) -> Result<Option<usize>, AllocError> {
     for (number, row) in rows.iter().enumerate() {
-        if !is_folded(rt, row)? {
+        if !is_folded(rt, flag, row)? {
             return Ok(Some(number));
         }
     }

@@ -6,6 +6,7 @@ mod Ends
 mod Subjects
 pub mod Answers
 pub mod Within
+mod Partners
 pub mod Outcomes
 pub mod Cuts
 pub mod PieceTexts

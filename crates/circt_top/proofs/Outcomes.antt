@@ -10,8 +10,7 @@ use Rattle.hw_model.specs.Types.{Name}
 use Rattle.command_line.specs.Line.Work.{verilog}
 use Rattle.pass_pipeline.specs.declared.pass.Pass.{Pass}
 use Rattle.pass_laws.specs.PassLaw.{IsAfter}
-use Rattle.pass_laws.specs.Steady.{SameHeader, SameHeaders, IsSteady}
-use Rattle.pass_manager.specs.Results.{IsResult}
+use Rattle.pass_manager.specs.Results.{IsResult, on_offer}
 use Rattle.export_verilog.specs.Aggregates.{HasNoAggregates, first_aggregate}
 use Rattle.export_verilog.specs.Behaviour.{BehavesAs}
 use Rattle.export_verilog.specs.Exportable.{IsExportable}
@@ -32,7 +31,7 @@ use Rattle.mlir_printer.specs.Texts.{ir_text}
 use Rattle.circt_top.specs.Accepting.{Accepted, first_input, unaccepted}
 use Rattle.circt_top.specs.Accepting.{unread as unread_text}
 use Rattle.circt_top.specs.Outcomes.{IsTaken, IsPrinted, read_failure, verify_failure}
-use Rattle.circt_top.specs.Partners.{HasPartners}
+use Rattle.circt_top.proofs.Partners.{partners}
 use Rattle.circt_top.specs.Exports.{Exports}
 use Rattle.circt_top.specs.Outcome.{Gives}
 use Rattle.circt_top.specs.Reprint.{IsReprint, IsSaidAgain}
@@ -53,33 +52,7 @@ pub record DesignLaws : Type 0 where
 
 -- what passes make of an accepted, printable design
 pub record ResultLaws : Type 0 where
-  pub steady : (passes : List Pass) (d e : Design) → IsAccepted d → Printable d → IsResult passes d e → IsSteady d e
-  pub after : (passes : List Pass) (d e : Design) → IsAccepted d → Printable d → IsResult passes d e → IsAfter [] d e
-
--- a module with the header of another stands where that stands
-record Headed (m : Module) (e : Design) : Type 0 where
-  partner : Module
-  there : In partner e
-  header : SameHeader m partner
-
-headed : (d e : Design) (m : Module) → SameHeaders d e → In m d → Headed m e
-headed [] e m all here = absurd here
-headed (x ∷ d) [] m all here = absurd all
-headed (x ∷ d) (y ∷ e) m (one, rest) (inl same) = record { partner = y; there = inl refl; header = subst (λ z. SameHeader z y) (sym same) one }
-headed (x ∷ d) (y ∷ e) m (one, rest) (inr here) = let h = headed d e m rest here in record { partner = h.partner; there = inr h.there; header = h.header }
-
--- each public module has its partner in a design with the same headers, whose modules do the same
-partners : (d e : Design) → IsSteady d e → HasPartners d e
-partners d e steady = λ m here exposed.
-    let h = headed d e m steady.headers here in
-    record {
-      partner = h.partner;
-      there = h.there;
-      symbol = h.header.symbol;
-      exposed = h.header.mark ∙ exposed;
-      ports = h.header.ports;
-      behaves = steady.same m.symbol;
-    }
+  pub after : (passes : List Pass) (d e : Design) → IsAccepted d → Printable d → IsResult passes d e → IsAfter (on_offer passes) d e
 
 module _ (printing : PrintingLaws) (designs : DesignLaws) (results : ResultLaws) (source : List ℕ) (d : Design) (form : IsCanonical d) (accepted : Accepted source d) where
   printable : Printable d
@@ -100,13 +73,13 @@ module _ (printing : PrintingLaws) (designs : DesignLaws) (results : ResultLaws)
   -- what passes make of an accepted design, printed, is a reprint
   pub reprinted : (passes : List Pass) (text : List ℕ) → IsPrinted passes d text → IsReprint passes source text
   reprinted passes text is =
-      let after : IsAfter [] d is.made = results.after passes d is.made accepted.accepted printable is.result in
+      let after : IsAfter (on_offer passes) d is.made = results.after passes d is.made accepted.accepted printable is.result in
       record {
         design = d;
         accepted = accepted;
         made = is.made;
         result = is.result;
-        partners = partners d is.made (results.steady passes d is.made accepted.accepted printable is.result);
+        partners = partners (on_offer passes) d is.made accepted.accepted after;
         said_again = subst (IsSaidAgain is.made) (sym is.is) (said_again is.made after.accepted after.printable);
         laid_out = is.is;
       }
@@ -120,13 +93,13 @@ pub record ExportLaws : Type 0 where
 pub translated : ExportLaws → ResultLaws → (passes : List Pass) (contents : List (List ℕ)) (d e : Design) (r : Result (List ℕ) OutcomeFail) → Accepted (first_input contents) d → Printable d → IsResult passes d e
     → HasRoomToExport e → Exports e r → Gives (verilog passes) contents r
 translated laws results passes contents d e (Ok text) accepted shown is room h =
-    let after : IsAfter [] d e = results.after passes d e accepted.accepted shown is in
+    let after : IsAfter (on_offer passes) d e = results.after passes d e accepted.accepted shown is in
     record {
       design = d;
       accepted = accepted;
       made = e;
       result = is;
-      partners = partners d e (results.steady passes d e accepted.accepted shown is);
+      partners = partners (on_offer passes) d e accepted.accepted after;
       exported = h.0;
       behaves = subst (λ t. BehavesAs t e) (sym h.1) (laws.behaves e (laws.exportable e after.accepted h.0 room));
       laid_out = h.1;

@@ -29,7 +29,7 @@ use export_verilog::{
 use hw_model::{heights_are_acyclic, places_decide_nothing};
 use io_edge::byte_text::Text;
 use ir_store::design::Design;
-use mlir_printer::design_text::{design_text, print_and_drop};
+use mlir_printer::design_text::{print_and_drop, text_and_drop};
 use mlir_printer::laws::{what_is_canonical_is_printable, what_is_printed_is_read_again};
 use mlir_reader::laws::what_is_read_is_canonical;
 use mlir_reader::read::{MOST_BYTES, read_design};
@@ -288,8 +288,7 @@ fn reprint<G: Gate>(
     print_result(alloc, verified, passes, gate)
 }
 
-/// The text of what passes make of a verified design; where there are none, each body's memory is given back as soon as it is
-/// printed.
+/// The text of what passes make of a verified design. Each body's memory is given back as soon as it is printed.
 fn print_result<G: Gate>(
     alloc: Global,
     verified: Verified,
@@ -302,7 +301,7 @@ fn print_result<G: Gate>(
         return print_and_drop(alloc, verified);
     }
     let made = passes_result(alloc, verified, passes, gate)?;
-    design_text(alloc, &made)
+    text_and_drop(alloc, made)
 }
 
 /// What passes make of a verified design.

@@ -27,7 +27,7 @@ use std::alloc::Global;
 use std::thread::Threads;
 
 /// The passes that words may name.
-const PASSES_ON_OFFER: [Pass; 1] = [Pass::Canonicalize];
+const PASSES_ON_OFFER: [Pass; 3] = [Pass::Canonicalize, Pass::Cse, Pass::SymbolDce];
 
 /// Runs the program: `words` are those after its name, `files` are read and written by name (`-` is
 /// standard input), the output goes to `out` or to the file of `-o`, and an error message of one line
@@ -35,7 +35,7 @@ const PASSES_ON_OFFER: [Pass; 1] = [Pass::Canonicalize];
 ///
 /// `opt [FILE] [-o FILE]` reads FILE and prints its design as MLIR text, and
 /// `translate [FILE] --export-verilog [-o FILE]` prints it as Verilog, each of the design that the
-/// passes of `--canonicalize` or of `--pass-pipeline=TEXT` make, if it is given. `opt --split-input-file` does so with each
+/// passes of `--canonicalize`, `--cse`, `--symbol-dce` or of `--pass-pipeline=TEXT` make, if it is given. `opt --split-input-file` does so with each
 /// piece of FILE between the lines that are `// -----`, and joins the texts by such lines. All other words are answered by
 /// [`Status::Usage`]. A fault of `err` changes no status.
 pub fn run_circt<R: Threads + Sync, F: Files, O: Sink, E: Sink, G: Gate + Sync>(

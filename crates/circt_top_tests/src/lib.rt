@@ -3,7 +3,11 @@
 #![tactic(auto)]
 
 #[cfg(test)]
+mod groups;
+#[cfg(test)]
 mod limits;
+#[cfg(test)]
+mod pass_words;
 #[cfg(test)]
 mod pieces;
 #[cfg(test)]

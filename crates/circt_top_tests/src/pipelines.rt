@@ -15,6 +15,10 @@ const BAD_AT_27: &str = "circt: usage: bad pipeline text at offset 27\n";
 
 const BAD_AT_28: &str = "circt: usage: bad pipeline text at offset 28\n";
 
+const BAD_AT_18: &str = "circt: usage: bad pipeline text at offset 18\n";
+
+const MISPLACED_AT_25: &str = "circt: usage: pass in the wrong place at offset 25\n";
+
 const MISPLACED_AT_0: &str = "circt: usage: pass in the wrong place at offset 0\n";
 
 const BAD_AT_16: &str = "circt: usage: bad pipeline text at offset 16\n";
@@ -31,7 +35,7 @@ struct Row {
     err: &'static str,
 }
 
-const ROWS: [Row; 19] = [
+const ROWS: [Row; 21] = [
     // a pipeline without passes changes nothing
     Row {
         words: &["opt", "--pass-pipeline=builtin.module()"],
@@ -78,13 +82,13 @@ const ROWS: [Row; 19] = [
         err: UNKNOWN_AT_15,
     },
     Row {
-        words: &["opt", "--pass-pipeline=builtin.module(cse"],
+        words: &["opt", "--pass-pipeline=builtin.module(hw-flatten-modules"],
         code: 2,
         out: "",
         err: UNKNOWN_AT_15,
     },
     Row {
-        words: &["opt", "--pass-pipeline=cse"],
+        words: &["opt", "--pass-pipeline=dce"],
         code: 2,
         out: "",
         err: UNKNOWN_AT_0,
@@ -93,11 +97,27 @@ const ROWS: [Row; 19] = [
         words: &[
             "translate",
             "--export-verilog",
-            "--pass-pipeline=builtin.module(hw.module(symbol-dce))",
+            "--pass-pipeline=builtin.module(hw.module(builtin.module()))",
         ],
         code: 2,
         out: "",
         err: UNKNOWN_AT_25,
+    },
+    // a pass on modules stands in no module
+    Row {
+        words: &[
+            "opt",
+            "--pass-pipeline=builtin.module(hw.module(symbol-dce))",
+        ],
+        code: 2,
+        out: "",
+        err: MISPLACED_AT_25,
+    },
+    Row {
+        words: &["opt", "--pass-pipeline=builtin.module(cse"],
+        code: 2,
+        out: "",
+        err: BAD_AT_18,
     },
     // other bytes are bad text, and so is an early end
     Row {

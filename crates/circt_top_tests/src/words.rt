@@ -1,24 +1,14 @@
 //! What words, files and failing reads and writes answer.
-use crate::runs::{
-    ADDER, ADDER_PRINTED, ADDER_VERILOG, Ended, FOLDABLE_ADDER, FOLDABLE_ADDER_PRINTED, Failing,
-    run_words,
-};
-use std::alloc::{AllocError, AllocGlobal};
+use crate::groups::{Group, REFUSED, UNNAMED, USAGE, first_other};
+use crate::runs::{ADDER, ADDER_PRINTED, ADDER_VERILOG, Failing};
 use std::test::Fail;
-use std::thread::Threads;
-
-const USAGE: &str = "circt: usage: bad arguments\n";
-
-const UNNAMED: &str = "circt: usage: no translation named\n";
-
-const REFUSED: &str = "<stdin>:1:1: error: 'foo' S3: unknown operation\n";
 
 const REFUSED_FILE: &str = "a.mlir:1:1: error: 'foo' S3: unknown operation\n";
 
 const READ_FAULT: &str = "circt: cannot read b.mlir\n";
 
 // Words that are no command.
-const BAD: [&str; 36] = [
+const BAD: [&str; 37] = [
     "",
     "help",
     "--help",
@@ -34,7 +24,8 @@ const BAD: [&str; 36] = [
     "opt --export-verilog",
     "opt --passes=cse",
     "opt -passes cse",
-    "opt --cse",
+    "opt --hw-flatten-modules",
+    "opt --cse=1",
     "opt --canonicalise",
     "opt --canonicalize=x",
     "opt --canonicalize -passes=canonicalize",
@@ -57,21 +48,7 @@ const BAD: [&str; 36] = [
     "a.mlir",
 ];
 
-/// Words that have the same answer on a text.
-struct Group {
-    words: &'static [&'static str],
-    /// What stands on standard input and in `a.mlir`.
-    input: &'static str,
-    failing: Failing,
-    code: u8,
-    out: &'static str,
-    err: &'static str,
-    /// A file, and its text in the end.
-    file: &'static str,
-    text: &'static str,
-}
-
-const GROUPS: [Group; 31] = [
+const GROUPS: [Group; 23] = [
     // words that are bad are told so, and no file is touched
     Group {
         words: &BAD,
@@ -131,117 +108,6 @@ const GROUPS: [Group; 31] = [
         code: 0,
         out: ADDER_VERILOG,
         err: "",
-        file: "x.v",
-        text: "old",
-    },
-    // passes are named by flags or by a pipeline, and change nothing where none is named
-    Group {
-        words: &[
-            "opt --canonicalize",
-            "opt -canonicalize",
-            "opt --canonicalize --canonicalize",
-            "opt -canonicalize a.mlir --canonicalize",
-            "opt a.mlir --canonicalize",
-            "opt -o --canonicalize -",
-            "opt --pass-pipeline=builtin.module(canonicalize)",
-            "opt --pass-pipeline=builtin.module(hw.module(canonicalize,canonicalize))",
-            "opt --pass-pipeline=builtin.module(canonicalize,hw.module(),hw.module(canonicalize))",
-            "opt --canonicalize --split-input-file",
-        ],
-        input: FOLDABLE_ADDER,
-        failing: Failing::No,
-        code: 0,
-        out: ADDER_PRINTED,
-        err: "",
-        file: "x.v",
-        text: "old",
-    },
-    Group {
-        words: &["opt", "opt --pass-pipeline=builtin.module(hw.module())"],
-        input: FOLDABLE_ADDER,
-        failing: Failing::No,
-        code: 0,
-        out: FOLDABLE_ADDER_PRINTED,
-        err: "",
-        file: "x.v",
-        text: "old",
-    },
-    Group {
-        words: &[
-            "translate --export-verilog --canonicalize",
-            "translate --canonicalize --export-verilog",
-            "translate -canonicalize a.mlir -export-verilog",
-            "translate --pass-pipeline=builtin.module(canonicalize) --export-verilog",
-        ],
-        input: FOLDABLE_ADDER,
-        failing: Failing::No,
-        code: 0,
-        out: ADDER_VERILOG,
-        err: "",
-        file: "x.v",
-        text: "old",
-    },
-    Group {
-        words: &[
-            "opt --canonicalize -o x.v",
-            "opt -o --canonicalize x.v a.mlir",
-        ],
-        input: FOLDABLE_ADDER,
-        failing: Failing::No,
-        code: 0,
-        out: "",
-        err: "",
-        file: "x.v",
-        text: ADDER_PRINTED,
-    },
-    // not in two ways, and a translation is to be named
-    Group {
-        words: &[
-            "opt --canonicalize --pass-pipeline=builtin.module()",
-            "opt --pass-pipeline=builtin.module(canonicalize) -canonicalize",
-            "opt --pass-pipeline=dce --canonicalize",
-            "translate --canonicalize --pass-pipeline=builtin.module()",
-        ],
-        input: FOLDABLE_ADDER,
-        failing: Failing::No,
-        code: 2,
-        out: "",
-        err: "circt: usage: passes given in two ways\n",
-        file: "x.v",
-        text: "old",
-    },
-    Group {
-        words: &["translate --canonicalize", "translate a.mlir -canonicalize"],
-        input: FOLDABLE_ADDER,
-        failing: Failing::No,
-        code: 2,
-        out: "",
-        err: UNNAMED,
-        file: "x.v",
-        text: "old",
-    },
-    // a word after `--` is a file
-    Group {
-        words: &["opt -- --canonicalize"],
-        input: FOLDABLE_ADDER,
-        failing: Failing::No,
-        code: 5,
-        out: "",
-        err: "circt: cannot read --canonicalize\n",
-        file: "x.v",
-        text: "old",
-    },
-    // what is refused is not folded
-    Group {
-        words: &[
-            "opt --canonicalize",
-            "translate --canonicalize --export-verilog",
-        ],
-        input: "foo",
-        failing: Failing::No,
-        code: 1,
-        out: "",
-        err: REFUSED,
         file: "x.v",
         text: "old",
     },
@@ -452,44 +318,6 @@ const GROUPS: [Group; 31] = [
         text: "old",
     },
 ];
-
-// Whether a run ended with the answer of a group.
-fn is_answered(group: &Group, run: &Ended) -> bool {
-    let is_held = match run.files.contents(group.file) {
-        Some(bytes) => bytes == group.text.as_bytes(),
-        None => false,
-    };
-    (run.code == group.code && is_held)
-        && (run.out.contents() == group.out.as_bytes()
-            && run.err.contents() == group.err.as_bytes())
-}
-
-// The first of the words of a group that has another answer.
-fn other_words(
-    rt: &(impl Threads + Sync + AllocGlobal),
-    group: &Group,
-) -> Result<Option<&'static str>, AllocError> {
-    for words in group.words {
-        let run = run_words(rt, words, group.input, group.failing)?;
-        if !is_answered(group, &run) {
-            return Ok(Some(words));
-        }
-    }
-    Ok(None)
-}
-
-// The first of the words of all groups that has another answer.
-fn first_other(
-    rt: &(impl Threads + Sync + AllocGlobal),
-    groups: &[Group],
-) -> Result<Option<&'static str>, AllocError> {
-    for group in groups {
-        if let Some(words) = other_words(rt, group)? {
-            return Ok(Some(words));
-        }
-    }
-    Ok(None)
-}
 
 #[test]
 fn words_have_their_answers(rt: HostRuntime) -> Result<(), Fail> {

@@ -1,3 +1,3 @@
 -- Lemmas.
-pub mod Canonical
+pub mod ChangedBodies
 pub mod Results

@@ -1,7 +1,8 @@
 -- What lists of passes make of a design.
-use Rattle.std.proofs.Common.{◌≡◌, ℕ, ◌+◌, ◌<◌, List, [], ◌∷◌, length, drop, get_or, refl, sym, subst, ◌∙◌, add-one}
+use Rattle.std.proofs.Common.{◌≡◌, ℕ, ◌+◌, ◌<◌, List, [], ◌∷◌, ◌++◌, length, drop, get_or, Some, slice_get, refl, sym, subst, ◌∙◌, add-one}
 use Rattle.std.proofs.Math.Seq.{drop-cons}
-use Rattle.hw_model.specs.Design.{Design}
+use Rattle.hw_model.specs.Design.{Op, Module, Design}
+use Rattle.hw_edits.specs.Laws.{with_body}
 use Rattle.op_verifier.specs.Verdict.{IsAccepted}
 use Rattle.mlir_printer.specs.Printable.{Printable}
 use Rattle.accepted_edits.specs.Keeps.{IsFit}
@@ -9,47 +10,85 @@ use Rattle.accepted_edits.proofs.Accepted.{accepted_fit}
 use Rattle.pass_pipeline.specs.declared.pass.Pass.{Pass}
 use Rattle.pass_pipeline.specs.declared.pass.Pass.TheVariants.{Canonicalize, Cse, SeqLowerRegs, HwLowerAggregates, HwFlattenModules, SymbolDce}
 use Rattle.pass_laws.specs.PassLaw.{IsAfter, PassLaw}
+use Rattle.pass_laws.proofs.Composed.{after_both}
 use Rattle.pass_laws.proofs.Steady.{steady_is_after}
-use Rattle.pass_manager.specs.Results.{IsChosen, IsResult}
-use Rattle.pass_manager.proofs.Canonical.{Keeps, keeps_self, keeps_then, canonical_keeps, modules_once}
+use Rattle.pass_laws.proofs.Steps.{Keeps}
+use Rattle.pass_laws.proofs.Unchanged.{identity_keeps}
+use Rattle.canonicalise.specs.Canonical.{table, IsCanonicalOf}
+use Rattle.canonicalise.proofs.Follows.{followed}
+use Rattle.canonicalise.proofs.Sweeping.{once, out_leads}
+use Rattle.cse_pass.specs.Cse.{IsCseOf}
+use Rattle.cse_pass.proofs.Following.{changes_follow}
+use Rattle.cse_pass.proofs.Leading.{cse_leads}
+use Rattle.cse_pass.proofs.Once.{once as cse_once}
+use Rattle.inline_pass.specs.DeadModules.{IsWithoutDead}
+use Rattle.inline_pass.proofs.DeadModulesGone.{dce_is_after, without_dead_once, without_dead_fit}
+use Rattle.pass_manager.specs.Results.{AreModulesBy, IsChosen, IsResult, on_offer}
+use Rattle.pass_manager.proofs.ChangedBodies.{changed_keeps, modules_once}
 
-kept : (d e : Design) → IsFit d → e ≡ d → Keeps d e
-kept d e fit same = subst (Keeps d) (sym same) (keeps_self d fit)
+-- ---- bodies
 
-pub chosen_keeps : (pass : Pass) (d e : Design) → IsFit d → IsChosen pass d e → Keeps d e
-chosen_keeps Canonicalize d e fit chosen = canonical_keeps d e fit chosen
-chosen_keeps Cse d e fit chosen = kept d e fit chosen
-chosen_keeps SeqLowerRegs d e fit chosen = kept d e fit chosen
-chosen_keeps HwLowerAggregates d e fit chosen = kept d e fit chosen
-chosen_keeps HwFlattenModules d e fit chosen = kept d e fit chosen
-chosen_keeps SymbolDce d e fit chosen = kept d e fit chosen
+pub canonical_keeps : (d : Design) (k : ℕ) (m : Module) (os : List Op) → IsFit d → slice_get d k ≡ Some m → IsCanonicalOf m.body os → Keeps d (with_body d k m os)
+canonical_keeps d k m os fit at is = followed d k m os fit at (out_leads table m.body os is)
 
-pub result_keeps : (passes : List Pass) (d e : Design) → IsFit d → IsResult passes d e → Keeps d e
-result_keeps [] d e fit same = kept d e fit same
-result_keeps (pass ∷ passes) d f fit (e, chosen, rest) =
-    let first : Keeps d e = chosen_keeps pass d e fit chosen in
-    keeps_then d e f first (result_keeps passes e f first.steady.fit rest)
+pub merged_keeps : (d : Design) (k : ℕ) (m : Module) (os : List Op) → IsFit d → slice_get d k ≡ Some m → IsCseOf m.body os → Keeps d (with_body d k m os)
+merged_keeps d k m os fit at is = changes_follow d k m os fit at (cse_leads m.body os is)
 
-pub accepted_keeps : (passes : List Pass) (d e : Design) → IsAccepted d → Printable d → IsResult passes d e → Keeps d e
-accepted_keeps passes d e accepted printable is = result_keeps passes d e (accepted_fit d accepted printable) is
+-- ---- one pass
 
-pub result_is_after : (passes : List Pass) (d e : Design) → IsAccepted d → Printable d → IsResult passes d e → IsAfter [] d e
-result_is_after passes d e accepted printable is =
-    let keeps : Keeps d e = accepted_keeps passes d e accepted printable is in
-    steady_is_after [] d e refl refl refl accepted keeps.steady keeps.lighter
+pub chosen_fit : (pass : Pass) (d e : Design) → IsFit d → IsChosen pass d e → IsFit e
+chosen_fit Canonicalize d e fit chosen = (changed_keeps IsCanonicalOf canonical_keeps d e fit chosen).steady.fit
+chosen_fit Cse d e fit chosen = (changed_keeps IsCseOf merged_keeps d e fit chosen).steady.fit
+chosen_fit SeqLowerRegs d e fit chosen = subst IsFit (sym chosen) fit
+chosen_fit HwLowerAggregates d e fit chosen = subst IsFit (sym chosen) fit
+chosen_fit HwFlattenModules d e fit chosen = subst IsFit (sym chosen) fit
+chosen_fit SymbolDce d e fit chosen = without_dead_fit d e fit chosen
 
 pub canonicalize_keeps : PassLaw (Canonicalize ∷ []) (IsChosen Canonicalize)
 canonicalize_keeps d e accepted printable chosen =
-    let keeps : Keeps d e = canonical_keeps d e (accepted_fit d accepted printable) chosen in
+    let keeps : Keeps d e = changed_keeps IsCanonicalOf canonical_keeps d e (accepted_fit d accepted printable) chosen in
     steady_is_after (Canonicalize ∷ []) d e refl refl refl accepted keeps.steady keeps.lighter
 
+pub cse_keeps : PassLaw (Cse ∷ []) (IsChosen Cse)
+cse_keeps d e accepted printable chosen =
+    let keeps : Keeps d e = changed_keeps IsCseOf merged_keeps d e (accepted_fit d accepted printable) chosen in
+    steady_is_after (Cse ∷ []) d e refl refl refl accepted keeps.steady keeps.lighter
+
+pub symbol_dce_keeps : PassLaw (SymbolDce ∷ []) (IsChosen SymbolDce)
+symbol_dce_keeps d e accepted printable chosen = dce_is_after d e accepted printable chosen
+
+chosen_after : (pass : Pass) (d e : Design) → IsAccepted d → Printable d → IsChosen pass d e → IsAfter (on_offer (pass ∷ [])) d e
+chosen_after Canonicalize d e accepted printable chosen = canonicalize_keeps d e accepted printable chosen
+chosen_after Cse d e accepted printable chosen = cse_keeps d e accepted printable chosen
+chosen_after SeqLowerRegs d e accepted printable chosen = identity_keeps [] refl refl refl d e accepted printable chosen
+chosen_after HwLowerAggregates d e accepted printable chosen = identity_keeps [] refl refl refl d e accepted printable chosen
+chosen_after HwFlattenModules d e accepted printable chosen = identity_keeps [] refl refl refl d e accepted printable chosen
+chosen_after SymbolDce d e accepted printable chosen = symbol_dce_keeps d e accepted printable chosen
+
 chosen_once : (pass : Pass) (d e f : Design) → IsChosen pass d e → IsChosen pass d f → e ≡ f
-chosen_once Canonicalize d e f one other = modules_once d e f one other
-chosen_once Cse d e f one other = one ∙ sym other
+chosen_once Canonicalize d e f one other = modules_once IsCanonicalOf (once table) d e f one other
+chosen_once Cse d e f one other = modules_once IsCseOf cse_once d e f one other
 chosen_once SeqLowerRegs d e f one other = one ∙ sym other
 chosen_once HwLowerAggregates d e f one other = one ∙ sym other
 chosen_once HwFlattenModules d e f one other = one ∙ sym other
-chosen_once SymbolDce d e f one other = one ∙ sym other
+chosen_once SymbolDce d e f one other = without_dead_once d e f one other
+
+-- ---- lists of passes
+
+offered_then : (pass : Pass) (passes : List Pass) → on_offer (pass ∷ []) ++ on_offer passes ≡ on_offer (pass ∷ passes)
+offered_then Canonicalize passes = refl
+offered_then Cse passes = refl
+offered_then SeqLowerRegs passes = refl
+offered_then HwLowerAggregates passes = refl
+offered_then HwFlattenModules passes = refl
+offered_then SymbolDce passes = refl
+
+pub result_is_after : (passes : List Pass) (d e : Design) → IsAccepted d → Printable d → IsResult passes d e → IsAfter (on_offer passes) d e
+result_is_after [] d e accepted printable same = identity_keeps [] refl refl refl d e accepted printable same
+result_is_after (pass ∷ passes) d f accepted printable (e, chosen, rest) =
+    let first : IsAfter (on_offer (pass ∷ [])) d e = chosen_after pass d e accepted printable chosen in
+    let then : IsAfter (on_offer passes) e f = result_is_after passes e f first.accepted first.printable rest in
+    subst (λ z. IsAfter z d f) (offered_then pass passes) (after_both (on_offer (pass ∷ [])) (on_offer passes) d e f first then)
 
 pub result_once : (passes : List Pass) (d e f : Design) → IsResult passes d e → IsResult passes d f → e ≡ f
 result_once [] d e f one other = one ∙ sym other

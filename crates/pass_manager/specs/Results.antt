@@ -1,37 +1,57 @@
 -- What passes make of a design (MLIR documentation, "Pass infrastructure"; CIRCT documentation, "Passes").
-use Rattle.std.specs.Prelude.{◌≡◌, ℕ, List, [], ◌∷◌, Some, slice_get, ⊤}
+use Rattle.std.specs.Prelude.{◌≡◌, ℕ, Bool, true, false, cond, List, [], ◌∷◌, Some, slice_get, ⊤}
 use Rattle.hw_model.specs.Design.{Op, Module, Design}
 use Rattle.hw_edits.specs.Laws.{with_body}
 use Rattle.canonicalise.specs.Canonical.{IsCanonicalOf}
+use Rattle.cse_pass.specs.Cse.{IsCseOf}
+use Rattle.inline_pass.specs.DeadModules.{IsWithoutDead}
 use Rattle.pass_pipeline.specs.declared.pass.Pass.{Pass}
-use Rattle.pass_pipeline.specs.declared.pass.Pass.TheVariants.{Canonicalize}
+use Rattle.pass_pipeline.specs.declared.pass.Pass.TheVariants.{Canonicalize, Cse, SymbolDce}
 
--- the second module is the first with the canonical form of its body
-pub record IsCanonicalModule (m n : Module) : Type 0 where
+-- ---- passes that change bodies
+
+-- the second module is the first with what is made of its body
+pub record IsModuleBy (Makes : List Op → List Op → Type 0) (m n : Module) : Type 0 where
   pub kept : n ≡ record m { body = n.body }
-  pub canonical : IsCanonicalOf m.body n.body
+  pub made : Makes m.body n.body
 
 -- so are the modules of a design, one by one
-abbrev pub AreCanonicalModules : Design → Design → Type 0
-AreCanonicalModules [] [] = ⊤
-AreCanonicalModules (m ∷ d) (n ∷ e) = IsCanonicalModule m n × AreCanonicalModules d e
-AreCanonicalModules [] (n ∷ e) = ⊥
-AreCanonicalModules (m ∷ d) [] = ⊥
+abbrev pub AreModulesBy : (List Op → List Op → Type 0) → Design → Design → Type 0
+AreModulesBy Makes [] [] = ⊤
+AreModulesBy Makes (m ∷ d) (n ∷ e) = IsModuleBy Makes m n × AreModulesBy Makes d e
+AreModulesBy Makes [] (n ∷ e) = ⊥
+AreModulesBy Makes (m ∷ d) [] = ⊥
+
+-- the design with what is made of the body of the module at a position
+pub record HasMadeAt (Makes : List Op → List Op → Type 0) (k : ℕ) (d e : Design) : Type 0 where
+  pub owner : Module
+  pub there : slice_get d k ≡ Some owner
+  pub ops : List Op
+  pub made : Makes owner.body ops
+  pub is : e ≡ with_body d k owner ops
+
+-- ---- lists of passes
+
+-- whether a pass is on offer
+abbrev pub is_on_offer : Pass → Bool
+is_on_offer Canonicalize = true
+is_on_offer Cse = true
+is_on_offer SymbolDce = true
+is_on_offer _ = false
+
+-- the passes of a list that are
+abbrev pub on_offer : List Pass → List Pass
+on_offer [] = []
+on_offer (pass ∷ passes) = cond (is_on_offer pass) (pass ∷ on_offer passes) (on_offer passes)
 
 -- what one pass makes of a design; a pass that is not on offer makes nothing else of it
 abbrev pub IsChosen : Pass → Design → Design → Type 0
-IsChosen Canonicalize d e = AreCanonicalModules d e
+IsChosen Canonicalize d e = AreModulesBy IsCanonicalOf d e
+IsChosen Cse d e = AreModulesBy IsCseOf d e
+IsChosen SymbolDce d e = IsWithoutDead d e
 IsChosen _ d e = e ≡ d
 
 -- what a list of passes makes of a design, the first one first
 abbrev pub IsResult : List Pass → Design → Design → Type 0
 IsResult [] d e = e ≡ d
 IsResult (pass ∷ passes) d f = (e : Design) × IsChosen pass d e × IsResult passes e f
-
--- the design with the canonical form of the body of the module at a position
-pub record HasCanonicalAt (k : ℕ) (d e : Design) : Type 0 where
-  pub owner : Module
-  pub there : slice_get d k ≡ Some owner
-  pub ops : List Op
-  pub canonical : IsCanonicalOf owner.body ops
-  pub is : e ≡ with_body d k owner ops

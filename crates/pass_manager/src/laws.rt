@@ -1,20 +1,19 @@
 //! The laws of lists of passes, each a clause of a function that does nothing.
 
-ghost use Rattle.std.specs.Prelude.{◌≡◌, ◌≤◌, List, [], ◌∷◌};
-ghost use Rattle.hw_model.specs.Types.{Name};
+ghost use Rattle.std.specs.Prelude.{◌≡◌, List, [], ◌∷◌};
 ghost use Rattle.hw_model.specs.Design.{Design};
-ghost use Rattle.hw_model.specs.Weight.{weight};
 ghost use Rattle.op_verifier.specs.Verdict.{IsAccepted};
 ghost use Rattle.mlir_printer.specs.Printable.{Printable};
 ghost use Rattle.pass_pipeline.specs.declared.pass.Pass.{Pass};
-ghost use Rattle.pass_pipeline.specs.declared.pass.Pass.TheVariants.{Canonicalize};
+ghost use Rattle.pass_pipeline.specs.declared.pass.Pass.TheVariants.{Canonicalize, Cse, SymbolDce};
 ghost use Rattle.pass_laws.specs.PassLaw.{IsAfter, PassLaw};
-ghost use Rattle.pass_laws.specs.Steady.{IsSteady};
-ghost use Rattle.pass_manager.specs.Results.{IsChosen, IsResult};
+ghost use Rattle.pass_manager.specs.Results.{IsChosen, IsResult, on_offer};
 
-/// Does nothing. Its clause says that `canonicalize` meets the law of passes.
-pub fn canonicalize_keeps()
-    ensures { PassLaw (Canonicalize ∷ []) (IsChosen Canonicalize) }
+/// Does nothing. Its clauses say that each pass on offer meets the law of passes.
+pub fn passes_keep()
+    ensures canonicalize { PassLaw (Canonicalize ∷ []) (IsChosen Canonicalize) }
+    ensures cse { PassLaw (Cse ∷ []) (IsChosen Cse) }
+    ensures symbol_dce { PassLaw (SymbolDce ∷ []) (IsChosen SymbolDce) }
 {}
 
 /// Does nothing. Its clause says that a list of passes makes one design of each.
@@ -22,10 +21,9 @@ pub fn result_once()
     ensures { (passes : List Pass) (d e f : Design) → IsResult passes d e → IsResult passes d f → e ≡ f }
 {}
 
-/// Does nothing. Its clauses say of what a list of passes makes of an accepted, printable design that it has its headers,
-/// registers and instances and does what it did, that it is accepted and printable, and that no module is heavier.
+/// Does nothing. Its clause says that what a list of passes makes of an accepted, printable design meets the law of those that are
+/// on offer: it is accepted and printable, the modules that remain are in order and no heavier, and each public one does what
+/// it did.
 pub fn results_follow()
-    ensures steady { (passes : List Pass) (d e : Design) → IsAccepted d → Printable d → IsResult passes d e → IsSteady d e }
-    ensures after { (passes : List Pass) (d e : Design) → IsAccepted d → Printable d → IsResult passes d e → IsAfter [] d e }
-    ensures lighter { (passes : List Pass) (d e : Design) → IsAccepted d → Printable d → IsResult passes d e → (s : Name) → weight e s ≤ weight d s }
+    ensures { (passes : List Pass) (d e : Design) → IsAccepted d → Printable d → IsResult passes d e → IsAfter (on_offer passes) d e }
 {}

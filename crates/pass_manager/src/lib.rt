@@ -1,8 +1,9 @@
 //! Passes over a design: what a list of them makes of it.
 #![tactic(auto)]
 
+pub mod body_pass;
 pub mod gate;
 mod laws;
 pub mod run;
 
-pub use laws::{canonicalize_keeps, result_once, results_follow};
+pub use laws::{passes_keep, result_once, results_follow};

@@ -4,10 +4,11 @@ ghost use Rattle.ir_store.specs.Designs.{design_of, modules_of};
 ghost use Rattle.accepted_edits.specs.Keeps.{IsFit};
 ghost use Rattle.op_verifier.specs.Verdict.{IsAccepted};
 ghost use Rattle.mlir_printer.specs.Printable.{Printable};
-ghost use Rattle.pass_manager.specs.Results.{AreCanonicalModules, HasCanonicalAt, IsChosen, IsResult};
+ghost use Rattle.pass_manager.specs.Results.{AreModulesBy, HasMadeAt, IsChosen, IsResult};
 
+use crate::body_pass::{BodyPass, CanonicalForm, CommonSubexpressions};
 use crate::gate::Gate;
-use canonicalise::canonicalize::canonicalize;
+use inline_pass::dead_modules::symbol_dce;
 use ir_store::design::Design;
 use pass_pipeline::pass::Pass;
 use pass_pipeline::pipeline::Pipeline;
@@ -43,39 +44,42 @@ fn run_pass<G: Gate>(
     ensures { OnOk result (IsChosen pass (design_of design.old) (design_of design.new)) }
 {
     match pass {
-        Pass::Canonicalize => canonicalize_modules(alloc, design, gate),
-        Pass::Cse
-        | Pass::SeqLowerRegs
-        | Pass::HwLowerAggregates
-        | Pass::HwFlattenModules
-        | Pass::SymbolDce => Ok(()),
+        Pass::Canonicalize => change_bodies::<CanonicalForm, G>(alloc, design, gate),
+        Pass::Cse => change_bodies::<CommonSubexpressions, G>(alloc, design, gate),
+        Pass::SymbolDce => symbol_dce(alloc, design),
+        Pass::SeqLowerRegs | Pass::HwLowerAggregates | Pass::HwFlattenModules => Ok(()),
     }
 }
 
-/// Brings the body of each module into its canonical form.
-fn canonicalize_modules<G: Gate>(
+/// Has a pass work on the body of each module.
+fn change_bodies<P: BodyPass, G: Gate>(
     alloc: Global,
     design: &mut Design,
     gate: &G,
 ) -> Result<(), AllocError>
     requires { IsFit (design_of design.old) }
-    ensures { OnOk result (AreCanonicalModules (design_of design.old) (design_of design.new)) }
+    ensures { OnOk result (AreModulesBy P.makes (design_of design.old) (design_of design.new)) }
 {
     for number in 0..design.module_count() {
         gate.enter(number);
-        canonicalize_module(alloc, design, number)?;
+        change_body::<P>(alloc, design, number)?;
     }
     Ok(())
 }
 
-/// Brings the body of the module of a number into its canonical form.
-fn canonicalize_module(alloc: Global, design: &mut Design, number: u32) -> Result<(), AllocError>
+/// Has a pass work on the body of the module of a number.
+fn change_body<P: BodyPass>(
+    alloc: Global,
+    design: &mut Design,
+    number: u32,
+) -> Result<(), AllocError>
     requires within { number < length (modules_of design.old) }
     requires fit { IsFit (design_of design.old) }
-    ensures { OnOk result (HasCanonicalAt number (design_of design.old) (design_of design.new)) }
+    ensures made { OnOk result (HasMadeAt P.makes number (design_of design.old) (design_of design.new)) }
+    ensures fit { OnOk result (IsFit (design_of design.new)) }
 {
     let mut body = design.take_body(number);
-    canonicalize(alloc, &mut body)?;
+    P::run(alloc, &mut body)?;
     design.put_body(number, body);
     Ok(())
 }

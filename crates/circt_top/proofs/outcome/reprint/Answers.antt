@@ -20,6 +20,6 @@ returns g c =
       placeless = c.places_decide_no_verdict.ensures;
       same = c.places_decide_nothing.ensures;
     })
-    (record { steady = c.results_follow.ensures.steady; after = c.results_follow.ensures.after })
+    (record { after = c.results_follow.ensures })
     c.args.source.now (design_of c.args.verified.design) c.args.verified.canonical c.requires c.args.passes.now)
     c.print_result.ensures

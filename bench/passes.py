@@ -1,8 +1,8 @@
 #!/usr/bin/env python3
-"""Measures what folding costs: the processor times of `opt` and of `opt --canonicalize` on large texts, in turn.
+"""Measures what passes cost: the processor times of `opt` without passes and with each list of flags, in turn, on large texts.
 
-    canonicalize.py PROGRAM [ROUNDS]     the program `circt`, 5 rounds by default
-    canonicalize.py --text NAME          writes one of the texts to standard output
+    passes.py PROGRAM [ROUNDS]     the program `circt`, 5 rounds by default
+    passes.py --text NAME          writes one of the texts to standard output
 
 The texts are
     modules    the 10,000 modules of reader_texts.py, in which nothing folds
@@ -15,6 +15,11 @@ The texts are
     long2      the same of 20,000 adds
     back       2,000 operations, each after the one that uses it and folding once the one after it has, so one in a sweep
     back2      the same of 4,000 operations
+    equal      100,000 operations, of which each third one is equal to the one before it
+    equal2     the same of 200,000 operations
+    dead       100,000 operations, of which none is used in the end
+    above      two equal chains of 1,000 operations, each above the one that it uses, so that a sweep merges one of each
+    above2     the same of 2,000 operations
 """
 import pathlib
 import resource
@@ -92,6 +97,33 @@ def back(count, write):
     write(f"  %0 = comb.sub %a, %a : i32\n  hw.output %{count - 1} : i32\n}}\n")
 
 
+def equal(count, write):
+    """So many operations, of which each third one is equal to the one before it."""
+    write(HEADER + "  %0 = comb.mul %a, %b : i32\n")
+    for number in range(1, count):
+        row = (f"mul %{number - 1}, %{number - 2}", f"sub %{number - 1}, %b", f"sub %{number - 2}, %b")[number % 3]
+        write(f"  %{number} = comb.{row} : i32\n")
+    write(f"  hw.output %{count - 1} : i32\n}}\n")
+
+
+def dead(count, write):
+    """So many operations, each of the one before it, of which none is used in the end."""
+    write(HEADER + "  %0 = comb.mul %a, %b : i32\n")
+    for number in range(1, count):
+        write(f"  %{number} = comb.sub %{number - 1}, %b : i32\n")
+    write("  hw.output %a : i32\n}\n")
+
+
+def above(count, write):
+    """Two equal chains of so many operations, each above the one that it uses."""
+    write(HEADER)
+    for number in reversed(range(1, count)):
+        for chain_name in "xy":
+            write(f"  %{chain_name}{number} = comb.sub %{chain_name}{number - 1}, %b : i32\n")
+    write("  %x0 = comb.mul %a, %b : i32\n  %y0 = comb.mul %a, %b : i32\n")
+    write(f"  %o = comb.xor %x{count - 1}, %y{count - 1} : i32\n  hw.output %o : i32\n}}\n")
+
+
 TEXTS = {
     "modules": (reader_texts.many_modules, 10000),
     "third": (third, 100000),
@@ -103,7 +135,15 @@ TEXTS = {
     "long2": (long, 20000),
     "back": (back, 2000),
     "back2": (back, 4000),
+    "equal": (equal, 100000),
+    "equal2": (equal, 200000),
+    "dead": (dead, 100000),
+    "above": (above, 1000),
+    "above2": (above, 2000),
 }
+
+# The lists of flags that are compared, the first one without passes.
+FLAGS = [[], ["--canonicalize"], ["--cse"], ["--canonicalize", "--cse"]]
 
 
 def seconds(words, text, printed):
@@ -115,20 +155,17 @@ def seconds(words, text, printed):
 
 
 def measure(program, name, rounds, folder):
-    """Says the times of one text: the medians of both commands and of their differences, and the sizes of what is printed."""
-    text, plain, folded = folder / "text", folder / "plain", folder / "folded"
+    """Says the times of one text: the median for each list of flags, and the sizes of what is printed."""
+    text = folder / "text"
     make, count = TEXTS[name]
     with open(text, "w") as file:
         make(count, file.write)
-    times = []
+    times = [[] for _ in FLAGS]
     for _ in range(rounds):
-        first = seconds([program, "opt"], text, plain)
-        times.append((first, seconds([program, "opt", "--canonicalize"], text, folded)))
-    opt = statistics.median(time[0] for time in times)
-    canonicalize = statistics.median(time[1] for time in times)
-    difference = statistics.median(time[1] - time[0] for time in times)
-    sizes = f"{plain.stat().st_size:>12}{folded.stat().st_size:>12}"
-    print(f"{name:10}{opt:>10.3f}{canonicalize:>14.3f}{difference:>12.3f}{sizes}", flush=True)
+        for number, flags in enumerate(FLAGS):
+            times[number].append(seconds([program, "opt", *flags], text, folder / str(number)))
+    columns = (f"{statistics.median(own):>10.3f}{(folder / str(number)).stat().st_size:>12}" for number, own in enumerate(times))
+    print(f"{name:10}" + "".join(columns), flush=True)
 
 
 def main():
@@ -140,7 +177,7 @@ def main():
     if len(sys.argv) < 2 or sys.argv[1].startswith("-"):
         sys.exit(__doc__)
     rounds = int(sys.argv[2]) if len(sys.argv) > 2 else 5
-    print(f"{'text':10}{'opt':>10}{'canonicalize':>14}{'difference':>12}{'printed':>12}{'folded':>12}")
+    print(f"{'text':10}" + "".join(f"{' '.join(flags) or 'opt':>22}" for flags in FLAGS))
     with tempfile.TemporaryDirectory() as folder:
         for name in TEXTS:
             measure(sys.argv[1], name, rounds, pathlib.Path(folder))

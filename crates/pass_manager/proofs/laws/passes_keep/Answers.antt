@@ -1,0 +1,11 @@
+use Rattle.pass_manager.proofs.Results.{canonicalize_keeps, cse_keeps, symbol_dce_keeps}
+use Rattle.pass_manager.proofs.laws.passes_keep.Goals as goal
+
+pub returns-clause-canonicalize : goal.returns-clause-canonicalize
+returns-clause-canonicalize c = canonicalize_keeps
+
+pub returns-clause-cse : goal.returns-clause-cse
+returns-clause-cse c = cse_keeps
+
+pub returns-clause-symbol_dce : goal.returns-clause-symbol_dce
+returns-clause-symbol_dce c = symbol_dce_keeps
