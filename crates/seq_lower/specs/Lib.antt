@@ -1,0 +1,4 @@
+pub mod Lowered
+pub mod LoweredOps
+pub mod NewOps
+pub mod Puts
