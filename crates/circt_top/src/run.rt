@@ -27,7 +27,12 @@ use std::alloc::Global;
 use std::thread::Threads;
 
 /// The passes that words may name.
-const PASSES_ON_OFFER: [Pass; 3] = [Pass::Canonicalize, Pass::Cse, Pass::SymbolDce];
+const PASSES_ON_OFFER: [Pass; 4] = [
+    Pass::Canonicalize,
+    Pass::Cse,
+    Pass::SeqLowerRegs,
+    Pass::SymbolDce,
+];
 
 /// Runs the program: `words` are those after its name, `files` are read and written by name (`-` is
 /// standard input), the output goes to `out` or to the file of `-o`, and an error message of one line

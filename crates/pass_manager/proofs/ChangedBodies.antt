@@ -1,12 +1,10 @@
 -- Designs whose bodies a pass changes, one by one.
 use Rattle.std.proofs.Common.{◌≡◌, ℕ, zero, suc, ◌<◌, ◌≤◌, ◌≢◌, Bool, true, false, nat_eq, List, [], ◌∷◌, ◌++◌, ◌+◌, map, length, option_map, Option, Some, None, Result, Ok, Err, OnOk, slice_get, refl, sym, ap, ap₂, subst, ◌∙◌, arith, length-set}
 use Rattle.std.proofs.lemmas.Bool.{eqb-true, eqb-false}
-use Rattle.std.proofs.lemmas.List.{append_assoc, length-map}
+use Rattle.std.proofs.lemmas.List.{append_assoc}
 use Rattle.std.proofs.lemmas.Option.{slice_get-map, slice_get_within}
 use Rattle.wiring.proofs.Lists.{slice_get-append_at, slice_get-set_same, slice_get-set_other}
-use Rattle.hw_model.specs.Types.{Name}
 use Rattle.hw_model.specs.Design.{Op, Module, Design}
-use Rattle.hw_model.specs.Weight.{weight}
 use Rattle.hw_edits.specs.Laws.{with_body}
 use Rattle.accepted_edits.specs.Keeps.{IsFit}
 use Rattle.ir_store.specs.declared.body.Body.{Body}

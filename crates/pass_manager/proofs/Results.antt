@@ -21,15 +21,23 @@ use Rattle.cse_pass.specs.Cse.{IsCseOf}
 use Rattle.cse_pass.proofs.Following.{changes_follow}
 use Rattle.cse_pass.proofs.Leading.{cse_leads}
 use Rattle.cse_pass.proofs.Once.{once as cse_once}
-use Rattle.inline_pass.specs.DeadModules.{IsWithoutDead}
+use Rattle.seq_lower.specs.Lowered.{IsLoweredOf, Lowers}
+use Rattle.seq_lower.proofs.Following.{lowering_keeps}
+use Rattle.seq_lower.proofs.Plain.{lowered_leads}
 use Rattle.inline_pass.proofs.DeadModulesGone.{dce_is_after, without_dead_once, without_dead_fit}
-use Rattle.pass_manager.specs.Results.{AreModulesBy, IsChosen, IsResult, on_offer}
+use Rattle.pass_manager.specs.Results.{IsChosen, IsResult, on_offer}
 use Rattle.pass_manager.proofs.ChangedBodies.{changed_keeps, modules_once}
 
 -- ---- bodies
 
 pub canonical_keeps : (d : Design) (k : ℕ) (m : Module) (os : List Op) → IsFit d → slice_get d k ≡ Some m → IsCanonicalOf m.body os → Keeps d (with_body d k m os)
 canonical_keeps d k m os fit at is = followed d k m os fit at (out_leads table m.body os is)
+
+pub lowered_keeps : (d : Design) (k : ℕ) (m : Module) (os : List Op) → IsFit d → slice_get d k ≡ Some m → IsLoweredOf m.body os → Keeps d (with_body d k m os)
+lowered_keeps d k m os fit at is = lowering_keeps d k m os fit at (subst (Lowers m.body) (sym is) (lowered_leads m.body))
+
+lowered_once : (os a b : List Op) → IsLoweredOf os a → IsLoweredOf os b → a ≡ b
+lowered_once os a b one other = one ∙ sym other
 
 pub merged_keeps : (d : Design) (k : ℕ) (m : Module) (os : List Op) → IsFit d → slice_get d k ≡ Some m → IsCseOf m.body os → Keeps d (with_body d k m os)
 merged_keeps d k m os fit at is = changes_follow d k m os fit at (cse_leads m.body os is)
@@ -39,7 +47,7 @@ merged_keeps d k m os fit at is = changes_follow d k m os fit at (cse_leads m.bo
 pub chosen_fit : (pass : Pass) (d e : Design) → IsFit d → IsChosen pass d e → IsFit e
 chosen_fit Canonicalize d e fit chosen = (changed_keeps IsCanonicalOf canonical_keeps d e fit chosen).steady.fit
 chosen_fit Cse d e fit chosen = (changed_keeps IsCseOf merged_keeps d e fit chosen).steady.fit
-chosen_fit SeqLowerRegs d e fit chosen = subst IsFit (sym chosen) fit
+chosen_fit SeqLowerRegs d e fit chosen = (changed_keeps IsLoweredOf lowered_keeps d e fit chosen).steady.fit
 chosen_fit HwLowerAggregates d e fit chosen = subst IsFit (sym chosen) fit
 chosen_fit HwFlattenModules d e fit chosen = subst IsFit (sym chosen) fit
 chosen_fit SymbolDce d e fit chosen = without_dead_fit d e fit chosen
@@ -54,13 +62,18 @@ cse_keeps d e accepted printable chosen =
     let keeps : Keeps d e = changed_keeps IsCseOf merged_keeps d e (accepted_fit d accepted printable) chosen in
     steady_is_after (Cse ∷ []) d e refl refl refl accepted keeps.steady keeps.lighter
 
+pub seq_lower_regs_keeps : PassLaw (SeqLowerRegs ∷ []) (IsChosen SeqLowerRegs)
+seq_lower_regs_keeps d e accepted printable chosen =
+    let keeps : Keeps d e = changed_keeps IsLoweredOf lowered_keeps d e (accepted_fit d accepted printable) chosen in
+    steady_is_after (SeqLowerRegs ∷ []) d e refl refl refl accepted keeps.steady keeps.lighter
+
 pub symbol_dce_keeps : PassLaw (SymbolDce ∷ []) (IsChosen SymbolDce)
 symbol_dce_keeps d e accepted printable chosen = dce_is_after d e accepted printable chosen
 
 chosen_after : (pass : Pass) (d e : Design) → IsAccepted d → Printable d → IsChosen pass d e → IsAfter (on_offer (pass ∷ [])) d e
 chosen_after Canonicalize d e accepted printable chosen = canonicalize_keeps d e accepted printable chosen
 chosen_after Cse d e accepted printable chosen = cse_keeps d e accepted printable chosen
-chosen_after SeqLowerRegs d e accepted printable chosen = identity_keeps [] refl refl refl d e accepted printable chosen
+chosen_after SeqLowerRegs d e accepted printable chosen = seq_lower_regs_keeps d e accepted printable chosen
 chosen_after HwLowerAggregates d e accepted printable chosen = identity_keeps [] refl refl refl d e accepted printable chosen
 chosen_after HwFlattenModules d e accepted printable chosen = identity_keeps [] refl refl refl d e accepted printable chosen
 chosen_after SymbolDce d e accepted printable chosen = symbol_dce_keeps d e accepted printable chosen
@@ -68,7 +81,7 @@ chosen_after SymbolDce d e accepted printable chosen = symbol_dce_keeps d e acce
 chosen_once : (pass : Pass) (d e f : Design) → IsChosen pass d e → IsChosen pass d f → e ≡ f
 chosen_once Canonicalize d e f one other = modules_once IsCanonicalOf (once table) d e f one other
 chosen_once Cse d e f one other = modules_once IsCseOf cse_once d e f one other
-chosen_once SeqLowerRegs d e f one other = one ∙ sym other
+chosen_once SeqLowerRegs d e f one other = modules_once IsLoweredOf lowered_once d e f one other
 chosen_once HwLowerAggregates d e f one other = one ∙ sym other
 chosen_once HwFlattenModules d e f one other = one ∙ sym other
 chosen_once SymbolDce d e f one other = without_dead_once d e f one other

@@ -5,8 +5,9 @@ use Rattle.hw_edits.specs.Laws.{with_body}
 use Rattle.canonicalise.specs.Canonical.{IsCanonicalOf}
 use Rattle.cse_pass.specs.Cse.{IsCseOf}
 use Rattle.inline_pass.specs.DeadModules.{IsWithoutDead}
+use Rattle.seq_lower.specs.Lowered.{IsLoweredOf}
 use Rattle.pass_pipeline.specs.declared.pass.Pass.{Pass}
-use Rattle.pass_pipeline.specs.declared.pass.Pass.TheVariants.{Canonicalize, Cse, SymbolDce}
+use Rattle.pass_pipeline.specs.declared.pass.Pass.TheVariants.{Canonicalize, Cse, SeqLowerRegs, HwLowerAggregates, HwFlattenModules, SymbolDce}
 
 -- ---- passes that change bodies
 
@@ -34,10 +35,9 @@ pub record HasMadeAt (Makes : List Op → List Op → Type 0) (k : ℕ) (d e : D
 
 -- whether a pass is on offer
 abbrev pub is_on_offer : Pass → Bool
-is_on_offer Canonicalize = true
-is_on_offer Cse = true
-is_on_offer SymbolDce = true
-is_on_offer _ = false
+is_on_offer HwLowerAggregates = false
+is_on_offer HwFlattenModules = false
+is_on_offer _ = true
 
 -- the passes of a list that are
 abbrev pub on_offer : List Pass → List Pass
@@ -48,8 +48,10 @@ on_offer (pass ∷ passes) = cond (is_on_offer pass) (pass ∷ on_offer passes) 
 abbrev pub IsChosen : Pass → Design → Design → Type 0
 IsChosen Canonicalize d e = AreModulesBy IsCanonicalOf d e
 IsChosen Cse d e = AreModulesBy IsCseOf d e
+IsChosen SeqLowerRegs d e = AreModulesBy IsLoweredOf d e
+IsChosen HwFlattenModules d e = e ≡ d
 IsChosen SymbolDce d e = IsWithoutDead d e
-IsChosen _ d e = e ≡ d
+IsChosen HwLowerAggregates d e = e ≡ d
 
 -- what a list of passes makes of a design, the first one first
 abbrev pub IsResult : List Pass → Design → Design → Type 0

@@ -3,6 +3,7 @@
 use canonicalise::canonicalize::canonicalize;
 use cse_pass::cse::cse;
 use ir_store::body::Body;
+use seq_lower::registers::lower_regs;
 use std::alloc::{AllocError, Global};
 
 /// A pass that works on bodies (MLIR documentation, "Pass infrastructure": operation passes).
@@ -47,5 +48,18 @@ impl BodyPass for CommonSubexpressions {
 
     fn run(alloc: Global, body: &mut Body) -> Result<(), AllocError> {
         cse(alloc, body)
+    }
+}
+
+/// `seq-lower-regs`: each enable and each synchronous reset of a register becomes a mux.
+pub struct LoweredRegisters;
+
+impl BodyPass for LoweredRegisters {
+    ghost use Rattle.seq_lower.specs.Lowered.{IsLoweredOf};
+
+    ghost makes = { IsLoweredOf };
+
+    fn run(alloc: Global, body: &mut Body) -> Result<(), AllocError> {
+        lower_regs(alloc, body)
     }
 }

@@ -6,7 +6,7 @@ ghost use Rattle.op_verifier.specs.Verdict.{IsAccepted};
 ghost use Rattle.mlir_printer.specs.Printable.{Printable};
 ghost use Rattle.pass_manager.specs.Results.{AreModulesBy, HasMadeAt, IsChosen, IsResult};
 
-use crate::body_pass::{BodyPass, CanonicalForm, CommonSubexpressions};
+use crate::body_pass::{BodyPass, CanonicalForm, CommonSubexpressions, LoweredRegisters};
 use crate::gate::Gate;
 use inline_pass::dead_modules::symbol_dce;
 use ir_store::design::Design;
@@ -46,8 +46,9 @@ fn run_pass<G: Gate>(
     match pass {
         Pass::Canonicalize => change_bodies::<CanonicalForm, G>(alloc, design, gate),
         Pass::Cse => change_bodies::<CommonSubexpressions, G>(alloc, design, gate),
+        Pass::SeqLowerRegs => change_bodies::<LoweredRegisters, G>(alloc, design, gate),
         Pass::SymbolDce => symbol_dce(alloc, design),
-        Pass::SeqLowerRegs | Pass::HwLowerAggregates | Pass::HwFlattenModules => Ok(()),
+        Pass::HwLowerAggregates | Pass::HwFlattenModules => Ok(()),
     }
 }
 

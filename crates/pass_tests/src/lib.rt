@@ -7,3 +7,5 @@ mod dead_modules;
 mod equal_ops;
 #[cfg(test)]
 mod kept_ops;
+#[cfg(test)]
+mod registers;

@@ -1,4 +1,4 @@
-use Rattle.std.proofs.Common.{length, map, arith}
+use Rattle.std.proofs.Common.{arith}
 use Rattle.std.proofs.lemmas.List.{length-map}
 use Rattle.ir_store.specs.Designs.{design_of, modules_of, numbered_module}
 use Rattle.pass_manager.proofs.ChangedBodies.{so_far_begins, so_far_goes_on, so_far_ends}

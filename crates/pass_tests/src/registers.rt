@@ -1,0 +1,158 @@
+//! Registers with an enable or a synchronous reset, which become plain ones that take muxes.
+use canonicalize_tests::rows::{Row, UNCHANGED, first_other};
+use std::test::Fail;
+
+const REGISTERS: [Row; 11] = [
+    // the mux of the enable, and then that of the reset
+    Row {
+        ports: "in %clk : !seq.clock, in %rst : i1, in %en : i1, in %d : i8, out q : i8",
+        text: "
+    %c9_i8 = hw.constant 9 : i8
+    %r = seq.compreg.ce %d, %clk, %en reset %rst, %c9_i8 : i8
+    hw.output %r : i8",
+        folded: "
+    %c9_i8 = hw.constant 9 : i8
+    %0 = comb.mux %en, %d, %r : i8
+    %1 = comb.mux %rst, %c9_i8, %0 : i8
+    %r = seq.compreg %1, %clk : i8
+    hw.output %r : i8",
+    },
+    // one of both
+    Row {
+        ports: "in %clk : !seq.clock, in %en : i1, in %d : i128, out q : i128",
+        text: "
+    %r = seq.compreg.ce %d, %clk, %en {k} : i128
+    hw.output %r : i128",
+        folded: "
+    %0 = comb.mux %en, %d, %r : i128
+    %r = seq.compreg %0, %clk {k} : i128
+    hw.output %r : i128",
+    },
+    Row {
+        ports: "in %clk : !seq.clock, in %rst : i1, in %d : i1, in %v : i1, out q : i1",
+        text: "
+    %r = seq.compreg %d, %clk reset %rst, %v : i1
+    hw.output %r : i1",
+        folded: "
+    %0 = comb.mux %rst, %v, %d : i1
+    %r = seq.compreg %0, %clk : i1
+    hw.output %r : i1",
+    },
+    Row {
+        ports: "in %clk : !seq.clock, in %rst : i1, in %d : i8, in %v : i8, out q : i8",
+        text: "
+    %r = seq.firreg %d clock %clk reset sync %rst, %v : i8
+    hw.output %r : i8",
+        folded: "
+    %0 = comb.mux %rst, %v, %d : i8
+    %r = seq.firreg %0 clock %clk : i8
+    hw.output %r : i8",
+    },
+    // registers that take one another's values
+    Row {
+        ports: "in %clk : !seq.clock, in %en : i1, out o : i8, out p : i8",
+        text: "
+    %r = seq.compreg.ce %s, %clk, %en : i8
+    %s = seq.compreg.ce %r, %clk, %en : i8
+    hw.output %r, %s : i8, i8",
+        folded: "
+    %0 = comb.mux %en, %s, %r : i8
+    %r = seq.compreg %0, %clk : i8
+    %1 = comb.mux %en, %r, %s : i8
+    %s = seq.compreg %1, %clk : i8
+    hw.output %r, %s : i8, i8",
+    },
+    // a register that is its own enable and value
+    Row {
+        ports: "in %clk : !seq.clock, in %d : i1, out o : i1, out p : i8",
+        text: "
+    %r = seq.compreg.ce %d, %clk, %r : i1
+    %s = seq.compreg.ce %s, %clk, %r reset %r, %s : i8
+    hw.output %r, %s : i1, i8",
+        folded: "
+    %0 = comb.mux %r, %d, %r : i1
+    %r = seq.compreg %0, %clk : i1
+    %1 = comb.mux %r, %s, %s : i8
+    %2 = comb.mux %r, %s, %1 : i8
+    %s = seq.compreg %2, %clk : i8
+    hw.output %r, %s : i1, i8",
+    },
+    // a register without a name, and one with a hint
+    Row {
+        ports: "in %clk : !seq.clock, in %en : i1, in %d : i8, out o : i8, out p : i8",
+        text: "
+    %0 = seq.compreg.ce %d, %clk, %en : i8
+    %1 = comb.add %0, %d : i8
+    hw.output %0, %1 : i8, i8",
+        folded: "
+    %0 = comb.mux %en, %d, %1 : i8
+    %1 = seq.compreg %0, %clk : i8
+    %2 = comb.add %1, %d : i8
+    hw.output %1, %2 : i8, i8",
+    },
+    // registers of arrays and structs
+    Row {
+        ports: "in %clk : !seq.clock, in %en : i1, in %a : !hw.array<2xi8>, in %s : !hw.struct<x: i8>, out o : !hw.array<2xi8>, out p : !hw.struct<x: i8>",
+        text: "
+    %r = seq.compreg.ce %a, %clk, %en : !hw.array<2xi8>
+    %t = seq.compreg %s, %clk reset %en, %s : !hw.struct<x: i8>
+    hw.output %r, %t : !hw.array<2xi8>, !hw.struct<x: i8>",
+        folded: "
+    %0 = comb.mux %en, %a, %r : !hw.array<2xi8>
+    %r = seq.compreg %0, %clk : !hw.array<2xi8>
+    %1 = comb.mux %en, %s, %s : !hw.struct<x: i8>
+    %t = seq.compreg %1, %clk : !hw.struct<x: i8>
+    hw.output %r, %t : !hw.array<2xi8>, !hw.struct<x: i8>",
+    },
+    // a register of a private module, at its place
+    Row {
+        ports: "in %clk : !seq.clock, in %en : i1, in %d : i8, out q : i8",
+        text: "
+    %u.q = hw.instance \"u\" @P(clk: %clk: !seq.clock, en: %en: i1, d: %d: i8) -> (q: i8)
+    hw.output %u.q : i8
+  }
+  hw.module private @P(in %clk : !seq.clock, in %en : i1, in %d : i8, out q : i8) {
+    %r = seq.compreg.ce %d, %clk, %en : i8
+    hw.output %r : i8",
+        folded: "
+    %u.q = hw.instance \"u\" @P(clk: %clk: !seq.clock, en: %en: i1, d: %d: i8) -> (q: i8)
+    hw.output %u.q : i8
+  }
+  hw.module private @P(in %clk : !seq.clock, in %en : i1, in %d : i8, out q : i8) {
+    %0 = comb.mux %en, %d, %r : i8
+    %r = seq.compreg %0, %clk : i8
+    hw.output %r : i8",
+    },
+    // registers without enable and reset
+    Row {
+        ports: "in %clk : !seq.clock, in %d : i8, out o : i8, out p : i8",
+        text: "
+    %r = seq.compreg %d, %clk : i8
+    %s = seq.firreg %r clock %clk : i8
+    hw.output %r, %s : i8, i8",
+        folded: UNCHANGED,
+    },
+    // an asynchronous reset
+    Row {
+        ports: "in %clk : !seq.clock, in %rst : i1, in %d : i8, out q : i8",
+        text: "
+    %c9_i8 = hw.constant 9 : i8
+    %r = seq.firreg %d clock %clk reset async %rst, %c9_i8 : i8
+    hw.output %r : i8",
+        folded: UNCHANGED,
+    },
+];
+
+#[test]
+fn registers_are_lowered(rt: HostRuntime) -> Result<(), Fail> {
+    assert_eq!(rt; first_other(&rt, "--seq-lower-regs", &REGISTERS)?, None);
+    Ok(())
+}
+
+#[test]
+fn registers_are_lowered_once(rt: HostRuntime) -> Result<(), Fail> {
+    let pipeline =
+        "--pass-pipeline=builtin.module(hw.module(seq-lower-regs),symbol-dce,seq-lower-regs)";
+    assert_eq!(rt; first_other(&rt, pipeline, &REGISTERS)?, None);
+    Ok(())
+}
