@@ -66,7 +66,7 @@ dce_is_after d e accepted printable without =
 -- ---- what is left
 
 -- a chain's last step
-last_step : {A : Type 0} (needs : A → List A) (k : ℕ) (a b : A) → Chain needs (suc k) a b → (c : A) × Chain needs k a c × In b (needs c)
+pub last_step : {A : Type 0} (needs : A → List A) (k : ℕ) (a b : A) → Chain needs (suc k) a b → (c : A) × Chain needs k a c × In b (needs c)
 last_step needs zero a b (c, need, same) = (a, refl, subst (λ x. In x (needs a)) same need)
 last_step needs (suc k) a b (c, need, chain) = let end = last_step needs k c b chain in (end.0, (c, need, end.1), end.2)
 

@@ -1,2 +1,9 @@
 pub mod DeadModules
+pub mod FlatBodies
+pub mod Flattening
+pub mod Inlinable
 pub mod Marks
+pub mod MovedOps
+pub mod Places
+pub mod Renaming
+pub mod WiresOut

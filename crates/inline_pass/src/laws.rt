@@ -7,9 +7,10 @@ ghost use Rattle.hw_model.specs.Design.{Module, Design};
 ghost use Rattle.hw_model.specs.Hierarchy.{calls};
 ghost use Rattle.op_verifier.specs.Verdict.{IsAccepted};
 ghost use Rattle.accepted_edits.specs.Keeps.{IsFit};
-ghost use Rattle.pass_pipeline.specs.declared.pass.Pass.TheVariants.{SymbolDce};
+ghost use Rattle.pass_pipeline.specs.declared.pass.Pass.TheVariants.{HwFlattenModules, SymbolDce};
 ghost use Rattle.pass_laws.specs.PassLaw.{PassLaw};
 ghost use Rattle.inline_pass.specs.DeadModules.{IsWithoutDead};
+ghost use Rattle.inline_pass.specs.Flattening.{IsFlattened};
 
 /// Does nothing. Its clause says that `symbol-dce` meets the law of passes.
 pub fn symbol_dce_keeps()
@@ -22,4 +23,9 @@ pub fn dead_modules_go_once()
     ensures once { (d e f : Design) → IsWithoutDead d e → IsWithoutDead d f → e ≡ f }
     ensures none_left { (d e : Design) → IsAccepted d → IsWithoutDead d e → (m : Module) → In m e → m.is_private ≡ true → (caller : Name) × In m.symbol (calls e caller) }
     ensures fit { (d e : Design) → IsFit d → IsWithoutDead d e → IsFit e }
+{}
+
+/// Does nothing. Its clause says that `hw-flatten-modules` meets the law of passes.
+pub fn flattening_keeps()
+    ensures { PassLaw (HwFlattenModules ∷ []) IsFlattened }
 {}

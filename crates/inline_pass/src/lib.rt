@@ -1,7 +1,14 @@
-//! The pass `symbol-dce`: modules that no public one reaches by instances are taken out of a design.
+//! Passes on the modules of a design: `hw-flatten-modules`, by which each instance of a private module becomes the body
+//! of that module, and `symbol-dce`, by which private modules that no public one reaches by instances are taken out.
 #![tactic(auto)]
 
+mod body_changes;
 pub mod dead_modules;
+pub mod flattening;
+pub mod inlining;
 mod laws;
+mod module_order;
+mod moved_ops;
+mod renamed_ops;
 
-pub use laws::{dead_modules_go_once, symbol_dce_keeps};
+pub use laws::{dead_modules_go_once, flattening_keeps, symbol_dce_keeps};

@@ -1,0 +1,168 @@
+-- A body whose operations are inlined one after another.
+use Rattle.std.proofs.Common.{◌≡◌, ℕ, suc, ◌+◌, Bool, true, false, cond, List, [], ◌∷◌, ◌++◌, length, map, take, drop, Option, Some, None, slice_get, refl, sym, ap, ap₂, subst, ◌∙◌, arith}
+use Rattle.std.proofs.lemmas.List.{append_assoc, length-map, length-append}
+use Rattle.wiring.specs.Options.{bind}
+use Rattle.wiring.specs.Wiring.{In}
+use Rattle.wiring.proofs.Members.{In-slice_get}
+use Rattle.hw_model.specs.Types.{Name}
+use Rattle.hw_model.specs.Kinds.{Instance}
+use Rattle.hw_model.specs.Design.{Op, Module, Design, find_module, instance_in, callee}
+use Rattle.hw_model.specs.Hierarchy.{callee_symbols}
+use Rattle.hw_model.specs.Sound.{body_of}
+use Rattle.hw_model.proofs.Gone.{called_In}
+use Rattle.hw_edits.specs.Laws.{with_body}
+use Rattle.hw_edits.proofs.Follows.{set_each}
+use Rattle.linked_lists.specs.Ids.{times}
+use Rattle.linked_lists.proofs.IdLemmas.{contained_times, times_contained, times-append}
+use Rattle.ir_store.specs.declared.body.Body.{Body}
+use Rattle.ir_store.specs.declared.operation.OpId.{OpId}
+use Rattle.ir_store.specs.Bodies.{ids_of, ops_of, op_id}
+use Rattle.ir_store.specs.BodyOps.{BodyOp, ids_in, op_at}
+use Rattle.ir_store.specs.Live.{AreDistinct}
+use Rattle.ir_store.specs.Numbered.{position_of, op_by}
+use Rattle.ir_store.proofs.BodyLemmas.{ids_once, index_ids}
+use Rattle.accepted_edits.specs.Keeps.{IsFit}
+use Rattle.pass_laws.proofs.Steps.{module_there}
+use Rattle.inline_laws.specs.Inline.{moved_count}
+use Rattle.inline_laws.proofs.WithoutWires.{set_twice}
+use Rattle.body_edits.specs.Views.{HasOp, body_ops, position_in}
+use Rattle.body_edits.proofs.Positions.{op_at_position}
+use Rattle.inline_pass.specs.Flattening.{inlined_at, inline_at, inline_from, inline_all, private_callee}
+use Rattle.inline_pass.specs.Inlinable.{IsInlinable, IsStep, IsStepAt, private_module}
+use Rattle.inline_pass.proofs.IdLists.{once_before, times_self, position_back, position_self, parted, middle_found}
+use Rattle.inline_pass.proofs.InliningValues.{numbers}
+use Rattle.inline_pass.proofs.InliningOps.{take_front, drop_front}
+use Rattle.inline_pass.proofs.InlinedFit.{is_inlined, fit_inlined}
+
+-- ---- the module of an instance
+
+pub private_by_kind : (d : Design) (o : Op) → private_callee d o ≡ private_module d o.kind
+private_by_kind d o = go (instance_in o.kind)
+  where
+    go : (z : Option Instance) → bind (bind z (λ (i : Instance). find_module d i.symbol)) (λ (c : Module). cond c.is_private (Some c) None)
+        ≡ bind z (λ (i : Instance). bind (find_module d i.symbol) (λ (c : Module). cond c.is_private (Some c) None))
+    go None = refl
+    go (Some i) = refl
+
+private_is : (x : Option Module) (c : Module) → bind x (λ (y : Module). cond y.is_private (Some y) None) ≡ Some c → x ≡ Some c
+private_is None c is = cc
+private_is (Some y) c is = go y.is_private is
+  where
+    go : (b : Bool) → cond b (Some y) None ≡ Some c → Some y ≡ Some c
+    go true e = e
+    go false e = cc
+
+-- a module that an operation of a body instances does not depend on that body
+callee_there : (d : Design) → IsFit d → (k : ℕ) (m : Module) (at : slice_get d k ≡ Some m) (o : Op) (c : Module) → In o m.body → private_module (with_body d k m []) o.kind ≡ Some c → callee d o ≡ Some c
+callee_there d fit k m at o c among is = go (instance_in o.kind) refl is
+  where
+    found : (s : Name) → In s (callee_symbols m.body) → find_module (with_body d k m []) s ≡ find_module d s
+    found s here =
+        set_each (λ old new. (old ≡ Some m → ⊥) → new ≡ old) (λ old apart. refl) d k m (record m { body = [] }) at refl (λ apart. absurd (apart refl)) s
+        (λ itself. fit.valid.finite s (0, (s, subst (λ z. In s (callee_symbols (body_of z))) (sym itself) here, refl)))
+
+    go : (z : Option Instance) → instance_in o.kind ≡ z → bind z (λ (i : Instance). bind (find_module (with_body d k m []) i.symbol) (λ (y : Module). cond y.is_private (Some y) None)) ≡ Some c
+        → bind z (λ (i : Instance). find_module d i.symbol) ≡ Some c
+    go None own e = cc
+    go (Some i) own e = sym (found i.symbol (called_In m.body o i among own)) ∙ private_is (find_module (with_body d k m []) i.symbol) c e
+
+-- ---- one step
+
+-- the body can be worked on still
+pub still_inlinable : (b b' : Body) (d : Design) (i : ℕ) (o : Op) (c : Module) → IsInlinable b d → slice_get (body_ops b) i ≡ Some o → private_module d o.kind ≡ Some c
+    → body_ops b' ≡ inlined_at i o c (body_ops b) → IsInlinable b' d
+still_inlinable b b' d i o c can there is ops =
+    let of = can.of in
+    let at : slice_get of.owner.body i ≡ Some o = ap (λ os. slice_get os i) of.is_body ∙ there in
+    let leads = callee_there of.design of.fit of.number of.owner of.there o c (In-slice_get o of.owner.body i at) (ap (λ e. private_module e o.kind) (sym can.taken) ∙ is) in
+    let fit = fit_inlined of.design of.number of.owner i o c of.fit of.there (is_inlined of.design of.number of.owner i o c of.fit of.there at leads) in
+    let now : inlined_at i o c of.owner.body ≡ body_ops b' = ap (inlined_at i o c) of.is_body ∙ sym ops in
+    record {
+      of = record {
+        design = with_body of.design of.number of.owner (body_ops b');
+        fit = subst (λ os. IsFit (with_body of.design of.number of.owner os)) now fit;
+        number = of.number;
+        owner = record of.owner { body = body_ops b' };
+        there = module_there of.design of.number of.owner (body_ops b') of.there;
+        is_body = refl;
+      };
+      taken = can.taken ∙ sym (set_twice of.design of.number (record of.owner { body = body_ops b' }) (record of.owner { body = [] }));
+    }
+
+-- ---- one step after another
+
+pub record IsWalking (inner : Op → Option Module) (old now : Body) (rest : List OpId) : Type 0 where
+  pub done : List ℕ
+  pub ids : ids_of now ≡ done ++ numbers rest
+  pub left : inline_from inner (length rest) (length done) (body_ops now) ≡ inline_all inner (body_ops old)
+
+pub walk_begins : (inner : Op → Option Module) (b : Body) (all : List OpId) → all ≡ map op_id (ids_of b) → IsWalking inner b b all
+unfolding body_ops
+walk_begins inner b all is = record {
+  done = [];
+  ids = sym (ap numbers is ∙ index_ids (ids_of b));
+  left = ap (λ n. inline_from inner n 0 (body_ops b))
+      (ap length is ∙ length-map (ids_of b) op_id ∙ length-map (ops_of b) (λ (o : BodyOp). o.id) ∙ sym (length-map (ops_of b) (op_by (position_of (ids_of b)))));
+}
+
+pub next_there : (inner : Op → Option Module) (old now : Body) (id : OpId) (rest : List OpId) → IsWalking inner old now (id ∷ rest) → HasOp now id
+next_there inner old now id rest w =
+    let all = ap (times id.index) w.ids ∙ times-append id.index w.done (id.index ∷ numbers rest) in
+    let own = times_self id.index (numbers rest) in
+    times_contained (ids_of now) id.index (omega (arith, all, own))
+
+at_none : (inner : Op → Option Module) (rest : ℕ → List Op → List Op) (i : ℕ) (os : List Op) (o : Op) → slice_get os i ≡ Some o → inner o ≡ None → inline_at inner rest i os ≡ rest (suc i) os
+at_none inner rest i os o there none = rw (there, none) refl
+
+at_some : (inner : Op → Option Module) (rest : ℕ → List Op → List Op) (i : ℕ) (os : List Op) (o : Op) (c : Module) → slice_get os i ≡ Some o → inner o ≡ Some c
+    → inline_at inner rest i os ≡ rest (i + moved_count c) (inlined_at i o c os)
+at_some inner rest i os o c there some = rw (there, some) refl
+
+pub walk_goes : (inner : Op → Option Module) (old now next : Body) (id : OpId) (rest : List OpId) → IsWalking inner old now (id ∷ rest) → IsStepAt inner now next (position_in now id)
+    → IsWalking inner old next rest
+unfolding body_ops position_in
+walk_goes inner old now next id rest w step =
+    let once : AreDistinct (w.done ++ (id.index ∷ numbers rest)) = subst AreDistinct w.ids (ids_once now) in
+    let none = once_before w.done id.index (numbers rest) once in
+    let back = ap (λ ids. position_of ids id.index) w.ids ∙ position_back w.done (id.index ∷ numbers rest) id.index none in
+    let zero_is = position_self id.index (numbers rest) in
+    let place : position_of (ids_of now) id.index ≡ length w.done = omega (arith, back, zero_is) in
+    let p = parted id.index (ops_of now) (contained_times (ids_of now) id.index (next_there inner old now id rest w)) in
+    let found = ap₂ op_at p.all (sym p.is) ∙ middle_found p.front p.op p.back (ap (λ v. times v (ids_in p.front)) p.is ∙ p.none) in
+    let there = op_at_position (op_by (position_of (ids_of now))) id.index (ops_of now) p.op found in
+    go (op_by (position_of (ids_of now)) p.op) (ap (slice_get (body_ops now)) (sym place) ∙ there) (inner (op_by (position_of (ids_of now)) p.op)) refl
+    (subst (λ n. IsStep now next n (op_by (position_of (ids_of now)) p.op) (inner (op_by (position_of (ids_of now)) p.op))) place (step (op_by (position_of (ids_of now)) p.op) there))
+  where
+    go : (o : Op) → slice_get (body_ops now) (length w.done) ≡ Some o → (x : Option Module) → inner o ≡ x → IsStep now next (length w.done) o x → IsWalking inner old next rest
+    go o there None is (same, same_ids) = record {
+      done = w.done ++ (id.index ∷ []);
+      ids = same_ids ∙ w.ids ∙ sym (append_assoc w.done (id.index ∷ []) (numbers rest));
+      left =
+          let long : length (w.done ++ (id.index ∷ [])) ≡ suc (length w.done) = (let h = length-append w.done (id.index ∷ []) in omega (arith, h)) in
+          ap₂ (λ n os. inline_from inner (length rest) n os) long same
+          ∙ sym (at_none inner (λ j xs. inline_from inner (length rest) j xs) (length w.done) (body_ops now) o there is) ∙ w.left;
+    }
+    go o there (Some c) is made = record {
+      done = w.done ++ made.fresh;
+      ids = made.ids ∙ ap (λ ids. take (length w.done) ids ++ (made.fresh ++ drop (suc (length w.done)) ids)) w.ids
+          ∙ ap₂ (λ ps qs. ps ++ (made.fresh ++ qs)) (take_front w.done (id.index ∷ numbers rest)) (drop_front w.done id.index (numbers rest))
+          ∙ sym (append_assoc w.done made.fresh (numbers rest));
+      left =
+          let long : length (w.done ++ made.fresh) ≡ length w.done + moved_count c = length-append w.done made.fresh ∙ ap (λ n. length w.done + n) made.many in
+          ap₂ (λ n os. inline_from inner (length rest) n os) long made.ops
+          ∙ sym (at_some inner (λ j xs. inline_from inner (length rest) j xs) (length w.done) (body_ops now) o c there is) ∙ w.left;
+    }
+
+-- ---- the operation that is worked on
+
+pub seen_there : (b : Body) (op : OpId) (x : BodyOp) → op_at (ops_of b) op.index ≡ Some x → slice_get (body_ops b) (position_in b op) ≡ Some (op_by (position_of (ids_of b)) x)
+unfolding body_ops position_in
+seen_there b op x found = op_at_position (op_by (position_of (ids_of b))) op.index (ops_of b) x found
+
+-- what its module is by its kind
+pub module_is : (b : Body) (op : OpId) (x : BodyOp) (d : Design) (y : Option Module) → op_at (ops_of b) op.index ≡ Some x → y ≡ private_module d x.parts.kind → (o : Op)
+    → slice_get (body_ops b) (position_in b op) ≡ Some o → private_callee d o ≡ y
+module_is b op x d y found is o there =
+    let both : Some (op_by (position_of (ids_of b)) x) ≡ Some o = sym (seen_there b op x found) ∙ there in
+    let same : op_by (position_of (ids_of b)) x ≡ o = cc in
+    private_by_kind d o ∙ ap (λ (z : Op). private_module d z.kind) (sym same) ∙ sym is
