@@ -27,10 +27,11 @@ use std::alloc::Global;
 use std::thread::Threads;
 
 /// The passes that words may name.
-const PASSES_ON_OFFER: [Pass; 4] = [
+const PASSES_ON_OFFER: [Pass; 5] = [
     Pass::Canonicalize,
     Pass::Cse,
     Pass::SeqLowerRegs,
+    Pass::HwFlattenModules,
     Pass::SymbolDce,
 ];
 

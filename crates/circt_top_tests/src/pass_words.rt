@@ -33,7 +33,67 @@ const TWICE_VERILOG: &str = "module Twice(
 endmodule
 ";
 
-const GROUPS: [Group; 11] = [
+// Two instances of a register.
+const TWO_REGISTERS: &str =
+    "hw.module private @Reg(in %clk : !seq.clock, in %rst : i1, in %en : i1, in %d : i8, out q : i8) {
+  %z = hw.constant 9 : i8
+  %r = seq.compreg.ce %d, %clk, %en reset %rst, %z : i8
+  hw.output %r : i8
+}
+hw.module @Two(in %clk : !seq.clock, in %rst : i1, in %en : i1, in %d : i8, out a : i8, out b : i8) {
+  %u1.q = hw.instance \"u1\" @Reg(clk: %clk: !seq.clock, rst: %rst: i1, en: %en: i1, d: %d: i8) -> (q: i8)
+  %u2.q = hw.instance \"u2\" @Reg(clk: %clk: !seq.clock, rst: %rst: i1, en: %en: i1, d: %u1.q: i8) -> (q: i8)
+  hw.output %u1.q, %u2.q : i8, i8
+}
+";
+
+// That with the register in the place of its instances.
+const TWO_FLAT: &str = "module {
+  hw.module @Two(in %clk : !seq.clock, in %rst : i1, in %en : i1, in %d : i8, out a : i8, out b : i8) {
+    %c9_i8 = hw.constant 9 : i8
+    %u1_r = seq.compreg.ce %d, %clk, %en reset %rst, %c9_i8 : i8
+    %c9_i8_0 = hw.constant 9 : i8
+    %u2_r = seq.compreg.ce %u1_r, %clk, %en reset %rst, %c9_i8_0 : i8
+    hw.output %u1_r, %u2_r : i8, i8
+  }
+}
+";
+
+const TWO_VERILOG: &str = "module Two(
+  input wire clk,
+  input wire rst,
+  input wire en,
+  input wire [7:0] d,
+  output wire [7:0] a,
+  output wire [7:0] b
+);
+  reg [7:0] u1_r;
+  reg [7:0] u2_r;
+  always @(posedge clk)
+    if (rst)
+      u1_r <= 8'h9;
+    else if (en)
+      u1_r <= d;
+  always @(posedge clk)
+    if (rst)
+      u2_r <= 8'h9;
+    else if (en)
+      u2_r <= u1_r;
+  assign a = u1_r;
+  assign b = u2_r;
+endmodule
+";
+
+// A private register that nothing instances.
+const ALONE: &str =
+    "hw.module private @Reg(in %clk : !seq.clock, in %rst : i1, in %en : i1, in %d : i8, out q : i8) {
+  %z = hw.constant 9 : i8
+  %r = seq.compreg.ce %d, %clk, %en reset %rst, %z : i8
+  hw.output %r : i8
+}
+";
+
+const GROUPS: [Group; 13] = [
     // passes are named by flags or by a pipeline, and change nothing where none is named
     Group {
         words: &[
@@ -184,11 +244,40 @@ const GROUPS: [Group; 11] = [
             "opt -symbol-dce a.mlir --canonicalize --cse",
             "opt --pass-pipeline=builtin.module(symbol-dce)",
             "opt --pass-pipeline=builtin.module(hw.module(cse),symbol-dce,symbol-dce)",
+            "opt --hw-flatten-modules",
         ],
-        input: "hw.module private @Alone() {}\n",
+        input: ALONE,
         failing: Failing::No,
         code: 0,
         out: "module {\n}\n",
+        err: "",
+        file: "x.v",
+        text: "old",
+    },
+    // private modules become parts of those that instance them
+    Group {
+        words: &[
+            "opt --hw-flatten-modules",
+            "opt a.mlir -hw-flatten-modules --symbol-dce",
+            "opt --pass-pipeline=builtin.module(hw-flatten-modules,hw.module(canonicalize))",
+        ],
+        input: TWO_REGISTERS,
+        failing: Failing::No,
+        code: 0,
+        out: TWO_FLAT,
+        err: "",
+        file: "x.v",
+        text: "old",
+    },
+    Group {
+        words: &[
+            "translate --export-verilog --hw-flatten-modules",
+            "translate --hw-flatten-modules --cse a.mlir --export-verilog",
+        ],
+        input: TWO_REGISTERS,
+        failing: Failing::No,
+        code: 0,
+        out: TWO_VERILOG,
         err: "",
         file: "x.v",
         text: "old",

@@ -82,7 +82,7 @@ const ROWS: [Row; 21] = [
         err: UNKNOWN_AT_15,
     },
     Row {
-        words: &["opt", "--pass-pipeline=builtin.module(hw-flatten-modules"],
+        words: &["opt", "--pass-pipeline=builtin.module(hw-lower-aggregates"],
         code: 2,
         out: "",
         err: UNKNOWN_AT_15,

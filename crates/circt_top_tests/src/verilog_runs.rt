@@ -8,7 +8,15 @@ use verilog_interpreter::fault::Fault;
 use verilog_interpreter::machine::{Machine, Stepped};
 use verilog_interpreter::text::modules;
 
-const COMMAND: &str = "translate --export-verilog";
+// The export without passes, with each by itself, and with all of them.
+const COMMANDS: [&str; 6] = [
+    "translate --export-verilog",
+    "translate --export-verilog --canonicalize",
+    "translate --export-verilog --cse",
+    "translate --export-verilog --seq-lower-regs",
+    "translate --export-verilog --hw-flatten-modules",
+    "translate --export-verilog --seq-lower-regs --hw-flatten-modules --cse --canonicalize --symbol-dce --cse",
+];
 
 // A word of one bit, of four or of eight.
 #[derive(Clone, Copy)]
@@ -291,13 +299,14 @@ fn steps_are(alloc: Global, text: &[u8], run: &Run) -> Result<bool, AllocError> 
     Ok(are(content.as_slice(), run.last))
 }
 
-// The first design whose text runs otherwise.
+// The first design whose text by a command runs otherwise.
 fn first_other(
     rt: &(impl Threads + Sync + AllocGlobal),
+    command: &str,
     runs: &[Run],
 ) -> Result<Option<&'static str>, AllocError> {
     for run in runs {
-        let printed = run_words(rt, COMMAND, run.source, Failing::No)?;
+        let printed = run_words(rt, command, run.source, Failing::No)?;
         if printed.code != 0 || !steps_are(rt.alloc(), printed.out.contents(), run)? {
             return Ok(Some(run.source));
         }
@@ -307,6 +316,8 @@ fn first_other(
 
 #[test]
 fn exported_texts_run(rt: HostRuntime) -> Result<(), Fail> {
-    assert_eq!(rt; first_other(&rt, &RUNS)?, None);
+    for command in COMMANDS {
+        assert_eq!(rt; first_other(&rt, command, &RUNS)?, None, "by {command}");
+    }
     Ok(())
 }

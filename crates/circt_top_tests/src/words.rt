@@ -24,7 +24,7 @@ const BAD: [&str; 37] = [
     "opt --export-verilog",
     "opt --passes=cse",
     "opt -passes cse",
-    "opt --hw-flatten-modules",
+    "opt --hw-lower-aggregates",
     "opt --cse=1",
     "opt --canonicalise",
     "opt --canonicalize=x",

@@ -21,6 +21,7 @@ use Rattle.cse_pass.specs.Cse.{IsCseOf}
 use Rattle.cse_pass.proofs.Following.{changes_follow}
 use Rattle.cse_pass.proofs.Leading.{cse_leads}
 use Rattle.cse_pass.proofs.Once.{once as cse_once}
+use Rattle.inline_pass.proofs.FlatteningLaw.{flattening_is_after, flattened_once, flattened_fit}
 use Rattle.seq_lower.specs.Lowered.{IsLoweredOf, Lowers}
 use Rattle.seq_lower.proofs.Following.{lowering_keeps}
 use Rattle.seq_lower.proofs.Plain.{lowered_leads}
@@ -49,7 +50,7 @@ chosen_fit Canonicalize d e fit chosen = (changed_keeps IsCanonicalOf canonical_
 chosen_fit Cse d e fit chosen = (changed_keeps IsCseOf merged_keeps d e fit chosen).steady.fit
 chosen_fit SeqLowerRegs d e fit chosen = (changed_keeps IsLoweredOf lowered_keeps d e fit chosen).steady.fit
 chosen_fit HwLowerAggregates d e fit chosen = subst IsFit (sym chosen) fit
-chosen_fit HwFlattenModules d e fit chosen = subst IsFit (sym chosen) fit
+chosen_fit HwFlattenModules d e fit chosen = flattened_fit d e fit chosen
 chosen_fit SymbolDce d e fit chosen = without_dead_fit d e fit chosen
 
 pub canonicalize_keeps : PassLaw (Canonicalize ∷ []) (IsChosen Canonicalize)
@@ -67,6 +68,9 @@ seq_lower_regs_keeps d e accepted printable chosen =
     let keeps : Keeps d e = changed_keeps IsLoweredOf lowered_keeps d e (accepted_fit d accepted printable) chosen in
     steady_is_after (SeqLowerRegs ∷ []) d e refl refl refl accepted keeps.steady keeps.lighter
 
+pub flatten_keeps : PassLaw (HwFlattenModules ∷ []) (IsChosen HwFlattenModules)
+flatten_keeps d e accepted printable chosen = flattening_is_after d e accepted printable chosen
+
 pub symbol_dce_keeps : PassLaw (SymbolDce ∷ []) (IsChosen SymbolDce)
 symbol_dce_keeps d e accepted printable chosen = dce_is_after d e accepted printable chosen
 
@@ -75,7 +79,7 @@ chosen_after Canonicalize d e accepted printable chosen = canonicalize_keeps d e
 chosen_after Cse d e accepted printable chosen = cse_keeps d e accepted printable chosen
 chosen_after SeqLowerRegs d e accepted printable chosen = seq_lower_regs_keeps d e accepted printable chosen
 chosen_after HwLowerAggregates d e accepted printable chosen = identity_keeps [] refl refl refl d e accepted printable chosen
-chosen_after HwFlattenModules d e accepted printable chosen = identity_keeps [] refl refl refl d e accepted printable chosen
+chosen_after HwFlattenModules d e accepted printable chosen = flatten_keeps d e accepted printable chosen
 chosen_after SymbolDce d e accepted printable chosen = symbol_dce_keeps d e accepted printable chosen
 
 chosen_once : (pass : Pass) (d e f : Design) → IsChosen pass d e → IsChosen pass d f → e ≡ f
@@ -83,7 +87,7 @@ chosen_once Canonicalize d e f one other = modules_once IsCanonicalOf (once tabl
 chosen_once Cse d e f one other = modules_once IsCseOf cse_once d e f one other
 chosen_once SeqLowerRegs d e f one other = modules_once IsLoweredOf lowered_once d e f one other
 chosen_once HwLowerAggregates d e f one other = one ∙ sym other
-chosen_once HwFlattenModules d e f one other = one ∙ sym other
+chosen_once HwFlattenModules d e f one other = flattened_once d e f one other
 chosen_once SymbolDce d e f one other = without_dead_once d e f one other
 
 -- ---- lists of passes

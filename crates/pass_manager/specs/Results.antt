@@ -5,6 +5,7 @@ use Rattle.hw_edits.specs.Laws.{with_body}
 use Rattle.canonicalise.specs.Canonical.{IsCanonicalOf}
 use Rattle.cse_pass.specs.Cse.{IsCseOf}
 use Rattle.inline_pass.specs.DeadModules.{IsWithoutDead}
+use Rattle.inline_pass.specs.Flattening.{IsFlattened}
 use Rattle.seq_lower.specs.Lowered.{IsLoweredOf}
 use Rattle.pass_pipeline.specs.declared.pass.Pass.{Pass}
 use Rattle.pass_pipeline.specs.declared.pass.Pass.TheVariants.{Canonicalize, Cse, SeqLowerRegs, HwLowerAggregates, HwFlattenModules, SymbolDce}
@@ -36,7 +37,6 @@ pub record HasMadeAt (Makes : List Op → List Op → Type 0) (k : ℕ) (d e : D
 -- whether a pass is on offer
 abbrev pub is_on_offer : Pass → Bool
 is_on_offer HwLowerAggregates = false
-is_on_offer HwFlattenModules = false
 is_on_offer _ = true
 
 -- the passes of a list that are
@@ -49,7 +49,7 @@ abbrev pub IsChosen : Pass → Design → Design → Type 0
 IsChosen Canonicalize d e = AreModulesBy IsCanonicalOf d e
 IsChosen Cse d e = AreModulesBy IsCseOf d e
 IsChosen SeqLowerRegs d e = AreModulesBy IsLoweredOf d e
-IsChosen HwFlattenModules d e = e ≡ d
+IsChosen HwFlattenModules d e = IsFlattened d e
 IsChosen SymbolDce d e = IsWithoutDead d e
 IsChosen HwLowerAggregates d e = e ≡ d
 

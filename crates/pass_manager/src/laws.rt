@@ -5,7 +5,7 @@ ghost use Rattle.hw_model.specs.Design.{Design};
 ghost use Rattle.op_verifier.specs.Verdict.{IsAccepted};
 ghost use Rattle.mlir_printer.specs.Printable.{Printable};
 ghost use Rattle.pass_pipeline.specs.declared.pass.Pass.{Pass};
-ghost use Rattle.pass_pipeline.specs.declared.pass.Pass.TheVariants.{Canonicalize, Cse, SeqLowerRegs, SymbolDce};
+ghost use Rattle.pass_pipeline.specs.declared.pass.Pass.TheVariants.{Canonicalize, Cse, SeqLowerRegs, HwFlattenModules, SymbolDce};
 ghost use Rattle.pass_laws.specs.PassLaw.{IsAfter, PassLaw};
 ghost use Rattle.pass_manager.specs.Results.{IsChosen, IsResult, on_offer};
 
@@ -14,6 +14,7 @@ pub fn passes_keep()
     ensures canonicalize { PassLaw (Canonicalize ∷ []) (IsChosen Canonicalize) }
     ensures cse { PassLaw (Cse ∷ []) (IsChosen Cse) }
     ensures seq_lower_regs { PassLaw (SeqLowerRegs ∷ []) (IsChosen SeqLowerRegs) }
+    ensures flatten { PassLaw (HwFlattenModules ∷ []) (IsChosen HwFlattenModules) }
     ensures symbol_dce { PassLaw (SymbolDce ∷ []) (IsChosen SymbolDce) }
 {}
 

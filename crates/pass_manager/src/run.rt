@@ -9,6 +9,7 @@ ghost use Rattle.pass_manager.specs.Results.{AreModulesBy, HasMadeAt, IsChosen, 
 use crate::body_pass::{BodyPass, CanonicalForm, CommonSubexpressions, LoweredRegisters};
 use crate::gate::Gate;
 use inline_pass::dead_modules::symbol_dce;
+use inline_pass::flattening::flatten_modules;
 use ir_store::design::Design;
 use pass_pipeline::pass::Pass;
 use pass_pipeline::pipeline::Pipeline;
@@ -47,8 +48,9 @@ fn run_pass<G: Gate>(
         Pass::Canonicalize => change_bodies::<CanonicalForm, G>(alloc, design, gate),
         Pass::Cse => change_bodies::<CommonSubexpressions, G>(alloc, design, gate),
         Pass::SeqLowerRegs => change_bodies::<LoweredRegisters, G>(alloc, design, gate),
+        Pass::HwFlattenModules => flatten_modules(alloc, design),
         Pass::SymbolDce => symbol_dce(alloc, design),
-        Pass::HwLowerAggregates | Pass::HwFlattenModules => Ok(()),
+        Pass::HwLowerAggregates => Ok(()),
     }
 }
 

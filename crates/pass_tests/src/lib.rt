@@ -6,6 +6,8 @@ mod dead_modules;
 #[cfg(test)]
 mod equal_ops;
 #[cfg(test)]
+mod flattening;
+#[cfg(test)]
 mod kept_ops;
 #[cfg(test)]
 mod registers;

@@ -43,7 +43,7 @@ pub fn plain_operands(alloc: Global, next: Value, clock: Value) -> SmallVec<Valu
     SmallVec::from_buf_and_len(alloc, values, 2)
 }
 
-/// A `comb.mux` of the type of a register, at its place in the source.
+/// A `comb.mux` of the type of a register, at its place in the source. The error comes only when out of memory.
 pub fn new_mux(alloc: Global, register: &Op<'_>) -> Result<NewOp, AllocError>
     ensures parts { IfOk result (λ new. new_parts new ≡ mux_parts (read_parts register.now)) }
 {
@@ -60,7 +60,7 @@ pub fn new_mux(alloc: Global, register: &Op<'_>) -> Result<NewOp, AllocError>
     })
 }
 
-/// A register without enable and reset that is otherwise another one.
+/// A register without enable and reset that is otherwise as another one. The error comes only when out of memory.
 pub fn new_register(alloc: Global, register: &Op<'_>) -> Result<NewOp, AllocError>
     requires { is_clocked_kind (kind_of register.now.kind.now) ≡ true }
     ensures parts { IfOk result (λ new. new_parts new ≡ plain_parts (read_parts register.now)) }

@@ -43,7 +43,7 @@ fn first_op(body: &Body) -> Option<OpId>
     body.ops().next()
 }
 
-/// Lowers an operation, where it is a register with an enable or a synchronous reset.
+/// Lowers an operation, where it is a register with an enable or a synchronous reset. The error comes only when out of memory.
 fn lower_op(alloc: Global, body: &mut Body, op: OpId) -> Result<(), AllocError>
     requires fit { IsOfFit body.old }
     requires live { HasOp body.old op }
@@ -80,7 +80,7 @@ fn clocked_register(op: &Op<'_>) -> Option<Register<Value>>
     }
 }
 
-/// Lowers a register with these operands.
+/// Lowers a register with these operands. The error comes only when out of memory.
 fn lower_register(
     alloc: Global,
     body: &mut Body,
@@ -120,7 +120,7 @@ fn lower_register(
     }
 }
 
-/// Has a register load what a mux gives.
+/// Has a register load what a mux gives. The error comes only when out of memory.
 fn load_by_one(
     alloc: Global,
     body: &mut Body,
@@ -143,7 +143,8 @@ fn load_by_one(
     Ok(())
 }
 
-/// Has a register load what a second mux gives, the value of a reset or what a first mux gives.
+/// Has a register load what a second mux gives, the value of a reset or what a first mux gives. The error comes only when out of
+/// memory.
 fn load_by_two(
     alloc: Global,
     body: &mut Body,
