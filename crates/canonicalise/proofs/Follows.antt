@@ -1,11 +1,7 @@
 -- What designs keep to whose operations single folds lead.
-use Rattle.std.proofs.Common.{◌≡◌, ℕ, zero, suc, ◌≤◌, List, [], ◌∷◌, set, Some, slice_get, refl, sym, ap, subst, ◌∙◌, inl, inr, arith, set-set}
-use Rattle.std.proofs.lemmas.Option.{slice_get_within}
+use Rattle.std.proofs.Common.{◌≡◌, ℕ, List, Some, slice_get, sym, ap, subst, ◌∙◌, inl, inr, arith}
 use Rattle.wiring.specs.Options.{omap}
-use Rattle.wiring.proofs.Lists.{slice_get-set_same}
-use Rattle.hw_model.specs.Types.{Name}
 use Rattle.hw_model.specs.Design.{Op, Module, Design}
-use Rattle.hw_model.specs.Weight.{weight}
 use Rattle.hw_edits.specs.Laws.{with_body}
 use Rattle.accepted_edits.specs.Keeps.{IsFit}
 use Rattle.pass_laws.proofs.Steps.{Keeps, steps_keep}

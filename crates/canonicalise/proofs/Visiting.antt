@@ -44,7 +44,7 @@ left ids (Some op) = length ids - position_of ids op.index
 
 -- ---- bodies
 
-length-body_ops : (b : Body) → length (body_ops b) ≡ length (ids_of b)
+pub length-body_ops : (b : Body) → length (body_ops b) ≡ length (ids_of b)
 unfolding body_ops
 length-body_ops b = length-map (ops_of b) (op_by (position_of (ids_in (ops_of b)))) ∙ sym (length-map (ops_of b) (λ o. o.id))
 
@@ -52,7 +52,7 @@ pub same_ops : (b after : Body) → ops_of after ≡ ops_of b → body_ops after
 unfolding body_ops
 same_ops b after same = ap ops_by_position same
 
-position_is : (b : Body) (op : OpId) → position_in b op ≡ position_of (ids_of b) op.index
+pub position_is : (b : Body) (op : OpId) → position_in b op ≡ position_of (ids_of b) op.index
 unfolding position_in
 position_is b op = refl
 

@@ -1,3 +1,4 @@
 pub mod Canonical
 pub mod Dues
+pub mod Settled
 pub mod Sweeps

@@ -6,9 +6,11 @@ ghost use Rattle.body_edits.specs.FitBodies.{IsOfFit};
 ghost use Rattle.body_edits.specs.Views.{body_ops};
 ghost use Rattle.canonicalise.specs.Canonical.{table, IsCanonicalOf, Leads};
 ghost use Rattle.canonicalise.specs.Dues.{after_some, IsDue};
+ghost use Rattle.canonicalise.specs.Settled.{AreSettled};
 ghost use Rattle.canonicalise.specs.Sweeps.{IsSwept};
 
-use comb_fold::table::fold;
+use crate::marks::Marks;
+use crate::visits::visit;
 use ir_store::body::Body;
 use ir_store::operation::OpId;
 use std::alloc::{AllocError, Global};
@@ -22,24 +24,27 @@ pub fn canonicalize(alloc: Global, body: &mut Body) -> Result<(), AllocError>
     ensures canonical { OnOk result (IsCanonicalOf (body_ops body.old) (body_ops body.new)) }
     ensures partly { OnErr result (Leads table (body_ops body.old) (body_ops body.new)) }
 {
-    while sweep(alloc, body)? {}
+    let mut marks = Marks::new(alloc);
+    while sweep(alloc, body, &mut marks)? {}
     Ok(())
 }
 
-/// A sweep over a body, and whether it changed something.
-fn sweep(alloc: Global, body: &mut Body) -> Result<bool, AllocError>
-    requires { IsOfFit body.old }
+/// A sweep over a body, in which rows are tried at the operations that are not settled, and whether it changed something.
+fn sweep(alloc: Global, body: &mut Body, marks: &mut Marks) -> Result<bool, AllocError>
+    requires fit { IsOfFit body.old }
+    requires marks { AreSettled marks.old body.old }
     ensures fit { IsOfFit body.new }
     ensures swept { IfOk result (λ changed. IsSwept table (body_ops body.old) changed (body_ops body.new)) }
     ensures leads { Leads table (body_ops body.old) (body_ops body.new) }
     ensures smaller { IfOk result (λ changed. changed ≡ true → IsSmaller (body_ops body.new) (body_ops body.old)) }
+    ensures settled { OnOk result (AreSettled marks.new body.new) }
 {
     let mut changed = false;
     let mut at = first_op(body);
     while let Some(op) = at {
         let next = body.next_op(op);
         let second = after(body, next);
-        if fold(alloc, body, op)? {
+        if visit(alloc, body, marks, op)? {
             changed = true;
             at = due(body, op, next, second);
         } else {

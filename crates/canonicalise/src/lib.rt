@@ -3,5 +3,7 @@
 
 pub mod canonicalize;
 mod laws;
+mod marks;
+mod visits;
 
 pub use laws::{canonical_bodies_are_folded, canonical_bodies_once, folds_follow};

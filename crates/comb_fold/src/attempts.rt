@@ -7,16 +7,22 @@ use std::alloc::{AllocError, Global};
 
 /// A list of rows of the table of folds.
 pub trait Rows {
-    ghost use Rattle.std.specs.Prelude.{◌≡◌, List, IfOk, OnErr};
+    ghost use Rattle.std.specs.Prelude.{◌≡◌, List, is_some, IfOk, OnErr};
     ghost use Rattle.ir_store.specs.Bodies.{ops_of};
     ghost use Rattle.fold_laws.specs.Edits.{Row};
     ghost use Rattle.fold_laws.specs.Table.{first_row};
     ghost use Rattle.body_edits.specs.FitBodies.{IsOfFit};
     ghost use Rattle.body_edits.specs.Folded.{Tries};
-    ghost use Rattle.body_edits.specs.Views.{HasOp, position_in};
+    ghost use Rattle.body_edits.specs.Views.{HasOp, body_ops, position_in};
 
     // The rows, the first to be tried first.
     ghost tried: { List Row };
+
+    /// Whether a row of the list matches at an operation. It takes no memory.
+    fn matches(body: &Body, op: OpId) -> bool
+        requires fit { IsOfFit body.now }
+        requires live { HasOp body.now op }
+        ensures { result ≡ is_some (first_row tried (body_ops body.now) (position_in body.now op)) };
 
     /// Changes a body at an operation as the first row of the list says that matches there, and says whether one does. On an
     /// error, which comes where memory that is needed is refused, the operations stay.
@@ -33,6 +39,10 @@ impl Rows for () {
 
     ghost tried = { [] };
 
+    fn matches(_body: &Body, _op: OpId) -> bool {
+        false
+    }
+
     fn attempt(_alloc: Global, _body: &mut Body, _op: OpId) -> Result<bool, AllocError> {
         Ok(false)
     }
@@ -43,6 +53,10 @@ impl<P: Pattern, R: Rows> Rows for (P, R) {
     ghost use Rattle.std.specs.Prelude.{◌∷◌};
 
     ghost tried = { P.change ∷ R.tried };
+
+    fn matches(body: &Body, op: OpId) -> bool {
+        P::matches(body, op) || R::matches(body, op)
+    }
 
     fn attempt(alloc: Global, body: &mut Body, op: OpId) -> Result<bool, AllocError> {
         if P::matches(body, op) {

@@ -1,10 +1,10 @@
 //! The table of folds, in the order in which its rows are tried.
-ghost use Rattle.std.specs.Prelude.{◌≡◌, IfOk, OnErr};
+ghost use Rattle.std.specs.Prelude.{◌≡◌, is_some, IfOk, OnErr};
 ghost use Rattle.ir_store.specs.Bodies.{ops_of};
 ghost use Rattle.fold_laws.specs.Table.{rows, first_row};
 ghost use Rattle.body_edits.specs.FitBodies.{IsOfFit};
 ghost use Rattle.body_edits.specs.Folded.{Tries};
-ghost use Rattle.body_edits.specs.Views.{HasOp, position_in};
+ghost use Rattle.body_edits.specs.Views.{HasOp, body_ops, position_in};
 
 use crate::attempts::Rows;
 use crate::equal::F13;
@@ -44,6 +44,15 @@ type VariadicRows = (
 
 /// The rows of the table, the first to be tried first.
 type Table = (F1, (F2, (F3, (F4, (F5, (F6, (F7, (F8, VariadicRows))))))));
+
+/// Whether a row of the table matches at an operation. It takes no memory.
+pub fn matches(body: &Body, op: OpId) -> bool
+    requires fit { IsOfFit body.now }
+    requires live { HasOp body.now op }
+    ensures { result ≡ is_some (first_row rows (body_ops body.now) (position_in body.now op)) }
+{
+    <Table as Rows>::matches(body, op)
+}
 
 /// Changes a body at an operation as the first row of the table says that matches there, and says whether one does. On an
 /// error, which comes where memory that is needed is refused, the operations stay.

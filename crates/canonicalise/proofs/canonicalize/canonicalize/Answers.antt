@@ -11,13 +11,14 @@ on_err (Err e) p = p
 
 pub returns-in_err-sweep-clause-partly : goal.returns-in_err-sweep-clause-partly
 returns-in_err-sweep-clause-partly c =
-    on_err c.from_residual.result (way_leads (body_ops c.args.body.now) (body_ops c.loop.body) (body_ops c.sweep.new.body) c.loop.invariant.1 c.in_err-sweep.ensures.leads)
+    on_err c.from_residual.result (way_leads (body_ops c.args.body.now) (body_ops c.loop-marks.body) (body_ops c.sweep.new.body) c.loop-marks.invariant.1 c.in_err-sweep.ensures.leads)
 
-pub loop-smaller : goal.loop-smaller
-loop-smaller c = smaller_is_lower (body_ops c.loop.body) (body_ops c.sweep.new.body) (c.in_ok-sweep.ensures.smaller c.if-branch.true)
+pub loop-marks-smaller : goal.loop-marks-smaller
+loop-marks-smaller c = smaller_is_lower (body_ops c.loop-marks.body) (body_ops c.sweep.new.body) (c.in_ok-sweep.ensures.smaller c.if-branch.true)
 
-pub loop-preserved : goal.loop-preserved
-loop-preserved c = (
+pub loop-marks-preserved : goal.loop-marks-preserved
+loop-marks-preserved c = (
   c.sweep.ensures.fit,
-  way_goes_on (body_ops c.args.body.now) (body_ops c.loop.body) (body_ops c.sweep.new.body) c.loop.invariant.1 (rw c.if-branch.true at c.in_ok-sweep.ensures.swept),
+  way_goes_on (body_ops c.args.body.now) (body_ops c.loop-marks.body) (body_ops c.sweep.new.body) c.loop-marks.invariant.1 (rw c.if-branch.true at c.in_ok-sweep.ensures.swept),
+  c.in_ok-sweep.ensures.settled,
 )

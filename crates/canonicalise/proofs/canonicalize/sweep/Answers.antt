@@ -5,50 +5,52 @@ use Rattle.canonicalise.proofs.Visiting.{begin, has_op, next_live, fit_same, sam
 use Rattle.canonicalise.proofs.canonicalize.sweep.Goals as goal
 
 pub loop-at-init : goal.loop-at-init
-loop-at-init c = begin c.args.body.now c.first_op-at.result c.requires c.first_op-at.ensures
+loop-at-init c = (begin c.args.body.now c.first_op-at.result c.requires.fit c.first_op-at.ensures, c.requires.marks)
 
 pub next_op-next-requires : goal.next_op-next-requires
-next_op-next-requires c = has_op c.args.body.now c.loop-at.body c.in-Some.op c.loop-at.changed (rw c.in-Some.is at c.loop-at.invariant)
+next_op-next-requires c = has_op c.args.body.now c.loop-at.body c.in-Some.op c.loop-at.changed (rw c.in-Some.is at c.loop-at.invariant.0)
 
 pub after-second-requires : goal.after-second-requires
 after-second-requires c =
-    next_live c.args.body.now c.loop-at.body c.in-Some.op c.loop-at.changed (rw c.in-Some.is at c.loop-at.invariant) c.next_op-next.result c.next_op-next.ensures
+    next_live c.args.body.now c.loop-at.body c.in-Some.op c.loop-at.changed (rw c.in-Some.is at c.loop-at.invariant.0) c.next_op-next.result c.next_op-next.ensures
 
-pub fold-requires-clause-live : goal.fold-requires-clause-live
-fold-requires-clause-live c = has_op c.args.body.now c.loop-at.body c.in-Some.op c.loop-at.changed (rw c.in-Some.is at c.loop-at.invariant)
+pub visit-requires-clause-live : goal.visit-requires-clause-live
+visit-requires-clause-live c = has_op c.args.body.now c.loop-at.body c.in-Some.op c.loop-at.changed (rw c.in-Some.is at c.loop-at.invariant.0)
 
-pub returns-in_err-fold-clause-fit : goal.returns-in_err-fold-clause-fit
-returns-in_err-fold-clause-fit c = fit_same c.loop-at.body c.fold.new.body c.loop-at.invariant.fit c.in_err-fold.ensures.kept
+pub returns-in_err-visit-clause-fit : goal.returns-in_err-visit-clause-fit
+returns-in_err-visit-clause-fit c = fit_same c.loop-at.body c.visit.new.body c.loop-at.invariant.0.fit c.in_err-visit.ensures.kept
 
-pub returns-in_err-fold-clause-leads : goal.returns-in_err-fold-clause-leads
-returns-in_err-fold-clause-leads c =
-    subst (Leads table (body_ops c.args.body.now)) (sym (same_ops c.loop-at.body c.fold.new.body c.in_err-fold.ensures.kept)) c.loop-at.invariant.leads
+pub returns-in_err-visit-clause-leads : goal.returns-in_err-visit-clause-leads
+returns-in_err-visit-clause-leads c =
+    subst (Leads table (body_ops c.args.body.now)) (sym (same_ops c.loop-at.body c.visit.new.body c.in_err-visit.ensures.kept)) c.loop-at.invariant.0.leads
 
 pub loop-at-smaller-then-branch : goal.loop-at-smaller-then-branch
 loop-at-smaller-then-branch c =
-    let tries = rw c.if-branch.true at c.in_ok-fold.ensures.tries in
-    let after = folds c.args.body.now c.loop-at.body c.in-Some.op c.loop-at.changed (rw c.in-Some.is at c.loop-at.invariant) c.fold.new.body c.next_op-next.result c.after-second.result
+    let tries = rw c.if-branch.true at c.in_ok-visit.ensures.tries in
+    let after = folds c.args.body.now c.loop-at.body c.in-Some.op c.loop-at.changed (rw c.in-Some.is at c.loop-at.invariant.0) c.visit.new.body c.next_op-next.result c.after-second.result
     c.due-at.result tries c.next_op-next.ensures c.after-second.ensures c.due-at.ensures.stays c.due-at.ensures.goes in
     rw c.in-Some.is (omega (arith, after.1, after.2))
 
 pub loop-at-preserved-then-branch : goal.loop-at-preserved-then-branch
 loop-at-preserved-then-branch c =
-    let tries = rw c.if-branch.true at c.in_ok-fold.ensures.tries in
-    (folds c.args.body.now c.loop-at.body c.in-Some.op c.loop-at.changed (rw c.in-Some.is at c.loop-at.invariant) c.fold.new.body c.next_op-next.result c.after-second.result
-    c.due-at.result tries c.next_op-next.ensures c.after-second.ensures c.due-at.ensures.stays c.due-at.ensures.goes).0
+    let tries = rw c.if-branch.true at c.in_ok-visit.ensures.tries in (
+      (folds c.args.body.now c.loop-at.body c.in-Some.op c.loop-at.changed (rw c.in-Some.is at c.loop-at.invariant.0) c.visit.new.body c.next_op-next.result c.after-second.result
+          c.due-at.result tries c.next_op-next.ensures c.after-second.ensures c.due-at.ensures.stays c.due-at.ensures.goes).0,
+      c.in_ok-visit.ensures.settled,
+    )
 
 pub loop-at-smaller : goal.loop-at-smaller
 loop-at-smaller c =
-    let tries = rw c.if-branch.false at c.in_ok-fold.ensures.tries in
-    rw c.in-Some.is (passes_less c.args.body.now c.loop-at.body c.in-Some.op c.loop-at.changed (rw c.in-Some.is at c.loop-at.invariant) c.fold.new.body c.next_op-next.result tries.1 c.next_op-next.ensures)
+    let tries = rw c.if-branch.false at c.in_ok-visit.ensures.tries in
+    rw c.in-Some.is (passes_less c.args.body.now c.loop-at.body c.in-Some.op c.loop-at.changed (rw c.in-Some.is at c.loop-at.invariant.0) c.visit.new.body c.next_op-next.result tries.1 c.next_op-next.ensures)
 
 pub loop-at-preserved : goal.loop-at-preserved
 loop-at-preserved c =
-    let tries = rw c.if-branch.false at c.in_ok-fold.ensures.tries in
-    passes c.args.body.now c.loop-at.body c.in-Some.op c.loop-at.changed (rw c.in-Some.is at c.loop-at.invariant) c.fold.new.body c.next_op-next.result tries.0 tries.1 c.next_op-next.ensures
+    let tries = rw c.if-branch.false at c.in_ok-visit.ensures.tries in
+    (passes c.args.body.now c.loop-at.body c.in-Some.op c.loop-at.changed (rw c.in-Some.is at c.loop-at.invariant.0) c.visit.new.body c.next_op-next.result tries.0 tries.1 c.next_op-next.ensures, c.in_ok-visit.ensures.settled)
 
 pub returns-clause-swept : goal.returns-clause-swept
-returns-clause-swept c = swept c.args.body.now c.loop-at.body c.loop-at.at c.loop-at.changed c.loop-at.invariant c.in_default.is
+returns-clause-swept c = swept c.args.body.now c.loop-at.body c.loop-at.at c.loop-at.changed c.loop-at.invariant.0 c.in_default.is
 
 pub returns-clause-smaller : goal.returns-clause-smaller
-returns-clause-smaller c = changed_less c.args.body.now c.loop-at.body c.loop-at.at c.loop-at.changed c.loop-at.invariant
+returns-clause-smaller c = changed_less c.args.body.now c.loop-at.body c.loop-at.at c.loop-at.changed c.loop-at.invariant.0

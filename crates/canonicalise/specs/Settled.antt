@@ -1,0 +1,34 @@
+-- The worklist of a body: rows are tried at each operation but those that are settled (MLIR documentation, "Pattern Rewriting").
+use Rattle.std.specs.Prelude.{◌≡◌, ℕ, ◌≤◌, true, List, length, Some, None, Contains, slice_get}
+use Rattle.ir_store.specs.declared.body.Body.{Body}
+use Rattle.ir_store.specs.declared.operation.OpId.{OpId}
+use Rattle.ir_store.specs.declared.operation.UsePlace.{UsePlace}
+use Rattle.ir_store.specs.declared.operation.Value.{Value}
+use Rattle.ir_store.specs.declared.operation.Value.TheVariants.{Result}
+use Rattle.ir_store.specs.Bodies.{ids_of, ops_of}
+use Rattle.ir_store.specs.BodyOps.{BodyOp}
+use Rattle.ir_store.specs.Numbered.{position_of}
+use Rattle.ir_store.specs.Uses.{uses_in, use_times}
+use Rattle.body_edits.specs.Views.{body_ops}
+use Rattle.canonicalise.specs.Canonical.{table}
+use Rattle.canonicalise.specs.declared.marks.Marks.{Marks}
+
+-- the operation of an id is settled
+abbrev pub IsSettled : Marks → ℕ → Type 0
+IsSettled m id = slice_get m.settled.items id ≡ Some true
+
+-- each settled operation is there, and no row of the table matches at it
+abbrev pub AreSettled : Marks → Body → Type 0
+AreSettled m b = (id : ℕ) → IsSettled m id → Contains (ids_of b) id × (table (body_ops b) (position_of (ids_of b) id) ≡ None)
+
+-- an operation uses a value at some place
+pub record IsUser (v : Value) (ops : List BodyOp) (id : ℕ) : Type 0 where
+  pub place : UsePlace
+  pub own : place.op.index ≡ id
+  pub used : 1 ≤ use_times place (uses_in v ops)
+
+-- an operation is not that of id w, where that is gone or its first result has no use, and it has not the only use of that
+pub record IsApart (b : Body) (w : OpId) (id : ℕ) : Type 0 where
+  pub gone : (Contains (ids_of b) w.index → ⊥) → id ≡ w.index → ⊥
+  pub unused : length (uses_in (Result w 0) (ops_of b)) ≡ 0 → id ≡ w.index → ⊥
+  pub single : Contains (ids_of b) w.index → length (uses_in (Result w 0) (ops_of b)) ≡ 1 → IsUser (Result w 0) (ops_of b) id → ⊥
