@@ -72,7 +72,7 @@ pub holder-lt : (t : Table) (m w : ℕ) → IsKept t → is_held_by w ((state_of
 holder-lt t m w kept held = there-lt t w kept (kept.sound.there m w held)
 
 -- there are at most as many leaves as modules
-leaves_from-le : (k : ℕ) (callees : List (List ℕ)) → length (leaves_from k callees) ≤ length callees
+pub leaves_from-le : (k : ℕ) (callees : List (List ℕ)) → length (leaves_from k callees) ≤ length callees
 leaves_from-le k [] = omega arith
 leaves_from-le k ([] ∷ rest) = let more : length (leaves_from (k + 1) rest) ≤ length rest = leaves_from-le (k + 1) rest in omega arith
 leaves_from-le k ((x ∷ xs) ∷ rest) = let more : length (leaves_from (k + 1) rest) ≤ length rest = leaves_from-le (k + 1) rest in omega arith

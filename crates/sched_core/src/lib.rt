@@ -17,5 +17,6 @@ mod sched;
 
 pub use event::Event;
 pub use laws::{each_event_keeps_soundness, every_run_is_sound};
+pub use making::{clone_callees, leaf_modules};
 pub use parts::{Edge, Fill, Stage, Worker};
 pub use sched::Sched;

@@ -10,10 +10,7 @@ use crate::parts::{Edge, Fill, Stage, Worker};
 use std::alloc::{AllocError, Global};
 
 /// The same lists of callees.
-pub(crate) fn clone_callees(
-    alloc: Global,
-    callees: &[Vec<u32>],
-) -> Result<Vec<Vec<u32>>, AllocError>
+pub fn clone_callees(alloc: Global, callees: &[Vec<u32>]) -> Result<Vec<Vec<u32>>, AllocError>
     ensures { IfOk result (λ v. map (λ row. row.items) v.items ≡ map (λ row. row.items) callees.now) }
 {
     let mut rows = Vec::new(alloc);
@@ -60,7 +57,7 @@ fn push_if(numbers: &mut Vec<u32>, number: u32, passes: bool) -> Result<(), Allo
 }
 
 /// The modules without callees, in order.
-pub(crate) fn leaf_modules(alloc: Global, callees: &[Vec<u32>]) -> Result<Vec<u32>, AllocError>
+pub fn leaf_modules(alloc: Global, callees: &[Vec<u32>]) -> Result<Vec<u32>, AllocError>
     requires { length callees.now < 2 ^ 32 }
     ensures { IfOk result (λ v. v.items ≡ leaves (map (λ row. row.items) callees.now)) }
 {

@@ -1,0 +1,17 @@
+pub mod Lookups
+pub mod Staying
+pub mod Stages
+pub mod Drawing
+pub mod Places
+pub mod Filling
+pub mod Lending
+pub mod Giving
+pub mod Telling
+pub mod Gathering
+pub mod Joining
+pub mod Ending
+pub mod FirstTable
+pub mod Looking
+pub mod Working
+pub mod Exchanging
+pub mod Callers

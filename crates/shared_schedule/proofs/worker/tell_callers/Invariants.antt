@@ -1,0 +1,13 @@
+use Rattle.std.proofs.Common.{◌≡◌, [], map, drop, get_or}
+use Rattle.shared_schedule.specs.Views.{callees_in}
+use Rattle.shared_schedule.specs.Seats.{IsIdle}
+use Rattle.shared_schedule.specs.Working.{IsTelling, GoesOn}
+use Rattle.shared_schedule.proofs.worker.tell_callers.Given as goal
+
+abbrev pub invariant-loop-k : goal.invariant-loop-k
+invariant-loop-k g l = record {
+  idle : IsIdle l.shared.table.shared.table_id l.shared.plan l.seat;
+  id : l.seat.id ≡ l.fn.seat.id;
+  telling : IsTelling (callees_in l.shared.plan) l.seat.me.0 l.queue.items l.m (drop l.k (get_or (map (λ row. row.items) l.shared.callers.items) l.m []));
+  on : GoesOn l.fn.seat.me.0 l.seat.me.0;
+}

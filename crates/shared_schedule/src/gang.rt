@@ -1,0 +1,110 @@
+//! Workers in threads, and the whole run.
+
+ghost use Rattle.std.specs.Prelude.{◌≡◌, ℕ, ◌+◌, ◌-◌, ◌<◌, ◌≤◌, true, false, [], Some, None, length, map, slice_get, IfOk};
+ghost use Rattle.std.specs.Thread.{IsSync};
+ghost use Rattle.sched_core.specs.Runs.{AreCallees};
+ghost use Rattle.shared_schedule.specs.Views.{callees_in};
+ghost use Rattle.shared_schedule.specs.Seats.{IsIdle, IsFinished};
+ghost use Rattle.shared_schedule.specs.Working.{IsReady, IsDone};
+
+use crate::pieces::Pieces;
+use crate::shared::Shared;
+use crate::slot::Slot;
+use crate::view::View;
+use crate::work::Work;
+use crate::worker::worker;
+use atomic_table::Seat;
+use std::alloc::{AllocError, Global};
+use std::thread::{Threads, join};
+
+// the first worker, and so many in all; each has room for all modules before it starts
+fn gang<R: Threads + Sync, P: Pieces + Sync, W: Work<P> + Sync>(
+    rt: &R,
+    alloc: Global,
+    shared: &Shared<P>,
+    mut seat: Seat<Slot<P::Body>, View<P>>,
+    work: &W,
+    workers: u32,
+) -> Result<Seat<Slot<P::Body>, View<P>>, AllocError>
+where
+    P::Body: Send + Drop,
+    requires ready { IsReady shared.now.table.shared.table_id shared.now.plan seat }
+    requires first { seat.id ≡ 0 }
+    requires some { 1 ≤ workers }
+    requires few { seat.me.0.splits + workers ≤ 64 }
+    requires none { (k : ℕ) → P.copied shared.now.plan.pieces k None }
+    ensures { IfOk result (λ s. IsDone shared.now.table.shared.table_id shared.now.plan seat s (workers - 1)) }
+{
+    let queue = Vec::with_capacity(alloc, shared.plan.callees.len())?;
+    if workers == 1 {
+        return worker(shared, alloc, seat, work, queue);
+    }
+    let other = shared.split(&mut seat);
+    let (mine, theirs) = join(
+        rt,
+        move || -> Result<Seat<Slot<P::Body>, View<P>>, AllocError>
+            requires { IsSync R.row × IsReady shared.now.table.shared.table_id shared.now.plan seat × (seat.id ≡ 0) × (1 ≤ workers - 1) × (seat.me.0.splits + (workers - 1) ≤ 64) × ((k : ℕ) → P.copied shared.now.plan.pieces k None) }
+            ensures { IfOk result (λ s. IsDone shared.entry.now.table.shared.table_id shared.entry.now.plan seat s (workers - 2)) }
+        { gang(rt, alloc, shared, seat, work, workers - 1) },
+        move || -> Result<Seat<Slot<P::Body>, View<P>>, AllocError>
+            requires { IsReady shared.now.table.shared.table_id shared.now.plan other × (queue.items ≡ []) × ((k : ℕ) → P.copied shared.now.plan.pieces k None) }
+            ensures { IfOk result (λ s. IsDone shared.entry.now.table.shared.table_id shared.entry.now.plan other s 0) }
+        { worker(shared, alloc, other, work, queue) },
+    );
+    let mine = mine?;
+    let theirs = theirs?;
+    Ok(gathered(shared, mine, theirs))
+}
+
+// the first worker, and another that it gathers
+fn gathered<P: Pieces>(
+    shared: &Shared<P>,
+    mut seat: Seat<Slot<P::Body>, View<P>>,
+    other: Seat<Slot<P::Body>, View<P>>,
+) -> Seat<Slot<P::Body>, View<P>>
+    requires idle { IsIdle shared.now.table.shared.table_id shared.now.plan seat }
+    requires passed { seat.me.0.passed ≡ true }
+    requires finished { IsFinished (callees_in shared.now.plan) seat.me.0 }
+    requires other { IsIdle shared.now.table.shared.table_id shared.now.plan other }
+    requires other_finished { IsFinished (callees_in shared.now.plan) other.me.0 }
+    ensures idle { IsIdle shared.now.table.shared.table_id shared.now.plan result }
+    ensures id { result.id ≡ seat.id }
+    ensures passed { result.me.0.passed ≡ true }
+    ensures finished { IsFinished (callees_in shared.now.plan) result.me.0 }
+    ensures splits { result.me.0.splits ≡ seat.me.0.splits }
+    ensures shares { result.me.0.shares ≡ seat.me.0.shares + other.me.0.shares }
+{
+    shared.join(&mut seat, other);
+    seat
+}
+
+/// Works each module once, after its callees, with so many workers, each but the first in a thread of its own: with one
+/// worker no thread is started. The result has each module's finished body. The only error is want of memory.
+pub fn run_modules<R: Threads + Sync, P: Pieces + Sync + Drop, W: Work<P> + Sync>(
+    rt: &R,
+    alloc: Global,
+    pieces: P,
+    callees: Vec<Vec<u32>>,
+    bodies: Vec<P::Body>,
+    workers: u32,
+    work: &W,
+) -> Result<Vec<P::Body>, AllocError>
+where
+    P::Body: Send + Drop,
+    requires callees { AreCallees (map (λ row. row.items) callees.items) }
+    requires bodies { length bodies.items ≡ length callees.items }
+    requires first { (m : ℕ) (b : P.Body) → slice_get bodies.items m ≡ Some b → P.first pieces m b }
+    requires none { (m : ℕ) → P.copied pieces m None }
+    requires workers { (1 ≤ workers) × (workers ≤ 64) }
+    ensures len { IfOk result (λ v. length v.items ≡ length callees.items) }
+    ensures finished { IfOk result (λ v. (m : ℕ) (b : P.Body) → slice_get v.items m ≡ Some b → P.finished pieces m b) }
+{
+    let (shared, seat) = Shared::new(alloc, pieces, callees, bodies)?;
+    match gang(rt, alloc, &shared, seat, work, workers) {
+        Ok(seat) => shared.into_bodies(alloc, seat),
+        Err(fail) => {
+            shared.discard();
+            Err(fail)
+        }
+    }
+}

@@ -1,0 +1,23 @@
+//! A schedule that several workers share: each module is worked once, after its callees, by whichever worker comes to it.
+#![tactic(auto)]
+
+mod gang;
+mod making;
+mod opening;
+mod pieces;
+mod plan;
+mod plays;
+mod rule;
+mod shared;
+mod slot;
+mod view;
+mod work;
+mod worker;
+
+pub use gang::run_modules;
+pub use pieces::Pieces;
+pub use plan::Plan;
+pub use shared::Shared;
+pub use slot::Slot;
+pub use view::{Hold, Place, View};
+pub use work::Work;

@@ -1,0 +1,17 @@
+//! What a schedule carries.
+
+ghost use Rattle.std.specs.Prelude.{ℕ, Option};
+
+/// The bodies that a schedule carries. The members say, for a value of the type and the number of a module, which bodies
+/// may be given to the worker that comes to the module, which ones are finished, and which copies of a finished body
+/// (or none) stand on the edges to the module's callers.
+pub trait Pieces {
+    /// The body of a module.
+    type Body;
+
+    ghost first: { Self → ℕ → Self.Body → Type 0 };
+
+    ghost finished: { Self → ℕ → Self.Body → Type 0 };
+
+    ghost copied: { Self → ℕ → Option Self.Body → Type 0 };
+}
