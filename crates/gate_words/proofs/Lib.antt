@@ -1,0 +1,9 @@
+pub mod Words
+pub mod WordRows
+pub mod LongRows
+pub mod BitSums
+pub mod BitProducts
+pub mod BitShifts
+pub mod Computing
+pub mod Loops
+pub mod Widths

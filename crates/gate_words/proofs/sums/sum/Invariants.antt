@@ -1,0 +1,14 @@
+use Rattle.std.proofs.Common.{◌≡◌, ◌≤◌, length, drop}
+use Rattle.gates.specs.Circuits.{Runs}
+use Rattle.gate_words.specs.Rows.{sum}
+use Rattle.gate_words.proofs.sums.sum.Given as goal
+
+abbrev pub invariant-loop-i : goal.invariant-loop-i
+invariant-loop-i l = record {
+  within : l.i ≤ length l.xs;
+  room : length l.word.items ≡ length l.xs;
+  runs : Runs (sum (drop l.i l.xs) (drop l.i l.ys) l.fn.carry) l.initial.gates l.gates (record { word = drop l.i l.word.items; carry = l.over });
+}
+
+abbrev pub decreases-loop-i : goal.decreases-loop-i
+decreases-loop-i l = l.i
