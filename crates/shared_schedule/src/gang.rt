@@ -79,7 +79,7 @@ fn gathered<P: Pieces>(
 }
 
 /// Works each module once, after its callees, with so many workers, each but the first in a thread of its own: with one
-/// worker no thread is started. The result has each module's finished body. The only error is want of memory.
+/// worker no thread is started. The result has each module's finished body. The only error comes when out of memory.
 pub fn run_modules<R: Threads + Sync, P: Pieces + Sync + Drop, W: Work<P> + Sync>(
     rt: &R,
     alloc: Global,
