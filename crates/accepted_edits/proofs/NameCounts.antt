@@ -38,6 +38,7 @@ use Rattle.mlir_printer.specs.Texts.{parts_in}
 use Rattle.mlir_printer.specs.Printable.{IsPrintableModule, Printable}
 use Rattle.accepted_edits.specs.Keeps.{IsPrintableBody, IsFit}
 use Rattle.accepted_edits.proofs.Accepted.{each_at, each_from, light_is_accepted}
+use Rattle.mlir_printer.proofs.printable.VerifiedDesigns.{port_names}
 use Rattle.mlir_printer.proofs.steps.Listing.{instance_length}
 use Rattle.hw_model.proofs.Weights.{register_weighs}
 
@@ -62,7 +63,7 @@ inside_parts : (t : HwType) → is_outside t ≡ false → has_bad_part t ≡ fa
 unfolding is_outside
 inside_parts t h = (neither (has_bad_part t) _ h).0
 
-leaves_all : (ts : List HwType) → list_any is_outside ts ≡ false → length ts ≤ leaf_count ts
+pub leaves_all : (ts : List HwType) → list_any is_outside ts ≡ false → length ts ≤ leaf_count ts
 leaves_all [] h = omega arith
 leaves_all (t ∷ ts) h =
     let a = neither (is_outside t) (list_any is_outside ts) h in
@@ -133,7 +134,7 @@ pack_names zero = omega arith
 pack_names (suc n) = omega arith
 
 module _ (inner : Name → ℕ) where
-  names_weigh : (kind : Kind) (ts : List HwType) (own : Name) (n count : ℕ) (xs : List (Option HwType)) → list_any is_outside ts ≡ false → length ts ≡ type_count kind n
+  pub names_weigh : (kind : Kind) (ts : List HwType) (own : Name) (n count : ℕ) (xs : List (Option HwType)) → list_any is_outside ts ≡ false → length ts ≡ type_count kind n
       → has_other_form kind ts ≡ false → has_other_operand kind ts xs ≡ false → has_miscounted_parts kind ts ≡ false
       → length (name_hints_of kind ts own count) ≤ kind_weight inner kind ts n
   unfolding name_hints_of type_count has_other_form has_other_operand has_miscounted_parts
@@ -186,32 +187,27 @@ module _ (inner : Name → ℕ) where
       length-append (name_hints (parts_in o)) (body_name_hints (map parts_in os)) in
       omega arith
 
-port_names : (ps : List Port) → has_port (λ (q : Port). is_outside q.type) ps ≡ false → length (port_name_hints ps) ≤ leaf_count (map (λ (p : Port). p.type) ps)
-port_names [] h = omega arith
-port_names (p ∷ ps) h = go (is_outside p.type) refl h (port_names ps)
+-- each port weighs something
+pub ports_weigh : (ps : List Port) → has_port (λ (q : Port). is_outside q.type) ps ≡ false → length ps ≤ leaf_count (map (λ (p : Port). p.type) ps)
+ports_weigh [] h = omega arith
+ports_weigh (p ∷ ps) h = go (is_outside p.type) refl h (ports_weigh ps)
   where
-    one : (b : Bool) → length (cond b [] (Some p.name ∷ [])) ≤ 1
-    one true = omega arith
-    one false = omega arith
-
     go : (b : Bool) → is_outside p.type ≡ b → cond b true (has_port (λ (q : Port). is_outside q.type) ps) ≡ false
-        → (has_port (λ (q : Port). is_outside q.type) ps ≡ false → length (port_name_hints ps) ≤ leaf_count (map (λ (q : Port). q.type) ps))
-        → length (port_name_hint p ++ port_name_hints ps) ≤ length (leaves p.type) + leaf_count (map (λ (q : Port). q.type) ps)
+        → (has_port (λ (q : Port). is_outside q.type) ps ≡ false → length ps ≤ leaf_count (map (λ (q : Port). q.type) ps))
+        → suc (length ps) ≤ length (leaves p.type) + leaf_count (map (λ (q : Port). q.type) ps)
     go true is h rest = cc
     go false is h rest =
         let some : 1 ≤ length (leaves p.type) = some_leaf p.type (inside_parts p.type is) in
-        let few : length (port_name_hint p) ≤ 1 = one p.is_output in
-        let more : length (port_name_hints ps) ≤ leaf_count (map (λ (q : Port). q.type) ps) = rest h in
-        let both : length (port_name_hint p ++ port_name_hints ps) ≡ length (port_name_hint p) + length (port_name_hints ps) = length-append (port_name_hint p) (port_name_hints ps) in
+        let more : length ps ≤ leaf_count (map (λ (q : Port). q.type) ps) = rest h in
         omega arith
 
 -- ---- modules
 
 module _ (e : Design) (accepted : IsAccepted e) (i : ℕ) (m : Module) (there : slice_get e i ≡ Some m) where
-  found_here : find_module e m.symbol ≡ Some m
+  pub found_here : find_module e m.symbol ≡ Some m
   found_here = (found_at e (distinct_symbols e (no_fault e accepted)) i m there).1
 
-  light : weight e m.symbol ≤ 2 ^ 28
+  pub light : weight e m.symbol ≤ 2 ^ 28
   light = go (nat_lt (2 ^ 28) (weight e m.symbol)) refl
     where
       go : (b : Bool) → nat_lt (2 ^ 28) (weight e m.symbol) ≡ b → weight e m.symbol ≤ 2 ^ 28
@@ -228,12 +224,13 @@ module _ (e : Design) (accepted : IsAccepted e) (i : ℕ) (m : Module) (there : 
   pub few_names : length (port_name_hints m.ports ++ body_name_hints (map parts_in m.body)) < 2 ^ 64
   few_names =
       let header = module_unrefused e (no_fault e accepted) m.symbol m found_here in
-      let ports = port_names m.ports (no_header_cause e header.number m header.header).types in
+      let ports = ports_weigh m.ports (no_header_cause e header.number m header.header).types in
+      let hints = port_names m.ports in
       let ops = body_names (module_weight (length e) e) m.body (op_names (module_weight (length e) e)) in
       let same : weight e m.symbol ≡ weight_of (module_weight (length e) e) (Some m) = ap (weight_of (module_weight (length e) e)) found_here in
       let both = length-append (port_name_hints m.ports) (body_name_hints (map parts_in m.body)) in
       let small = light in
-      omega (arith, ports, ops, same, both, small)
+      omega (arith, ports, hints, ops, same, both, small)
 
 -- an accepted design that is fit can be printed
 pub printable_again : (e : Design) → IsFit e → IsAccepted e → Printable e

@@ -20,6 +20,15 @@ impl Verified {
     ghost use Rattle.ir_store.specs.Designs.{modules_of};
     ghost use Rattle.op_verifier.specs.Answered.{modules_verified};
 
+    /// A design of which nothing is refused, in canonical form, as one that is known to be so. It takes no memory.
+    pub fn new(design: Design) -> Verified
+        requires accepted { IsAccepted (design_of design) }
+        requires canonical { IsCanonical (design_of design) }
+        ensures { modules_verified result ≡ modules_of design }
+    {
+        Verified { design }
+    }
+
     /// The design.
     pub fn design(&self) -> &Design
         ensures { modules_of result.now ≡ modules_verified self.now }

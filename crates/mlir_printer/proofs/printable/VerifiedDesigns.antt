@@ -170,7 +170,7 @@ none_again (p ∷ ps) h read = go p.again refl h (λ e. none_again ps e read.1)
     go true e g r = cc
     go false e g r = (record { first = e; name = read.0.name; type = read.0.type }, r g)
 
-port_names : (ps : List Port) → length (port_name_hints ps) ≤ length ps
+pub port_names : (ps : List Port) → length (port_name_hints ps) ≤ length ps
 port_names [] = omega arith
 port_names (p ∷ ps) = go p.is_output (port_names ps)
   where

@@ -1,0 +1,2 @@
+//! What is kept of designs may cross to other threads.
+#![tactic(auto)]
