@@ -35,7 +35,7 @@ fn usage_of(alloc: Global, line: &str, offered: &[Pass]) -> Result<Option<UsageK
     }
 }
 
-const WORDS: [(&str, Option<UsageKind>); 23] = [
+const WORDS: [(&str, Option<UsageKind>); 40] = [
     ("", Some(UsageKind::Words)),
     ("opt", None),
     ("opt a.mlir b.mlir", Some(UsageKind::Words)),
@@ -65,7 +65,62 @@ const WORDS: [(&str, Option<UsageKind>); 23] = [
     ("translate x.mlir --export-verilog -o y.v", None),
     ("lec a.mlir", Some(UsageKind::Words)),
     ("--export-verilog translate", Some(UsageKind::Words)),
+    ("opt --workers 1", None),
+    ("opt --workers=64 --mlir-disable-threading", None),
+    ("opt --mlir-disable-threading", None),
+    (
+        "translate --export-verilog --mlir-disable-threading --workers 8",
+        None,
+    ),
+    ("opt --workers", Some(UsageKind::Words)),
+    ("opt --workers=", Some(UsageKind::Words)),
+    ("opt --workers 0", Some(UsageKind::Words)),
+    ("opt --workers 65", Some(UsageKind::Words)),
+    ("opt --workers 04", Some(UsageKind::Words)),
+    ("opt --workers +4", Some(UsageKind::Words)),
+    ("opt --workers=-4", Some(UsageKind::Words)),
+    ("opt --workers 4x", Some(UsageKind::Words)),
+    ("opt --workers 18446744073709551620", Some(UsageKind::Words)),
+    ("opt --workers 4 --workers 4", Some(UsageKind::Words)),
+    ("opt --mlir-disable-threading=x", Some(UsageKind::Words)),
+    (
+        "opt --mlir-disable-threading --workers 65",
+        Some(UsageKind::Words),
+    ),
+    ("translate --workers 0", Some(UsageKind::Words)),
 ];
+
+// How many workers the words of a line say.
+const WORKERS: [(&str, u32); 6] = [
+    ("opt", 4),
+    ("opt --workers 7", 7),
+    ("translate --export-verilog --workers=64", 64),
+    ("opt --workers 10 -o x", 10),
+    ("opt --mlir-disable-threading", 1),
+    ("opt --workers 8 --mlir-disable-threading", 1),
+];
+
+// The first words that say another number of workers.
+fn first_other_workers(
+    alloc: Global,
+    rows: &[(&'static str, u32)],
+) -> Result<Option<&'static str>, AllocError> {
+    for (line, workers) in rows {
+        let words = words_of(alloc, line)?;
+        match read_line(alloc, words.as_slice(), &ALL) {
+            Ok(invocation) if invocation.workers.count == *workers => {}
+            Err(LineFail::NoMemory) => return Err(AllocError),
+            _ => return Ok(Some(line)),
+        }
+    }
+    Ok(None)
+}
+
+#[test]
+fn workers_are_said_by_words(rt: HostRuntime) -> Result<(), Fail> {
+    assert_eq!(rt; first_other_workers(rt.alloc(), &WORKERS)?, None);
+    Ok(())
+}
 
 // The first words that are a command, or wrong, in another way.
 fn first_other_words(

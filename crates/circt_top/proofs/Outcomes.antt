@@ -1,8 +1,6 @@
 -- What is made of an accepted design.
-use Rattle.std.proofs.Common.{◌≡◌, ℕ, ◌≤◌, inl, inr, List, [], ◌∷◌, length, Result, Ok, Err, refl, sym, ◌∙◌, subst}
-use Rattle.wiring.specs.Wiring.{In}
-use Rattle.diag.specs.declared.refusal.Refusal.{Refusal}
-use Rattle.hw_model.specs.Design.{Module, Design, IsSameDesign}
+use Rattle.std.proofs.Common.{◌≡◌, ℕ, ◌≤◌, inr, List, length, Result, Ok, Err, sym, subst}
+use Rattle.hw_model.specs.Design.{Design, IsSameDesign}
 use Rattle.hw_model.specs.Hierarchy.{HasNoRecursion}
 use Rattle.hw_model.specs.Machine.{Same}
 use Rattle.hw_model.specs.Meaning.{machine, HasNoCycle, HasHeights}
@@ -11,7 +9,7 @@ use Rattle.command_line.specs.Line.Work.{verilog}
 use Rattle.pass_pipeline.specs.declared.pass.Pass.{Pass}
 use Rattle.pass_laws.specs.PassLaw.{IsAfter}
 use Rattle.pass_manager.specs.Results.{IsResult, on_offer}
-use Rattle.export_verilog.specs.Aggregates.{HasNoAggregates, first_aggregate}
+use Rattle.export_verilog.specs.Aggregates.{HasNoAggregates}
 use Rattle.export_verilog.specs.Behaviour.{BehavesAs}
 use Rattle.export_verilog.specs.Exportable.{IsExportable}
 use Rattle.export_verilog.specs.Layout.{verilog_text}

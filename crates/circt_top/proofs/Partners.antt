@@ -1,5 +1,5 @@
 -- Each public module of an accepted design has its partner in what passes leave.
-use Rattle.std.proofs.Common.{◌≡◌, false, List, Some, ◌∙◌}
+use Rattle.std.proofs.Common.{◌≡◌, List, Some, ◌∙◌}
 use Rattle.wiring.specs.Wiring.{In}
 use Rattle.wiring.proofs.Members.{In-slice_get, In-map, position_of_In}
 use Rattle.design_cycles.proofs.Callees.{found_at}

@@ -4,7 +4,6 @@ ghost use Rattle.ir_store.specs.Designs.{design_of};
 ghost use Rattle.command_line.specs.Invocations.{work_of};
 ghost use Rattle.command_line.specs.Line.Work.{mlir, mlir_pieces, verilog};
 ghost use Rattle.canonical_form.specs.Bytes.{AreBytes};
-ghost use Rattle.op_verifier.specs.Verdict.{IsAccepted};
 ghost use Rattle.pass_manager.specs.Results.{IsResult};
 ghost use Rattle.circt_top.specs.Accepting.{Accepted, first_input};
 ghost use Rattle.circt_top.specs.Reprint.{IsReprint};
@@ -19,17 +18,17 @@ ghost use Rattle.mlir_syntax.specs.Stream.{refusal};
 
 use crate::pieces::{Piece, pieces_of};
 use command_line::invocation::Work;
+use command_line::workers::Workers;
 use diag::cause::Cause;
 use diag::refusal::{OpName, Place, Refusal};
 use export_verilog::aggregates::first_aggregate;
-use export_verilog::export::export_design;
+use export_verilog::export::export;
 use export_verilog::{
     accepted_designs_are_exportable, exported_designs_behave, stored_designs_have_room,
 };
 use hw_model::{heights_are_acyclic, places_decide_nothing};
 use io_edge::byte_text::Text;
-use ir_store::design::Design;
-use mlir_printer::design_text::{print_and_drop, text_and_drop};
+use mlir_printer::design_text::print_and_drop;
 use mlir_printer::laws::{what_is_canonical_is_printable, what_is_printed_is_read_again};
 use mlir_reader::laws::what_is_read_is_canonical;
 use mlir_reader::read::{MOST_BYTES, read_design};
@@ -43,6 +42,19 @@ use pass_manager::run::run_pipeline;
 use pass_pipeline::pipeline::Pipeline;
 use std::alloc::{AllocError, Global};
 use std::thread::Threads;
+
+/// By what modules are worked.
+#[derive(Drop)]
+pub(crate) struct Means<'a, R, G> {
+    /// It starts threads.
+    pub(crate) rt: &'a R,
+    /// It gives memory.
+    pub(crate) alloc: Global,
+    /// How many workers there are.
+    pub(crate) workers: Workers,
+    /// It is told of each module before a pass works on its body.
+    pub(crate) gate: &'a G,
+}
 
 /// Why no text was made.
 #[derive(Clone, Copy, Debug, PartialEq, Eq)]
@@ -66,67 +78,61 @@ impl From<AllocError> for OutcomeFail {
 
 /// What a work makes of the texts of its inputs: the text that it prints, or what is refused.
 pub(crate) fn outcome<R: Threads + Sync, G: Gate + Sync>(
-    rt: &R,
-    alloc: Global,
+    means: &Means<'_, R, G>,
     work: &Work,
     sources: &[Text],
-    gate: &G,
 ) -> Result<Text, OutcomeFail>
     ensures { Gives (work_of work.now) sources.now result }
 {
     let source = first_input(sources);
     match work {
-        Work::Mlir(passes) => print_whole(alloc, source, passes, gate),
-        Work::MlirPieces(passes) => print_pieces(alloc, source, passes, gate),
-        Work::Verilog(passes) => translate_whole(rt, alloc, source, passes, gate),
+        Work::Mlir(passes) => print_whole(means, source, passes),
+        Work::MlirPieces(passes) => print_pieces(means, source, passes),
+        Work::Verilog(passes) => translate_whole(means, source, passes),
     }
 }
 
 /// The text of what passes make of the design that a text says.
-fn print_whole<G: Gate>(
-    alloc: Global,
+fn print_whole<R: Threads + Sync, G: Gate + Sync>(
+    means: &Means<'_, R, G>,
     source: &[u8],
     passes: &Pipeline,
-    gate: &G,
 ) -> Result<Text, OutcomeFail>
     ensures { (contents : List (List ℕ)) → first_input contents ≡ source.now → Gives (mlir passes.now) contents result }
 {
-    match accept(alloc, source) {
-        Ok(verified) => Ok(reprint(alloc, source, verified, passes, gate)?),
+    match accept(means.alloc, source) {
+        Ok(verified) => Ok(reprint(means, source, verified, passes)?),
         Err(fail) => Err(fail.in_file(0)),
     }
 }
 
 /// The Verilog of what passes make of the design that a text says.
-fn translate_whole<R: Threads + Sync, G: Gate>(
-    rt: &R,
-    alloc: Global,
+fn translate_whole<R: Threads + Sync, G: Gate + Sync>(
+    means: &Means<'_, R, G>,
     source: &[u8],
     passes: &Pipeline,
-    gate: &G,
 ) -> Result<Text, OutcomeFail>
     ensures { (contents : List (List ℕ)) → first_input contents ≡ source.now → Gives (verilog passes.now) contents result }
 {
-    match accept(alloc, source) {
-        Ok(verified) => translate(rt, alloc, verified, passes, gate),
+    match accept(means.alloc, source) {
+        Ok(verified) => translate(means, verified, passes),
         Err(fail) => Err(fail.in_file(0)),
     }
 }
 
 /// The texts of what passes make of the designs that the pieces of a text say, joined. The whole text may not be too long.
-fn print_pieces<G: Gate>(
-    alloc: Global,
+fn print_pieces<R: Threads + Sync, G: Gate + Sync>(
+    means: &Means<'_, R, G>,
     source: &[u8],
     passes: &Pipeline,
-    gate: &G,
 ) -> Result<Text, OutcomeFail>
     ensures { (contents : List (List ℕ)) → first_input contents ≡ source.now → Gives (mlir_pieces passes.now) contents result }
 {
     if source.len() > MOST_BYTES {
         return Err(OutcomeFail::Refused(too_long()));
     }
-    let pieces = pieces_of(alloc, source)?;
-    print_each(alloc, pieces.as_slice(), passes, gate)
+    let pieces = pieces_of(means.alloc, source)?;
+    print_each(means, pieces.as_slice(), passes)
 }
 
 /// The refusal of a text that is too long.
@@ -142,20 +148,19 @@ fn too_long() -> Refusal
 }
 
 /// The texts of what passes make of the designs that pieces say, joined, or the first refusal.
-fn print_each<G: Gate>(
-    alloc: Global,
+fn print_each<R: Threads + Sync, G: Gate + Sync>(
+    means: &Means<'_, R, G>,
     pieces: &[Piece<'_>],
     passes: &Pipeline,
-    gate: &G,
 ) -> Result<Text, OutcomeFail>
     ensures { GivesPieces passes.now (map piece_of pieces.now) result }
 {
     let Some((first, others)) = pieces.split_first() else {
-        return Ok(Text::new(alloc));
+        return Ok(Text::new(means.alloc));
     };
-    let mut text = print_piece(alloc, first, passes, gate)?;
+    let mut text = print_piece(means, first, passes)?;
     for piece in others {
-        match push_piece(alloc, &mut text, piece, passes, gate) {
+        match push_piece(means, &mut text, piece, passes) {
             Ok(()) => {}
             Err(fail) => return Err(fail),
         }
@@ -164,34 +169,32 @@ fn print_each<G: Gate>(
 }
 
 /// Adds a line `// -----` and the text of what passes make of the design that a piece says.
-fn push_piece<G: Gate>(
-    alloc: Global,
+fn push_piece<R: Threads + Sync, G: Gate + Sync>(
+    means: &Means<'_, R, G>,
     text: &mut Text,
     piece: &Piece<'_>,
     passes: &Pipeline,
-    gate: &G,
 ) -> Result<(), OutcomeFail>
     ensures printed { OnOk result ((more : List ℕ) × IsReprint passes.now (piece_of piece.now).bytes more × (text.new ≡ text.old ++ (codes "// -----\n" ++ more))) }
     ensures refused { IfErr result (IsFailOfPiece (piece_of piece.now)) }
 {
-    let more = print_piece(alloc, piece, passes, gate)?;
+    let more = print_piece(means, piece, passes)?;
     text.push_bytes(b"// -----\n")?;
     text.push_bytes(more.as_bytes())?;
     Ok(())
 }
 
 /// The text of what passes make of the design that a piece says.
-fn print_piece<G: Gate>(
-    alloc: Global,
+fn print_piece<R: Threads + Sync, G: Gate + Sync>(
+    means: &Means<'_, R, G>,
     piece: &Piece<'_>,
     passes: &Pipeline,
-    gate: &G,
 ) -> Result<Text, OutcomeFail>
     ensures printed { IfOk result (IsReprint passes.now (piece_of piece.now).bytes) }
     ensures refused { IfErr result (IsFailOfPiece (piece_of piece.now)) }
 {
-    match accept(alloc, piece.bytes) {
-        Ok(verified) => Ok(reprint(alloc, piece.bytes, verified, passes, gate)?),
+    match accept(means.alloc, piece.bytes) {
+        Ok(verified) => Ok(reprint(means, piece.bytes, verified, passes)?),
         Err(fail) => Err(fail.in_whole(piece)),
     }
 }
@@ -268,12 +271,11 @@ fn verify_failure(fail: VerifyFail) -> OutcomeFail
 }
 
 /// The text of what passes make of the accepted design that a text says.
-fn reprint<G: Gate>(
-    alloc: Global,
+fn reprint<R: Threads + Sync, G: Gate + Sync>(
+    means: &Means<'_, R, G>,
     source: &[u8],
     verified: Verified,
     passes: &Pipeline,
-    gate: &G,
 ) -> Result<Text, AllocError>
     requires { Accepted source.now (design_of verified.design) }
     ensures { IfOk result (IsReprint passes.now source.now) }
@@ -285,70 +287,67 @@ fn reprint<G: Gate>(
     places_decide_no_verdict();
     heights_are_acyclic();
     places_decide_nothing();
-    print_result(alloc, verified, passes, gate)
+    print_result(means, verified, passes)
 }
 
 /// The text of what passes make of a verified design. Each body's memory is given back as soon as it is printed.
-fn print_result<G: Gate>(
-    alloc: Global,
+fn print_result<R: Threads + Sync, G: Gate + Sync>(
+    means: &Means<'_, R, G>,
     verified: Verified,
     passes: &Pipeline,
-    gate: &G,
 ) -> Result<Text, AllocError>
     ensures { IfOk result (IsPrinted passes.now (design_of verified.design)) }
 {
-    if passes.as_slice().is_empty() {
-        return print_and_drop(alloc, verified);
-    }
-    let made = passes_result(alloc, verified, passes, gate)?;
-    text_and_drop(alloc, made)
+    let made = passes_result(means, verified, passes)?;
+    print_and_drop(means.alloc, made)
 }
 
 /// What passes make of a verified design.
-fn passes_result<G: Gate>(
-    alloc: Global,
+fn passes_result<R: Threads + Sync, G: Gate + Sync>(
+    means: &Means<'_, R, G>,
     verified: Verified,
     passes: &Pipeline,
-    gate: &G,
-) -> Result<Design, AllocError>
-    ensures { IfOk result (λ made. IsResult passes.now (design_of verified.design) (design_of made)) }
+) -> Result<Verified, AllocError>
+    ensures { IfOk result (λ made. IsResult passes.now (design_of verified.design) (design_of made.design)) }
 {
-    what_is_canonical_is_printable();
-    run_pipeline(alloc, verified.into_design(), passes, gate)
+    run_pipeline(
+        means.rt,
+        means.alloc,
+        verified,
+        passes,
+        means.workers.count,
+        means.gate,
+    )
 }
 
 /// The Verilog of what passes make of an accepted design, of any text that says it, or the refusal of its first header or
 /// operation with an aggregate.
-fn translate<R: Threads + Sync, G: Gate>(
-    rt: &R,
-    alloc: Global,
+fn translate<R: Threads + Sync, G: Gate + Sync>(
+    means: &Means<'_, R, G>,
     verified: Verified,
     passes: &Pipeline,
-    gate: &G,
 ) -> Result<Text, OutcomeFail>
     ensures { (contents : List (List ℕ)) → Accepted (first_input contents) (design_of verified.design) → Gives (verilog passes.now) contents result }
 {
     what_is_canonical_is_printable();
     results_follow();
-    let made = passes_result(alloc, verified, passes, gate)?;
+    let made = passes_result(means, verified, passes)?;
     accepted_designs_are_exportable();
     exported_designs_behave();
-    stored_designs_have_room(&made);
-    export_text(rt, alloc, &made)
+    stored_designs_have_room(made.design());
+    export_text(means, &made)
 }
 
 /// The Verilog text of a design without aggregates, or the refusal of its first header or operation that has one.
-fn export_text<R: Threads + Sync>(
-    rt: &R,
-    alloc: Global,
-    design: &Design,
+fn export_text<R: Threads + Sync, G: Gate + Sync>(
+    means: &Means<'_, R, G>,
+    verified: &Verified,
 ) -> Result<Text, OutcomeFail>
-    requires { IsAccepted (design_of design.now) }
-    ensures { Exports (design_of design.now) result }
+    ensures { Exports (design_of verified.now.design) result }
 {
-    match first_aggregate(alloc, design)? {
+    match first_aggregate(means.alloc, verified.design())? {
         Some(refusal) => Err(OutcomeFail::Refused(refusal)),
-        None => Ok(export_design(rt, alloc, design)?),
+        None => Ok(export(means.rt, means.alloc, verified, means.workers.count)?),
     }
 }
 

@@ -14,7 +14,7 @@ ghost use Rattle.circt_top.specs.Views.{subject_of};
 
 use crate::delivery::{Delivery, deliver};
 use crate::inputs::{Unread, read_inputs};
-use crate::outcome::{OutcomeFail, outcome};
+use crate::outcome::{Means, OutcomeFail, outcome};
 use crate::report::{Subject, report, stop};
 use crate::status::Status;
 use command_line::invocation::{Invocation, LineFail, read_words};
@@ -41,7 +41,9 @@ const PASSES_ON_OFFER: [Pass; 5] = [
 ///
 /// `opt [FILE] [-o FILE]` reads FILE and prints its design as MLIR text, and
 /// `translate [FILE] --export-verilog [-o FILE]` prints it as Verilog, each of the design that the
-/// passes of `--canonicalize`, `--cse`, `--symbol-dce` or of `--pass-pipeline=TEXT` make, if it is given. `opt --split-input-file` does so with each
+/// passes of `--canonicalize`, `--cse`, `--seq-lower-regs`, `--hw-flatten-modules`, `--symbol-dce` or of
+/// `--pass-pipeline=TEXT` make, if it is given, by `--workers N` workers (1 to 64; 4 where nothing is said, one with
+/// `--mlir-disable-threading`). `opt --split-input-file` does so with each
 /// piece of FILE between the lines that are `// -----`, and joins the texts by such lines. All other words are answered by
 /// [`Status::Usage`]. A fault of `err` changes no status.
 pub fn run_circt<R: Threads + Sync, F: Files, O: Sink, E: Sink, G: Gate + Sync>(
@@ -212,7 +214,13 @@ fn answer<R: Threads + Sync, F: Files, O: Sink, G: Gate + Sync>(
     ensures reads { F.read_faults files.new ≡ F.read_faults files.old }
     ensures kinds { IsWorked (end_of result) }
 {
-    match outcome(rt, alloc, &invocation.work, sources, gate) {
+    let means = Means {
+        rt,
+        alloc,
+        workers: invocation.workers,
+        gate,
+    };
+    match outcome(&means, &invocation.work, sources) {
         Ok(text) => match deliver(alloc, output_name(invocation), text.as_bytes(), files, out) {
             Delivery::Whole => Status::Done,
             Delivery::Fault => Status::WriteFault,

@@ -18,3 +18,5 @@ mod runs;
 mod verilog_runs;
 #[cfg(test)]
 mod words;
+#[cfg(test)]
+mod workers;

@@ -2,7 +2,7 @@
 use circt_top::run::run_circt;
 use io_edge::memory_files::{MemoryFile, MemoryFiles};
 use io_edge::memory_sink::MemorySink;
-use pass_manager::gate::Open;
+use pass_manager::gate::{Gate, Open};
 use std::alloc::{AllocError, AllocGlobal, Global};
 use std::thread::Threads;
 
@@ -105,8 +105,19 @@ pub fn run_words(
     input: &str,
     failing: Failing,
 ) -> Result<Ended, AllocError> {
+    run_gated(rt, line, input, failing, &Open)
+}
+
+/// The same with a gate that is told of modules.
+pub fn run_gated(
+    rt: &(impl Threads + Sync + AllocGlobal),
+    line: &str,
+    input: &str,
+    failing: Failing,
+    gate: &(impl Gate + Sync),
+) -> Result<Ended, AllocError> {
     let words = words_of(rt.alloc(), line)?;
-    run_list(rt, words.as_slice(), input, failing)
+    run_at(rt, words.as_slice(), input, failing, gate)
 }
 
 /// The run of these words.
@@ -116,11 +127,22 @@ pub fn run_list(
     input: &str,
     failing: Failing,
 ) -> Result<Ended, AllocError> {
+    run_at(rt, words, input, failing, &Open)
+}
+
+// The run of these words with a gate.
+fn run_at(
+    rt: &(impl Threads + Sync + AllocGlobal),
+    words: &[String],
+    input: &str,
+    failing: Failing,
+    gate: &(impl Gate + Sync),
+) -> Result<Ended, AllocError> {
     let alloc = rt.alloc();
     let mut files = files_of(alloc, input, failing)?;
     let mut out = sink_of(alloc, failing == Failing::Put)?;
     let mut err = sink_of(alloc, failing == Failing::Line)?;
-    let status = run_circt(rt, alloc, words, &mut files, &mut out, &mut err, &Open);
+    let status = run_circt(rt, alloc, words, &mut files, &mut out, &mut err, gate);
     Ok(Ended {
         code: status.code(),
         files,

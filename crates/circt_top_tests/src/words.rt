@@ -8,7 +8,7 @@ const REFUSED_FILE: &str = "a.mlir:1:1: error: 'foo' S3: unknown operation\n";
 const READ_FAULT: &str = "circt: cannot read b.mlir\n";
 
 // Words that are no command.
-const BAD: [&str; 37] = [
+const BAD: [&str; 38] = [
     "",
     "help",
     "--help",
@@ -33,7 +33,8 @@ const BAD: [&str; 37] = [
     "--canonicalize opt",
     "--canonicalize",
     "translate --canonicalise --export-verilog",
-    "opt --workers 4",
+    "opt --workers 65",
+    "opt -workers=04",
     "opt -o",
     "opt -ox.v",
     "opt -o x.v -o x.v",
@@ -85,6 +86,9 @@ const GROUPS: [Group; 23] = [
             "opt -o -",
             "opt -o - a.mlir",
             "opt -- a.mlir",
+            "opt --workers 64",
+            "opt -workers=1 -canonicalize",
+            "opt a.mlir -mlir-disable-threading",
         ],
         input: ADDER,
         failing: Failing::No,
@@ -102,6 +106,7 @@ const GROUPS: [Group; 23] = [
             "translate a.mlir --export-verilog",
             "translate --export-verilog a.mlir",
             "translate - -o - --export-verilog",
+            "translate --workers 2 --export-verilog --mlir-disable-threading",
         ],
         input: ADDER,
         failing: Failing::No,

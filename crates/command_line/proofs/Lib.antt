@@ -1,3 +1,4 @@
 -- Lemmas that several proofs of this crate share.
 pub mod Making
+pub mod Numerals
 pub mod Said

@@ -27,15 +27,27 @@ passes_rule = record (new_rule (codes "passes")) { long = Some (codes "passes") 
 abbrev pub split_rule : Rule
 split_rule = record (new_rule (codes "split-input-file")) { long = Some (codes "split-input-file"); action = Some SetTrue }
 
--- with `[FILE] [-o FILE] [--pass-pipeline=TEXT]`
-abbrev pub with_common : App → App
-with_common a = with_rule (with_rule (with_rule (with_rule a file_rule) output_rule) pipeline_rule) passes_rule
+-- `--workers N`
+abbrev pub workers_rule : Rule
+workers_rule = record (new_rule (codes "workers")) { long = Some (codes "workers") }
 
--- `opt [FILE] [-o FILE] [--pass-pipeline=TEXT] [--split-input-file]`
+-- `--mlir-disable-threading`
+abbrev pub threading_rule : Rule
+threading_rule = record (new_rule (codes "mlir-disable-threading")) { long = Some (codes "mlir-disable-threading"); action = Some SetTrue }
+
+-- with `--workers N` and `--mlir-disable-threading`
+abbrev pub with_workers : App → App
+with_workers a = with_rule (with_rule a workers_rule) threading_rule
+
+-- with `[FILE] [-o FILE] [--pass-pipeline=TEXT] [--workers N] [--mlir-disable-threading]`
+abbrev pub with_common : App → App
+with_common a = with_workers (with_rule (with_rule (with_rule (with_rule a file_rule) output_rule) pipeline_rule) passes_rule)
+
+-- `opt [FILE] [-o FILE] [--pass-pipeline=TEXT] [--workers N] [--mlir-disable-threading] [--split-input-file]`
 abbrev pub opt_app : App
 opt_app = with_rule (with_common (new_app (codes "opt"))) split_rule
 
--- `translate [FILE] --export-verilog [-o FILE] [--pass-pipeline=TEXT]`
+-- `translate [FILE] --export-verilog [-o FILE] [--pass-pipeline=TEXT] [--workers N] [--mlir-disable-threading]`
 abbrev pub translate_app : App
 translate_app = with_rule (with_common (new_app (codes "translate"))) export_rule
 

@@ -19,7 +19,7 @@ work_of (MlirPieces passes) = mlir_pieces passes
 work_of (Verilog passes) = verilog passes
 
 abbrev pub command_of : Invocation → Command
-command_of i = record { inputs = map string_bytes i.inputs.items; output = option_map string_bytes i.output; work = work_of i.work }
+command_of i = record { inputs = map string_bytes i.inputs.items; output = option_map string_bytes i.output; work = work_of i.work; workers = i.workers.count }
 
 -- an answer is what is said, or out of memory
 abbrev pub Says : Result Command UsageKind → Result Invocation LineFail → Type 0

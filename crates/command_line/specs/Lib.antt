@@ -2,6 +2,7 @@
 pub mod Usage
 pub mod Normal
 pub mod Commands
+pub mod Numbers
 pub mod Line
 pub mod Making
 pub mod Invocations

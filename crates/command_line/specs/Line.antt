@@ -1,5 +1,5 @@
 -- What the words of a command line say.
-use Rattle.std.specs.Prelude.{◌-◌, ◌&&◌, Bool, true, false, cond, List, [], ◌∷◌, ◌++◌, Option, Some, None, is_some, Result, Ok, Err, codes, unwrap_or}
+use Rattle.std.specs.Prelude.{ℕ, ◌-◌, ◌&&◌, Bool, true, false, cond, List, [], ◌∷◌, ◌++◌, Option, Some, None, option_map, is_some, Result, Ok, Err, codes, unwrap_or}
 use Rattle.std.specs.Str.{bytes_eq}
 use Rattle.clap.specs.Words.{Row, Text, Kinds, first_of, fault_of, subcommand_of}
 use Rattle.pass_pipeline.specs.Pipelines.{passes}
@@ -8,6 +8,7 @@ use Rattle.pass_pipeline.specs.declared.pipeline.PipelineFail.{PipelineFail}
 use Rattle.pass_pipeline.specs.declared.pipeline.PipelineFail.TheVariants.{UnknownPass, WrongPlace, BadText}
 use Rattle.command_line.specs.Normal.{normal}
 use Rattle.command_line.specs.Commands.{circt_app}
+use Rattle.command_line.specs.Numbers.{number_between}
 use Rattle.command_line.specs.declared.usage.UsageKind.{UsageKind}
 use Rattle.command_line.specs.declared.usage.UsageKind.TheVariants.{Words, TwoPipelines, NoTranslation, Pipeline}
 
@@ -18,11 +19,13 @@ pub data Work : Type 0 where
   mlir_pieces : List Pass → Work
   verilog : List Pass → Work
 
--- a command: the files that it reads, in order, the one that it writes, and its work; `-` is standard input, no file standard output
+-- a command: the files that it reads, in order, the one that it writes, its work, and by how many workers; `-` is standard input, no file
+-- standard output
 pub record Command : Type 0 where
   pub inputs : List Text
   pub output : Option Text
   pub work : Work
+  pub workers : ℕ
 
 -- `-o -` counts as no `-o`
 abbrev pub unless_dash : Option Text → Option Text
@@ -48,6 +51,15 @@ is_true (Some text) = bytes_eq text (codes "true")
 
 abbrev pub is_flagged : Text → List Row → Bool
 is_flagged id rows = is_true (first_of id rows)
+
+-- how many workers are said: one to 64, and four where nothing is said
+abbrev pub workers_said : Option Text → Option ℕ
+workers_said None = Some 4
+workers_said (Some text) = number_between 1 64 text
+
+-- one where threads are not wanted
+abbrev pub workers_in : List Row → Option ℕ
+workers_in rows = option_map (λ n. cond (is_flagged (codes "mlir-disable-threading") rows) 1 n) (workers_said (first_of (codes "workers") rows))
 
 -- the list of flags is read as the items of a pipeline: `builtin.module(`, the list, `)`
 abbrev pub items_text : Text → Text
@@ -98,14 +110,19 @@ work_in offered name rows =
     (cond (bytes_eq name (codes "opt")) (on_passes (mlir_work (is_flagged (codes "split-input-file") rows)) (passes_in offered rows))
     (cond (is_flagged (codes "export-verilog") rows) (on_passes verilog (passes_in offered rows)) (Err NoTranslation)))
 
--- a work with the files that are named
-abbrev pub with_files : List Row → Result Work UsageKind → Result Command UsageKind
-with_files rows (Ok work) = Ok (record { inputs = inputs_in rows; output = output_in rows; work = work })
-with_files rows (Err kind) = Err kind
+-- a work with the files that are named, and workers
+abbrev pub with_files : List Row → ℕ → Result Work UsageKind → Result Command UsageKind
+with_files rows workers (Ok work) = Ok (record { inputs = inputs_in rows; output = output_in rows; work = work; workers = workers })
+with_files rows workers (Err kind) = Err kind
+
+-- a wrong number of workers is wrong first
+abbrev pub by_workers : List Pass → Text → List Row → Option ℕ → Result Command UsageKind
+by_workers offered name rows None = Err Words
+by_workers offered name rows (Some workers) = with_files rows workers (work_in offered name rows)
 
 -- the command of a name with its arguments
 abbrev pub command_in : List Pass → Text → List Row → Result Command UsageKind
-command_in offered name rows = with_files rows (work_in offered name rows)
+command_in offered name rows = by_workers offered name rows (workers_in rows)
 
 abbrev pub require_subcommand : List Pass → Option (Text × List Row) → Result Command UsageKind
 require_subcommand offered None = Err Words

@@ -2,7 +2,7 @@
 use Rattle.std.specs.Prelude.{◌≡◌, false}
 use Rattle.clap.specs.Words.{App, Rule, app_of, with_rule}
 use Rattle.clap.specs.declared.builder.Command.{Command}
-use Rattle.command_line.specs.Commands.{with_common}
+use Rattle.command_line.specs.Commands.{with_common, with_workers}
 use Rattle.clap.specs.declared.builder.Command.TheViews.{out-Command as fields_of}
 
 -- a command of this form, with no argument for all its subcommands
@@ -13,6 +13,11 @@ pub record IsMade (app : App) (c : Command) : Type 0 where
 -- the command with one more argument
 pub record Grows (old : Command) (rule : Rule) (new : Command) : Type 0 where
   pub shape : app_of new ≡ with_rule (app_of old) rule
+  pub globals : (fields_of new).has_globals ≡ (fields_of old).has_globals
+
+-- the command with those on workers
+pub record GrowsWorkers (old new : Command) : Type 0 where
+  pub shape : app_of new ≡ with_workers (app_of old)
   pub globals : (fields_of new).has_globals ≡ (fields_of old).has_globals
 
 -- the command with the arguments that `opt` and `translate` have

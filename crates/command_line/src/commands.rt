@@ -1,8 +1,8 @@
 //! The commands and their arguments.
 ghost use Rattle.std.specs.Prelude.{◌≡◌, IfOk, false, codes};
 ghost use Rattle.clap.specs.Words.{App, app_of, new_app, with_rule};
-ghost use Rattle.command_line.specs.Commands.{file_rule, output_rule, pipeline_rule, passes_rule, export_rule, split_rule, opt_app, translate_app, circt_app, bare};
-ghost use Rattle.command_line.specs.Making.{Grows, GrowsCommon, IsMade};
+ghost use Rattle.command_line.specs.Commands.{file_rule, output_rule, pipeline_rule, passes_rule, export_rule, split_rule, workers_rule, threading_rule, opt_app, translate_app, circt_app, bare};
+ghost use Rattle.command_line.specs.Making.{Grows, GrowsCommon, GrowsWorkers, IsMade};
 
 use clap::{Arg, ArgAction, Command};
 use std::alloc::{AllocError, Global};
@@ -48,7 +48,16 @@ fn common<'a>(alloc: Global, command: Command<'a>) -> Result<Command<'a>, AllocE
     let command = file(alloc, command)?;
     let command = output(alloc, command)?;
     let command = pipeline(alloc, command)?;
-    passes(alloc, command)
+    let command = passes(alloc, command)?;
+    on_workers(alloc, command)
+}
+
+/// The command with the arguments on workers.
+fn on_workers<'a>(alloc: Global, command: Command<'a>) -> Result<Command<'a>, AllocError>
+    ensures { IfOk result (GrowsWorkers command.entry) }
+{
+    let command = workers(alloc, command)?;
+    threading(alloc, command)
 }
 
 /// The command with FILE.
@@ -92,5 +101,20 @@ fn export<'a>(alloc: Global, command: Command<'a>) -> Result<Command<'a>, AllocE
     ensures { IfOk result (Grows command.entry export_rule) }
 {
     let flag = Arg::new(alloc, "export-verilog").long("export-verilog");
+    command.arg(flag.action(ArgAction::SetTrue))
+}
+
+/// The command with `--workers N`.
+fn workers<'a>(alloc: Global, command: Command<'a>) -> Result<Command<'a>, AllocError>
+    ensures { IfOk result (Grows command.entry workers_rule) }
+{
+    command.arg(Arg::new(alloc, "workers").long("workers"))
+}
+
+/// The command with `--mlir-disable-threading`.
+fn threading<'a>(alloc: Global, command: Command<'a>) -> Result<Command<'a>, AllocError>
+    ensures { IfOk result (Grows command.entry threading_rule) }
+{
+    let flag = Arg::new(alloc, "mlir-disable-threading").long("mlir-disable-threading");
     command.arg(flag.action(ArgAction::SetTrue))
 }

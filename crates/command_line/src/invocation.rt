@@ -1,14 +1,15 @@
 //! What the words of a command line say.
-ghost use Rattle.std.specs.Prelude.{◌≡◌, IfOk, map, string_bytes, option_map, [], Some, Ok, Err};
+ghost use Rattle.std.specs.Prelude.{◌≡◌, IfOk, map, string_bytes, option_map, codes, [], Some, Ok, Err};
 ghost use Rattle.clap.specs.Words.{found_of, rows_of, first_of, fault_of, subcommand_of, subcommand_rows_of, FailsBy};
 ghost use Rattle.pass_pipeline.specs.Pipelines.{passes};
 ghost use Rattle.command_line.specs.Commands.{circt_app};
-ghost use Rattle.command_line.specs.Line.{line, parse, input_in, inputs_in, output_in, items_text, in_items, in_pipeline, in_list, passes_in, is_given_twice, mlir_work, work_in, is_flagged, command_in};
+ghost use Rattle.command_line.specs.Line.{line, parse, input_in, inputs_in, output_in, items_text, in_items, in_pipeline, in_list, passes_in, is_given_twice, mlir_work, work_in, is_flagged, workers_said, workers_in, command_in};
 ghost use Rattle.command_line.specs.Invocations.{command_of, work_of, Says, SaysWork, SaysPasses, IsFault};
 
 use crate::commands::circt_command;
 use crate::normalise::{WordsFail, normalise};
 use crate::usage::UsageKind;
+use crate::workers::Workers;
 use clap::ArgMatches;
 use clap::error::ErrorKind;
 use pass_pipeline::pass::Pass;
@@ -35,6 +36,8 @@ pub struct Invocation {
     pub output: Option<String>,
     /// What is made of the inputs.
     pub work: Work,
+    /// How many workers work modules.
+    pub workers: Workers,
 }
 
 /// Why words were not answered by an invocation.
@@ -59,7 +62,8 @@ impl From<AllocError> for LineFail {
 
 /// What the words after the program's name say, which may name the passes of `offered`.
 ///
-/// Words are wrong for the first of these causes: they are no command with its arguments, passes
+/// Words are wrong for the first of these causes: they are no command with its arguments, the
+/// number of workers is none of 1 to 64 in decimal digits without a leading zero, passes
 /// are given both by flags and by a pipeline, no translation is named, the text of a pipeline is
 /// none.
 pub fn read_words(alloc: Global, words: &[String], offered: &[Pass]) -> Result<Invocation, LineFail>
@@ -109,12 +113,38 @@ fn command_in(
 ) -> Result<Invocation, LineFail>
     ensures { Says (command_in offered.now name.now (rows_of (found_of matches.now))) result }
 {
+    let Some(workers) = workers_in(matches) else {
+        return Err(LineFail::Usage(UsageKind::Words));
+    };
     let work = work_in(alloc, name, matches, offered)?;
     Ok(Invocation {
         inputs: inputs_in(alloc, matches)?,
         output: output_in(alloc, matches)?,
         work,
+        workers,
     })
+}
+
+/// How many workers are to work modules: as many as are said, or the usual number; one where threads are not wanted.
+fn workers_in(matches: &ArgMatches<'_>) -> Option<Workers>
+    ensures { option_map (λ w. w.count) result ≡ workers_in (rows_of (found_of matches.now)) }
+{
+    let workers = workers_said(matches)?;
+    if is_flagged(matches, "mlir-disable-threading") {
+        Some(Workers::one())
+    } else {
+        Some(workers)
+    }
+}
+
+/// As many as are said, or the usual number.
+fn workers_said(matches: &ArgMatches<'_>) -> Option<Workers>
+    ensures { option_map (λ w. w.count) result ≡ workers_said (first_of (codes "workers") (rows_of (found_of matches.now))) }
+{
+    match value(matches, "workers") {
+        Some(text) => Workers::read(text),
+        None => Some(Workers::usual()),
+    }
 }
 
 /// The work of a command of this name.

@@ -4,4 +4,6 @@
 mod commands;
 pub mod invocation;
 pub mod normalise;
+mod numbers;
 pub mod usage;
+pub mod workers;

@@ -4,3 +4,4 @@ pub mod names
 pub mod behaviour
 pub mod checks
 pub mod accepted
+pub mod Sharing

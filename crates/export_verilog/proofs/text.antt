@@ -4,6 +4,7 @@ pub mod ItemRests
 pub mod Joining
 pub mod Listed
 pub mod ModuleParts
+pub mod ModuleTextLists
 pub mod OutputItems
 pub mod RegisterItems
 pub mod Rests

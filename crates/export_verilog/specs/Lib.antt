@@ -2,6 +2,7 @@
 pub mod Identifiers
 pub mod Exported
 pub mod Layout
+pub mod ModuleTextLists
 pub mod Exportable
 pub mod Behaviour
 pub mod Aggregates

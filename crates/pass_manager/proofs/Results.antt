@@ -1,6 +1,7 @@
 -- What lists of passes make of a design.
-use Rattle.std.proofs.Common.{◌≡◌, ℕ, ◌+◌, ◌<◌, List, [], ◌∷◌, ◌++◌, length, drop, get_or, Some, slice_get, refl, sym, subst, ◌∙◌, add-one}
+use Rattle.std.proofs.Common.{◌≡◌, ℕ, ◌+◌, ◌<◌, ◌≤◌, List, [], ◌∷◌, ◌++◌, length, drop, get_or, Some, slice_get, refl, sym, subst, ◌∙◌, add-one}
 use Rattle.std.proofs.Math.Seq.{drop-cons}
+use Rattle.std.proofs.lemmas.List.{drop_all}
 use Rattle.hw_model.specs.Design.{Op, Module, Design}
 use Rattle.hw_edits.specs.Laws.{with_body}
 use Rattle.op_verifier.specs.Verdict.{IsAccepted}
@@ -115,3 +116,9 @@ result_once (pass ∷ passes) d e f (g, first, rest) (h, same, others) =
 -- the passes from one on: that one, and those after it
 pub from_one : (passes : List Pass) (i : ℕ) (d : Pass) → i < length passes → drop i passes ≡ get_or passes i d ∷ drop (i + 1) passes
 from_one passes i d within = rw add-one (drop-cons passes i d within)
+
+-- once no pass is left, what was made is the result
+pub result_of : (passes items : List Pass) (d start end : Design) (index : ℕ) → items ≡ passes → start ≡ d → length items ≤ index
+    → ((f : Design) → IsResult (drop index items) end f → IsResult items start f) → IsResult passes d end
+result_of passes items d start end index same from done leads =
+    subst (λ (z : List Pass × Design). IsResult z.0 z.1 end) (λ k. (same k, from k)) (leads end (subst (λ z. IsResult z end end) (sym (drop_all index items done)) refl))

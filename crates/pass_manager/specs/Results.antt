@@ -1,7 +1,6 @@
 -- What passes make of a design (MLIR documentation, "Pass infrastructure"; CIRCT documentation, "Passes").
-use Rattle.std.specs.Prelude.{◌≡◌, ℕ, Bool, true, false, cond, List, [], ◌∷◌, Some, slice_get, ⊤}
+use Rattle.std.specs.Prelude.{◌≡◌, Bool, true, false, cond, List, [], ◌∷◌, ⊤}
 use Rattle.hw_model.specs.Design.{Op, Module, Design}
-use Rattle.hw_edits.specs.Laws.{with_body}
 use Rattle.canonicalise.specs.Canonical.{IsCanonicalOf}
 use Rattle.cse_pass.specs.Cse.{IsCseOf}
 use Rattle.inline_pass.specs.DeadModules.{IsWithoutDead}
@@ -23,14 +22,6 @@ AreModulesBy Makes [] [] = ⊤
 AreModulesBy Makes (m ∷ d) (n ∷ e) = IsModuleBy Makes m n × AreModulesBy Makes d e
 AreModulesBy Makes [] (n ∷ e) = ⊥
 AreModulesBy Makes (m ∷ d) [] = ⊥
-
--- the design with what is made of the body of the module at a position
-pub record HasMadeAt (Makes : List Op → List Op → Type 0) (k : ℕ) (d e : Design) : Type 0 where
-  pub owner : Module
-  pub there : slice_get d k ≡ Some owner
-  pub ops : List Op
-  pub made : Makes owner.body ops
-  pub is : e ≡ with_body d k owner ops
 
 -- ---- lists of passes
 

@@ -8,21 +8,18 @@ use std::alloc::{AllocError, Global};
 
 /// A pass that works on bodies (MLIR documentation, "Pass infrastructure": operation passes).
 pub trait BodyPass {
-    ghost use Rattle.std.specs.Prelude.{◌≡◌, ℕ, List, Some, slice_get, OnOk};
-    ghost use Rattle.hw_model.specs.Design.{Op, Module, Design};
-    ghost use Rattle.hw_edits.specs.Laws.{with_body};
-    ghost use Rattle.accepted_edits.specs.Keeps.{IsFit};
+    ghost use Rattle.std.specs.Prelude.{List, OnOk};
+    ghost use Rattle.hw_model.specs.Design.{Op};
     ghost use Rattle.body_edits.specs.FitBodies.{IsOfFit};
     ghost use Rattle.body_edits.specs.Views.{body_ops};
 
     // What it makes of a body.
     ghost makes: { List Op → List Op → Type 0 };
 
-    /// Works on a body. The error comes only when out of memory. A fit design stays so.
+    /// Works on a body. The error comes only when out of memory.
     fn run(alloc: Global, body: &mut Body) -> Result<(), AllocError>
         requires { IsOfFit body.old }
-        ensures made { OnOk result (makes (body_ops body.old) (body_ops body.new)) }
-        ensures fit { OnOk result ((d : Design) (k : ℕ) (m : Module) → IsFit d → slice_get d k ≡ Some m → m.body ≡ body_ops body.old → IsFit (with_body d k m (body_ops body.new))) };
+        ensures { OnOk result (makes (body_ops body.old) (body_ops body.new)) };
 }
 
 /// `canonicalize`: each body gets its canonical form.

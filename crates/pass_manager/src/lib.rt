@@ -1,7 +1,10 @@
 //! Passes over a design: what a list of them makes of it.
 #![tactic(auto)]
 
+mod bodies;
 pub mod body_pass;
+mod body_work;
+mod callees;
 pub mod gate;
 mod laws;
 pub mod run;

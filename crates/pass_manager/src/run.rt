@@ -1,53 +1,71 @@
 //! Runs of passes over a design.
-ghost use Rattle.std.specs.Prelude.{◌≡◌, ◌<◌, length, IfOk, OnOk};
-ghost use Rattle.ir_store.specs.Designs.{design_of, modules_of};
+ghost use Rattle.std.specs.Prelude.{◌≡◌, ◌≤◌, IfOk, OnOk};
+ghost use Rattle.ir_store.specs.Designs.{design_of};
 ghost use Rattle.accepted_edits.specs.Keeps.{IsFit};
-ghost use Rattle.op_verifier.specs.Verdict.{IsAccepted};
-ghost use Rattle.mlir_printer.specs.Printable.{Printable};
-ghost use Rattle.pass_manager.specs.Results.{AreModulesBy, HasMadeAt, IsChosen, IsResult};
+ghost use Rattle.pass_manager.specs.Results.{AreModulesBy, IsChosen, IsResult};
 
+use crate::bodies::{put_bodies, take_bodies};
 use crate::body_pass::{BodyPass, CanonicalForm, CommonSubexpressions, LoweredRegisters};
+use crate::body_work::{Bodies, BodyWork};
+use crate::callees::callee_lists;
 use crate::gate::Gate;
 use inline_pass::dead_modules::symbol_dce;
 use inline_pass::flattening::flatten_modules;
 use ir_store::design::Design;
+use op_verifier::Verified;
 use pass_pipeline::pass::Pass;
 use pass_pipeline::pipeline::Pipeline;
+use shared_schedule::run_modules;
 use std::alloc::{AllocError, Global};
+use std::marker::PhantomData;
+use std::snapshot::Snapshot;
+use std::thread::Threads;
 
-/// What the passes of a pipeline make of a design of which nothing is refused, one pass after another, and of each one module
-/// after another. `gate` is told of each module before a pass works on it. The error comes only when out of memory, and the
-/// design is dropped then.
-pub fn run_pipeline<G: Gate>(
+/// What the passes of a pipeline make of a design of which nothing is refused, one pass after another, for any number of
+/// workers, 1 to 64. A pass on bodies works each module by itself after those that it instances, on whichever worker comes to
+/// it; passes on modules work on the caller alone. `gate` is told of each module before a pass works on its body. The error
+/// comes only when out of memory, and the design is dropped then.
+pub fn run_pipeline<R: Threads + Sync, G: Gate + Sync>(
+    rt: &R,
     alloc: Global,
-    mut design: Design,
+    design: Verified,
     pipeline: &Pipeline,
+    workers: u32,
     gate: &G,
-) -> Result<Design, AllocError>
-    requires accepted { IsAccepted (design_of design) }
-    requires printable { Printable (design_of design) }
-    ensures { IfOk result (λ done. IsResult pipeline.now (design_of design) (design_of done)) }
+) -> Result<Verified, AllocError>
+    requires one { 1 ≤ workers }
+    requires few { workers ≤ 64 }
+    ensures { IfOk result (λ done. IsResult pipeline.now (design_of design.design) (design_of done.design)) }
 {
+    let mut made = design.into_design();
     for pass in pipeline.as_slice() {
-        run_pass(alloc, &mut design, *pass, gate)?;
+        run_pass(rt, alloc, &mut made, *pass, workers, gate)?;
     }
-    Ok(design)
+    Ok(Verified::new(made))
 }
 
 /// One pass.
-fn run_pass<G: Gate>(
+fn run_pass<R: Threads + Sync, G: Gate + Sync>(
+    rt: &R,
     alloc: Global,
     design: &mut Design,
     pass: Pass,
+    workers: u32,
     gate: &G,
 ) -> Result<(), AllocError>
-    requires { IsFit (design_of design.old) }
+    requires fit { IsFit (design_of design.old) }
+    requires one { 1 ≤ workers }
+    requires few { workers ≤ 64 }
     ensures { OnOk result (IsChosen pass (design_of design.old) (design_of design.new)) }
 {
     match pass {
-        Pass::Canonicalize => change_bodies::<CanonicalForm, G>(alloc, design, gate),
-        Pass::Cse => change_bodies::<CommonSubexpressions, G>(alloc, design, gate),
-        Pass::SeqLowerRegs => change_bodies::<LoweredRegisters, G>(alloc, design, gate),
+        Pass::Canonicalize => change_bodies::<R, CanonicalForm, G>(
+            rt, alloc, design, workers, gate,
+        ),
+        Pass::Cse => change_bodies::<R, CommonSubexpressions, G>(rt, alloc, design, workers, gate),
+        Pass::SeqLowerRegs => change_bodies::<R, LoweredRegisters, G>(
+            rt, alloc, design, workers, gate,
+        ),
         Pass::HwFlattenModules => flatten_modules(alloc, design),
         Pass::SymbolDce => symbol_dce(alloc, design),
         Pass::HwLowerAggregates => Ok(()),
@@ -55,34 +73,26 @@ fn run_pass<G: Gate>(
 }
 
 /// Has a pass work on the body of each module.
-fn change_bodies<P: BodyPass, G: Gate>(
+fn change_bodies<R: Threads + Sync, P: BodyPass + Sync, G: Gate + Sync>(
+    rt: &R,
     alloc: Global,
     design: &mut Design,
+    workers: u32,
     gate: &G,
 ) -> Result<(), AllocError>
-    requires { IsFit (design_of design.old) }
+    requires fit { IsFit (design_of design.old) }
+    requires one { 1 ≤ workers }
+    requires few { workers ≤ 64 }
     ensures { OnOk result (AreModulesBy P.makes (design_of design.old) (design_of design.new)) }
 {
-    for number in 0..design.module_count() {
-        gate.enter(number);
-        change_body::<P>(alloc, design, number)?;
-    }
-    Ok(())
-}
-
-/// Has a pass work on the body of the module of a number.
-fn change_body<P: BodyPass>(
-    alloc: Global,
-    design: &mut Design,
-    number: u32,
-) -> Result<(), AllocError>
-    requires within { number < length (modules_of design.old) }
-    requires fit { IsFit (design_of design.old) }
-    ensures made { OnOk result (HasMadeAt P.makes number (design_of design.old) (design_of design.new)) }
-    ensures fit { OnOk result (IsFit (design_of design.new)) }
-{
-    let mut body = design.take_body(number);
-    P::run(alloc, &mut body)?;
-    design.put_body(number, body);
+    let callees = callee_lists(alloc, design)?;
+    let bodies = take_bodies(alloc, design)?;
+    let pieces = Bodies::<P> {
+        before: Snapshot::of(&bodies),
+        pass: PhantomData,
+    };
+    let work = BodyWork { gate };
+    let done = run_modules(rt, alloc, pieces, callees, bodies, workers, &work)?;
+    put_bodies(design, done);
     Ok(())
 }

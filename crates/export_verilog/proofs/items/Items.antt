@@ -6,7 +6,7 @@ use Rattle.hw_model.specs.Types.{width}
 use Rattle.hw_model.specs.Kinds.{Instance}
 use Rattle.hw_model.specs.Design.{Ref, Port, OpResult, Op, Module, Design, find_module, instance_in, result_type, output_refs}
 use Rattle.hw_model.specs.Design.Ref.{result}
-use Rattle.hw_model.specs.Flat.{width_of, input_count, Register, ResetBy, register_in, async_reset_in}
+use Rattle.hw_model.specs.Flat.{width_of, input_count, Register, register_in, async_reset_in}
 use Rattle.verilog_model.specs.Tree.{Expr, Connection, Item}
 use Rattle.verilog_model.specs.Tree.Expr.{name}
 use Rattle.verilog_model.specs.Tree.Item.{wire, reg, assign, always, instance}

@@ -1,5 +1,5 @@
 -- The names of the ports of one module more.
-use Rattle.std.proofs.Common.{◌≡◌, ◌⊎◌, inl, inr, ℕ, zero, suc, List, [], ◌∷◌, ◌++◌, length, slice_get, Some, refl, sym, ◌∙◌, ap, subst}
+use Rattle.std.proofs.Common.{◌≡◌, ◌⊎◌, inl, inr, ℕ, suc, List, [], ◌∷◌, ◌++◌, length, slice_get, Some, refl, sym, ◌∙◌, ap, subst}
 use Rattle.hw_model.specs.Design.{Module, Design}
 use Rattle.export_verilog.specs.declared.named_design.PortNames.{PortNames}
 use Rattle.export_verilog.specs.NamedDesigns.{ArePortsOf}

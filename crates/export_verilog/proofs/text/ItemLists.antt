@@ -1,5 +1,5 @@
 -- The items of a body, added operation after operation, and the items of a module, added part after part.
-use Rattle.std.proofs.Common.{◌≡◌, ℕ, suc, ◌+◌, ◌<◌, ◌≤◌, List, [], ◌++◌, length, map, drop, get_or, slice_get, Some, refl, sym, ◌∙◌, ap, subst, arith}
+use Rattle.std.proofs.Common.{◌≡◌, ℕ, suc, ◌+◌, ◌≤◌, List, [], ◌++◌, length, drop, slice_get, Some, refl, sym, ◌∙◌, ap, arith}
 use Rattle.std.proofs.lemmas.List.{append-nil, drop_all}
 use Rattle.wiring.proofs.Lists.{drop_some}
 use Rattle.verilog_model.specs.Tree.{Item}

@@ -1,18 +1,29 @@
-use Rattle.std.proofs.Common.{arith}
-use Rattle.std.proofs.lemmas.List.{length-map}
-use Rattle.ir_store.specs.Designs.{design_of, modules_of, numbered_module}
-use Rattle.pass_manager.proofs.ChangedBodies.{so_far_begins, so_far_goes_on, so_far_ends}
+use Rattle.std.proofs.Common.{length, ap, subst, sym, ◌∙◌}
+use denote.Param.Send.{sendable}
+use Rattle.ir_store.specs.Designs.{modules_of}
+use Rattle.thread_laws.proofs.Bodies.{body_send}
+use Rattle.pass_manager.specs.Works.{IsFirst, IsMade}
+use Rattle.pass_manager.proofs.AllBodies.{all_made, each_first, count_taken, count_emptied}
 use Rattle.pass_manager.proofs.run.change_bodies.Goals as goal
 
-pub loop-number-init : goal.loop-number-init
-loop-number-init g c = so_far_begins g.P.BodyPass.makes (design_of c.args.design.now) c.requires
+pub run_modules-requires-send-P-Body : goal.run_modules-requires-send-P-Body
+run_modules-requires-send-P-Body g c κs within = search (sendable, body_send) depth 40 fits 20000
 
-pub loop-number-preserved : goal.loop-number-preserved
-loop-number-preserved g c =
-    so_far_goes_on g.P.BodyPass.makes (design_of c.args.design.now) (design_of c.loop-number.design) (design_of c.change_body.new.design) c.loop-number.number c.loop-number.invariant
-    c.in_ok-change_body.ensures.made c.in_ok-change_body.ensures.fit
+pub run_modules-requires-clause-bodies : goal.run_modules-requires-clause-bodies
+run_modules-requires-clause-bodies g c κs within = count_taken (modules_of c.args.design.now) c.in_ok-bodies.bodies.items c.in_ok-bodies.ensures.bodies ∙ sym c.in_ok-callees.ensures.count
+
+pub run_modules-requires-clause-first : goal.run_modules-requires-clause-first
+run_modules-requires-clause-first g c κs within m b at =
+    subst (λ before. IsFirst before.items m b) (sym c.of.ensures)
+    (each_first (modules_of c.args.design.now) c.in_ok-bodies.bodies.items c.requires.fit c.in_ok-bodies.ensures.bodies m b at)
+
+pub put_bodies-requires : goal.put_bodies-requires
+put_bodies-requires g c =
+    c.in_ok-done.ensures.len ∙ c.in_ok-callees.ensures.count ∙ sym (ap length c.in_ok-bodies.ensures.modules ∙ count_emptied (modules_of c.args.design.now))
 
 pub returns : goal.returns
 returns g c =
-    so_far_ends g.P.BodyPass.makes (design_of c.args.design.now) (design_of c.loop-number.design) c.loop-number.number
-    (omega (arith, c.loop-number-test.false, c.module_count-number-end.ensures, length-map (modules_of c.args.design.now) numbered_module)) c.loop-number.invariant
+    all_made g.P.BodyPass.makes (modules_of c.args.design.now) (modules_of c.take_bodies.new.design) (modules_of c.put_bodies.new.design) c.in_ok-bodies.bodies.items c.in_ok-done.done.items
+    c.in_ok-bodies.ensures.bodies c.in_ok-bodies.ensures.modules
+    (c.in_ok-done.ensures.len ∙ c.in_ok-callees.ensures.count ∙ sym (count_taken (modules_of c.args.design.now) c.in_ok-bodies.bodies.items c.in_ok-bodies.ensures.bodies))
+    (λ i b at. subst (λ before. IsMade g.P.BodyPass.makes before.items i b) c.of.ensures (c.in_ok-done.ensures.finished i b at)) c.put_bodies.ensures

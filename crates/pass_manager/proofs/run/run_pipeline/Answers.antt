@@ -1,17 +1,39 @@
-use Rattle.std.proofs.Common.{sym, subst}
-use Rattle.ir_store.specs.Designs.{design_of}
+use Rattle.std.proofs.Common.{sym, subst, ap}
+use Rattle.ir_store.specs.Designs.{design_of, numbered_module}
+use Rattle.std.specs.Prelude.{map}
 use Rattle.accepted_edits.proofs.Accepted.{accepted_fit}
+use Rattle.accepted_edits.specs.Keeps.{IsFit}
+use Rattle.pass_manager.proofs.CanonicalAgain.{canonical_again}
+use Rattle.mlir_printer.proofs.printable.VerifiedDesigns.{canonical_designs_are_printable}
 use Rattle.pass_manager.specs.Results.{IsResult}
-use Rattle.pass_manager.proofs.Results.{chosen_fit, from_one}
+use Rattle.pass_manager.proofs.Results.{chosen_fit, from_one, result_of, result_is_after}
 use Rattle.pass_manager.proofs.run.run_pipeline.Goals as goal
 
 pub loop-pass-init : goal.loop-pass-init
-loop-pass-init g c = (accepted_fit (design_of c.args.design) c.requires.accepted c.requires.printable, λ f is. is)
+loop-pass-init g c =
+    let d = design_of c.args.design.design in
+    let printable = canonical_designs_are_printable d c.args.design.accepted c.args.design.canonical in
+    (subst IsFit (sym (ap (map numbered_module) c.into_design-made.ensures)) (accepted_fit d c.args.design.accepted printable), λ f is. is)
 
 pub loop-pass-preserved : goal.loop-pass-preserved
 loop-pass-preserved g c = (
-  chosen_fit _ (design_of c.loop-pass.design) (design_of c.run_pass.new.design) c.loop-pass.invariant.0 c.in_ok-run_pass.ensures,
+  chosen_fit _ (design_of c.loop-pass.made) (design_of c.run_pass.new.design) c.loop-pass.invariant.0 c.in_ok-run_pass.ensures,
   λ f is. c.loop-pass.invariant.1 f
-      (subst (λ z. IsResult z (design_of c.loop-pass.design) f) (sym (from_one c.as_slice-pass-items.result.now c.loop-pass.pass-index _ c.loop-pass-test.true))
+      (subst (λ z. IsResult z (design_of c.loop-pass.made) f) (sym (from_one c.as_slice-pass-items.result.now c.loop-pass.pass-index _ c.loop-pass-test.true))
       (design_of c.run_pass.new.design, c.in_ok-run_pass.ensures, is)),
 )
+
+pub new-requires : goal.new-requires
+new-requires g c =
+    let d = design_of c.args.design.design in
+    let after = result_is_after c.args.pipeline.now d (design_of c.loop-pass.made) c.args.design.accepted (canonical_designs_are_printable d c.args.design.accepted c.args.design.canonical)
+    (result_of c.args.pipeline.now c.as_slice-pass-items.result.now d (design_of c.into_design-made.result) (design_of c.loop-pass.made) c.loop-pass.pass-index
+    c.as_slice-pass-items.ensures (ap (map numbered_module) c.into_design-made.ensures) c.loop-pass-test.false c.loop-pass.invariant.1) in
+    record { accepted = after.accepted; canonical = canonical_again (design_of c.loop-pass.made) after.accepted after.printable }
+
+pub returns : goal.returns
+returns g c =
+    let d = design_of c.args.design.design in
+    subst (IsResult c.args.pipeline.now d) (sym (ap (map numbered_module) c.new.ensures))
+    (result_of c.args.pipeline.now c.as_slice-pass-items.result.now d (design_of c.into_design-made.result) (design_of c.loop-pass.made) c.loop-pass.pass-index
+    c.as_slice-pass-items.ensures (ap (map numbered_module) c.into_design-made.ensures) c.loop-pass-test.false c.loop-pass.invariant.1)

@@ -7,4 +7,4 @@ use Rattle.pass_manager.proofs.run.run_pipeline.Given as goal
 
 abbrev pub invariant-loop-pass : goal.invariant-loop-pass
 invariant-loop-pass g l =
-    IsFit (design_of l.design) × ((f : Design) → IsResult (drop l.pass-index l.pass-items) (design_of l.design) f → IsResult l.pass-items (design_of l.initial.design) f)
+    IsFit (design_of l.made) × ((f : Design) → IsResult (drop l.pass-index l.pass-items) (design_of l.made) f → IsResult l.pass-items (design_of l.initial.made) f)

@@ -1,0 +1,71 @@
+//! Passes by several workers.
+use crate::runs::{Failing, run_gated};
+use pass_manager::gate::Gate;
+use std::alloc::{AllocError, AllocGlobal};
+use std::sync::atomic::{AtomicU64, Ordering};
+use std::test::Fail;
+use std::thread::Threads;
+
+/// A design of two modules, neither of which instances the other.
+const TWO: &str = "hw.module @A(in %a : i8, out c : i8) {
+  hw.output %a : i8
+}
+hw.module @B(in %a : i8, out c : i8) {
+  hw.output %a : i8
+}
+";
+
+/// How often the first worker looks whether another one has come.
+const TURNS: u32 = 100_000_000;
+
+/// A gate that holds the first worker until another one has come.
+#[derive(Drop)]
+struct Meeting {
+    came: AtomicU64,
+    met: AtomicU64,
+}
+
+impl Gate for Meeting {
+    fn enter(&self, _module: u32) {
+        if self.came.fetch_add(1, Ordering::SeqCst) == 0 {
+            self.wait();
+        }
+    }
+}
+
+impl Meeting {
+    fn new() -> Meeting {
+        Meeting {
+            came: AtomicU64::new(0),
+            met: AtomicU64::new(0),
+        }
+    }
+
+    fn wait(&self) {
+        for _ in 0..TURNS {
+            if self.came.load(Ordering::SeqCst) > 1 {
+                self.met.store(1, Ordering::SeqCst);
+                return;
+            }
+        }
+    }
+}
+
+// Whether two workers were at work at once.
+fn two_meet(rt: &(impl Threads + Sync + AllocGlobal), line: &str) -> Result<bool, AllocError> {
+    let meeting = Meeting::new();
+    let ended = run_gated(rt, line, TWO, Failing::No, &meeting)?;
+    Ok(ended.code == 0 && meeting.met.load(Ordering::SeqCst) == 1)
+}
+
+#[test]
+fn two_workers_are_at_work_at_once(rt: HostRuntime) -> Result<(), Fail> {
+    assert!(rt; two_meet(&rt, "opt --cse --workers 2")?);
+    Ok(())
+}
+
+#[test]
+fn one_worker_is_alone(rt: HostRuntime) -> Result<(), Fail> {
+    assert!(rt; !two_meet(&rt, "opt --cse --workers 2 --mlir-disable-threading")?);
+    Ok(())
+}

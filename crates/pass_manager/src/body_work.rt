@@ -1,0 +1,51 @@
+//! The work of a pass on the bodies of a design.
+
+use crate::body_pass::BodyPass;
+use crate::gate::Gate;
+use ir_store::body::Body;
+use shared_schedule::{Pieces, Work};
+use std::alloc::{AllocError, Global};
+use std::marker::PhantomData;
+use std::snapshot::Snapshot;
+
+/// The bodies of a design, of which a pass makes others.
+#[derive(Drop)]
+pub(crate) struct Bodies<P> {
+    /// The bodies before the pass, for clauses alone.
+    pub(crate) before: Snapshot<Vec<Body>>,
+    pub(crate) pass: PhantomData<P>,
+}
+
+impl<P: BodyPass> Pieces for Bodies<P> {
+    ghost use Rattle.std.specs.Prelude.{◌≡◌, None};
+    ghost use Rattle.pass_manager.specs.Works.{IsFirst, IsMade};
+
+    type Body = Body;
+
+    ghost first = { λ pieces m body. IsFirst pieces.before.value.items m body };
+
+    ghost finished = { λ pieces m body. IsMade P.makes pieces.before.value.items m body };
+
+    ghost copied = { λ pieces m copy. copy ≡ None };
+}
+
+/// What a worker does with a module: it tells the gate, and has the pass work on the body.
+#[derive(Drop)]
+pub(crate) struct BodyWork<'g, G> {
+    pub(crate) gate: &'g G,
+}
+
+impl<P: BodyPass, G: Gate> Work<Bodies<P>> for BodyWork<'_, G> {
+    fn work(
+        &self,
+        alloc: Global,
+        _pieces: &Bodies<P>,
+        m: u32,
+        body: Body,
+    ) -> Result<Body, AllocError> {
+        self.gate.enter(m);
+        let mut body = body;
+        P::run(alloc, &mut body)?;
+        Ok(body)
+    }
+}
