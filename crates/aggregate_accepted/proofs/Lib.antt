@@ -1,0 +1,24 @@
+-- Lemmas.
+pub mod Borrowed
+pub mod IndexBits
+pub mod LiteralTypes
+pub mod LiteralNumbers
+pub mod NameBytes
+pub mod Regular
+pub mod LeafTypes
+pub mod ResultValues
+pub mod MadeKinds
+pub mod MadeOps
+pub mod MadeRows
+pub mod CastRows
+pub mod SpreadRows
+pub mod LoweredModules
+pub mod LoweredConstants
+pub mod LoweredBlocks
+pub mod LoweredPorts
+pub mod LoweredResets
+pub mod LoweredFit
+pub mod WiresOut
+pub mod PieceWeights
+pub mod LoweredWeights
+pub mod AcceptedLowered

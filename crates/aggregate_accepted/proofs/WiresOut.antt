@@ -1,0 +1,196 @@
+-- The wires of operations that only join or take apart are taken out of a lowered design: it follows, and stays fit.
+use Rattle.std.proofs.Common.{◌≡◌, ℕ, ◌+◌, Bool, true, false, cond, List, [], ◌∷◌, ◌++◌, length, map, set, Some, slice_get, refl, sym, ap, subst, ◌∙◌, inl, inr, append_assoc, length-append}
+use Rattle.std.proofs.lemmas.List.{length-map, map-append}
+use Rattle.std.proofs.lemmas.Option.{slice_get_within}
+use Rattle.wiring.specs.Wiring.{In}
+use Rattle.wiring.proofs.Lists.{slice_get-append_at, slice_get-set_same, set_some}
+use Rattle.wiring.proofs.Members.{position_of_In, from_In-map}
+use Rattle.hw_model.specs.Types.{Name}
+use Rattle.hw_model.specs.Kinds.{Kind}
+use Rattle.hw_model.specs.Kinds.ArrayOp.{array_create, array_concat}
+use Rattle.hw_model.specs.Kinds.StructOp.{struct_create, struct_extract, struct_inject, struct_explode}
+use Rattle.hw_model.specs.Kinds.Kind.{on_array, on_struct, wire}
+use Rattle.hw_model.specs.Value.{fields, nth_type}
+use Rattle.hw_model.specs.Design.{Ref, Port, Op, Module, Design}
+use Rattle.hw_edits.specs.Edit.{retarget}
+use Rattle.hw_edits.specs.Follows.{Follows}
+use Rattle.hw_edits.specs.Laws.{with_body}
+use Rattle.hw_edits.proofs.Follows.{follows_then, follows_self}
+use Rattle.accepted_edits.specs.Keeps.{IsFit}
+use Rattle.inline_laws.specs.Unwire.{unwire}
+use Rattle.inline_laws.proofs.WithoutWires.{IsBareWire, Others, bare_retarget, others_stay, set_twice, unwire_all_preserves}
+use Rattle.aggregate_laws.specs.Leaves.{part}
+use Rattle.aggregate_laws.specs.Rules.{Rules, count_by, blocks, lowered_module}
+use Rattle.aggregate_laws.specs.Rows.{made_op, all_leaves, for_each, joined_parts, argument, field_parts, with_field_parts}
+use Rattle.aggregate_laws.specs.Aggregates.{row_of, aggregate_rules}
+use Rattle.aggregate_laws.proofs.Blocks.{block_by}
+use Rattle.aggregate_accepted.specs.Names.{NamesPorts, NamesInstances}
+use Rattle.aggregate_accepted.specs.Joins.{only_joins, without_joins, joined_module, joined_design}
+use Rattle.aggregate_accepted.proofs.Borrowed.{fit_without_wires}
+use Rattle.aggregate_accepted.proofs.MadeRows.{from_for_each}
+use Rattle.aggregate_accepted.proofs.LoweredModules.{Lowering, rules_of, lowered, follows_lowered, parts_in, new_body, splits_at}
+use Rattle.aggregate_accepted.proofs.LoweredFit.{lowering_fit}
+
+-- ---- blocks, but for operands
+
+-- the operations from somewhere on are the blocks of these operations: those of one that only joins are wires
+abbrev AreBlocks : Rules → List Op → List Op → Type 0
+AreBlocks rules [] tail = tail ≡ []
+AreBlocks rules (o ∷ os) tail =
+    (ws : List Op) × (rest : List Op) × (tail ≡ ws ++ rest) × (length ws ≡ count_by rules o) × (only_joins o.kind ≡ true → (y : Op) → In y ws → IsBareWire y)
+    × AreBlocks rules os rest
+
+blocks_retarget : (rules : Rules) (f : Ref → Ref) (os tail : List Op) → AreBlocks rules os tail → AreBlocks rules os (map (retarget f) tail)
+blocks_retarget rules f [] tail none = ap (map (retarget f)) none
+blocks_retarget rules f (o ∷ os) tail (ws, rest, tail_is, size, bare, more) = (
+  map (retarget f) ws,
+  map (retarget f) rest,
+  ap (map (retarget f)) tail_is ∙ map-append (retarget f) ws rest,
+  length-map ws (retarget f) ∙ size,
+  (λ joins y here.
+      let from = from_In-map (retarget f) y ws here in
+      subst IsBareWire (sym from.2) (bare_retarget f from.0 (bare joins from.0 from.1))),
+  blocks_retarget rules f os rest more,
+)
+
+-- a fit design that follows from another one
+record IsFitAfter (d e : Design) : Type 0 where
+  fit : IsFit e
+  follows : Follows d e
+
+-- without the wires of some operations, in one module
+joins_out : (rules : Rules) (os front tail : List Op) → AreBlocks rules os tail → (d : Design) (k : ℕ) (m : Module) → IsFit d → slice_get d k ≡ Some m → m.body ≡ front ++ tail
+    → IsFitAfter d (with_body d k m (without_joins rules (length front) os m.body))
+joins_out rules [] front tail none d k m fit at body_is =
+    subst (IsFitAfter d) (sym (set_some d k m at)) (record { fit = fit; follows = follows_self d fit.valid })
+joins_out rules (o ∷ os) front tail (ws, rest, tail_is, size, bare, more) d k m fit at body_is =
+    go (only_joins o.kind) refl (joins_out rules os)
+  where
+    body_here : m.body ≡ front ++ (ws ++ rest)
+    body_here = body_is ∙ ap (λ zs. front ++ zs) tail_is
+
+    go : (b : Bool) → only_joins o.kind ≡ b
+        → ((front tail : List Op) → AreBlocks rules os tail → (d : Design) (k : ℕ) (m : Module) → IsFit d → slice_get d k ≡ Some m → m.body ≡ front ++ tail
+        → IsFitAfter d (with_body d k m (without_joins rules (length front) os m.body)))
+        → IsFitAfter d (with_body d k m
+        (cond b (without_joins rules (length front) os (unwire (length front) (count_by rules o) m.body)) (without_joins rules (length front + count_by rules o) os m.body)))
+    go false stays rec =
+        subst (λ n. IsFitAfter d (with_body d k m (without_joins rules n os m.body))) (length-append front ws ∙ ap (λ n. length front + n) size)
+        (rec (front ++ ws) rest more d k m fit at (body_here ∙ sym (append_assoc front ws rest)))
+    go true joins rec = record { fit = once.fit; follows = follows_then d d1 _ first once.follows }
+      where
+        m1 : Module
+        m1 = record m { body = unwire (length front) (count_by rules o) m.body }
+
+        d1 : Design
+        d1 = with_body d k m (unwire (length front) (count_by rules o) m.body)
+
+        fit1 : IsFit d1
+        fit1 = fit_without_wires (count_by rules o) front ws rest size (bare joins) d k m fit at body_here
+
+        first : Follows d d1
+        first = (unwire_all_preserves (count_by rules o) front ws rest size (bare joins) d k m fit.valid at body_here).follows
+
+        others : Others front rest (unwire (length front) (count_by rules o) (front ++ (ws ++ rest)))
+        others = others_stay (count_by rules o) front ws rest size
+
+        once : IsFitAfter d1 (with_body d k m (without_joins rules (length front) os (unwire (length front) (count_by rules o) m.body)))
+        once =
+            subst (IsFitAfter d1) (set_twice d k m1 (record m { body = without_joins rules (length front) os (unwire (length front) (count_by rules o) m.body) }))
+            (subst (λ n. IsFitAfter d1 (set d1 k (record m { body = without_joins rules n os (unwire (length front) (count_by rules o) m.body) }))) (length-map front (retarget others.stand))
+            (rec (map (retarget others.stand) front) (map (retarget others.stand) rest) (blocks_retarget rules others.stand os rest more) d1 k m1 fit1
+            (slice_get-set_same d k m1 (slice_get_within d k m at)) (ap (unwire (length front) (count_by rules o)) body_here ∙ others.body_is)))
+
+-- ---- lowered bodies
+
+-- a wire for each leaf
+made_wires : (o : Op) (names : ℕ → Name) (chosen : List Ref) (y : Op)
+    → In y (for_each (λ i t. made_op o wire (part chosen i ∷ []) (t ∷ []) (names i) t) 0 (all_leaves o)) → IsBareWire y
+made_wires o names chosen y here =
+    let found = from_for_each (λ i t. made_op o wire (part chosen i ∷ []) (t ∷ []) (names i) t) 0 (all_leaves o) y here in
+    subst IsBareWire (sym found.3) (record { operand = part chosen (0 + found.0); type = found.1; kind_is = refl; operand_is = refl; result_is = refl })
+
+joins_wires : (S : Lowering) (o : Op) (kind : Kind) → only_joins kind ≡ true → (args : List (List Ref)) (start : ℕ) (y : Op) → In y ((row_of S.named o kind).made args start) → IsBareWire y
+joins_wires S o (on_array array_create) joins args start y here = made_wires o (λ i. []) (joined_parts args) y here
+joins_wires S o (on_array array_concat) joins args start y here = made_wires o (λ i. []) (joined_parts args) y here
+joins_wires S o (on_struct struct_create) joins args start y here = made_wires o (λ i. []) (joined_parts args) y here
+joins_wires S o (on_struct (struct_extract name)) joins args start y here = made_wires o (λ i. []) (field_parts (fields (nth_type o.types 0)) name (argument 0 args)) y here
+joins_wires S o (on_struct (struct_inject name)) joins args start y here =
+    made_wires o (λ i. []) (with_field_parts (fields (nth_type o.types 0)) name (argument 0 args) (argument 1 args)) y here
+joins_wires S o (on_struct struct_explode) joins args start y here = made_wires o (λ i. []) (joined_parts args) y here
+joins_wires S o _ joins args start y here = cc
+
+module _ (S : Lowering) (k : ℕ) (m : Module) (at : slice_get S.d k ≡ Some m) where
+  block_rows : (os : List Op) → ((o : Op) → In o os → In o m.body) → (start : ℕ) → AreBlocks (rules_of S) os (blocks (rules_of S) (parts_in S m) start os)
+  block_rows [] among start = refl
+  block_rows (o ∷ os) among start = (
+    block_by (rules_of S) (parts_in S m) start o,
+    blocks (rules_of S) (parts_in S m) (start + count_by (rules_of S) o) os,
+    refl,
+    (splits_at S k m at o (among o (inl refl))).shape.size start,
+    (λ joins y here. joins_wires S o o.kind joins (map (parts_in S m) o.operands) start y here),
+    block_rows os (λ p here. among p (inr here)) (start + count_by (rules_of S) o),
+  )
+
+-- ---- all modules
+
+set_between : {A : Type 0} (xs : List A) (x y : A) (ys : List A) → set (xs ++ x ∷ ys) (length xs) y ≡ xs ++ y ∷ ys
+set_between [] x y ys = refl
+set_between (z ∷ xs) x y ys = ap (λ zs. z ∷ zs) (set_between xs x y ys)
+
+module _ (S : Lowering) where
+  -- modules from somewhere on
+  modules_out : (done : Design) (ms : List Module) → ((m : Module) → In m ms → (k : ℕ) × (slice_get S.d k ≡ Some m)) → IsFit (done ++ map (lowered_module (rules_of S)) ms)
+      → IsFitAfter (done ++ map (lowered_module (rules_of S)) ms) (done ++ map (joined_module (rules_of S)) ms)
+  modules_out done [] among fit = record { fit = fit; follows = follows_self (done ++ []) fit.valid }
+  modules_out done (m ∷ ms) among fit = finish (modules_out (done ++ joined_module (rules_of S) m ∷ []) ms (λ n here. among n (inr here)))
+    where
+      d0 : Design
+      d0 = done ++ lowered_module (rules_of S) m ∷ map (lowered_module (rules_of S)) ms
+
+      place : (k : ℕ) × (slice_get S.d k ≡ Some m)
+      place = among m (inl refl)
+
+      first : IsFitAfter d0 (done ++ joined_module (rules_of S) m ∷ map (lowered_module (rules_of S)) ms)
+      first =
+          subst (IsFitAfter d0) (set_between done (lowered_module (rules_of S) m) (joined_module (rules_of S) m) (map (lowered_module (rules_of S)) ms))
+          (joins_out (rules_of S) m.body [] (new_body S m) (block_rows S place.0 m place.1 m.body (λ o here. here) 0) d0 (length done) (lowered_module (rules_of S) m) fit
+          (slice_get-append_at done (lowered_module (rules_of S) m) (map (lowered_module (rules_of S)) ms)) refl)
+
+      moved : (n : Module) (ns : List Module) → (done ++ n ∷ []) ++ ns ≡ done ++ n ∷ ns
+      moved n ns = append_assoc done (n ∷ []) ns
+
+      finish : (IsFit ((done ++ joined_module (rules_of S) m ∷ []) ++ map (lowered_module (rules_of S)) ms)
+          → IsFitAfter ((done ++ joined_module (rules_of S) m ∷ []) ++ map (lowered_module (rules_of S)) ms) ((done ++ joined_module (rules_of S) m ∷ []) ++ map (joined_module (rules_of S)) ms))
+          → IsFitAfter (done ++ lowered_module (rules_of S) m ∷ map (lowered_module (rules_of S)) ms) (done ++ joined_module (rules_of S) m ∷ map (joined_module (rules_of S)) ms)
+      finish rest =
+          let next = rest (subst IsFit (sym (moved (joined_module (rules_of S) m) (map (lowered_module (rules_of S)) ms))) first.fit) in
+          let later : IsFitAfter (done ++ joined_module (rules_of S) m ∷ map (lowered_module (rules_of S)) ms) (done ++ joined_module (rules_of S) m ∷ map (joined_module (rules_of S)) ms) =
+          subst (λ x. IsFitAfter x (done ++ joined_module (rules_of S) m ∷ map (joined_module (rules_of S)) ms)) (moved (joined_module (rules_of S) m) (map (lowered_module (rules_of S)) ms))
+          (subst (IsFitAfter ((done ++ joined_module (rules_of S) m ∷ []) ++ map (lowered_module (rules_of S)) ms)) (moved (joined_module (rules_of S) m) (map (joined_module (rules_of S)) ms)) next) in
+          record {
+            fit = later.fit;
+            follows = follows_then d0 (done ++ joined_module (rules_of S) m ∷ map (lowered_module (rules_of S)) ms) (done ++ joined_module (rules_of S) m ∷ map (joined_module (rules_of S)) ms)
+                first.follows later.follows;
+          }
+
+  joined_after : IsFitAfter (lowered S) (joined_design (rules_of S) S.d)
+  joined_after = modules_out [] S.d (λ m here. position_of_In m S.d here) (lowering_fit S)
+
+  pub joined_fit : IsFit (joined_design (rules_of S) S.d)
+  joined_fit = joined_after.fit
+
+  pub joined_follows : Follows (lowered S) (joined_design (rules_of S) S.d)
+  joined_follows = joined_after.follows
+
+pub joins_fit : (split : List Port → List Port) (named : Op → Kind) (d : Design) → IsFit d → NamesPorts split d → NamesInstances split d named
+    → IsFit (joined_design (aggregate_rules split named) d)
+joins_fit split named d fit ports instances = joined_fit (record { split = split; named = named; d = d; fit = fit; ports = ports; instances = instances })
+
+pub joins_follow : (split : List Port → List Port) (named : Op → Kind) (d : Design) → IsFit d → NamesPorts split d → NamesInstances split d named
+    → Follows d (joined_design (aggregate_rules split named) d)
+joins_follow split named d fit ports instances =
+    follows_then d (lowered S) (joined_design (rules_of S) d) (follows_lowered S) (joined_follows S)
+  where
+    S : Lowering
+    S = record { split = split; named = named; d = d; fit = fit; ports = ports; instances = instances }

@@ -1,0 +1,3 @@
+pub mod Joins
+pub mod Marks
+pub mod Names
