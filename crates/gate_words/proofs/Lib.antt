@@ -7,3 +7,4 @@ pub mod BitShifts
 pub mod Computing
 pub mod Loops
 pub mod Widths
+pub mod Stages

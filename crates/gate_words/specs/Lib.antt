@@ -1,3 +1,4 @@
 pub mod Rows
 pub mod Computes
 pub mod Bitwise
+pub mod Directions

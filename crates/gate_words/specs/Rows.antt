@@ -189,14 +189,17 @@ pub record Shifted : Type 0 where
   pub word : List Signal
   pub is_out : Signal
 
+-- one stage: where the distance is below the width, the word moved by it where the bit is 1; else a bit of more
+abbrev pub stage : (List Signal → ℕ → List Signal) → ℕ → ℕ → Signal → Shifted → Build Shifted
+stage f width distance b low =
+    cond (nat_lt distance width)
+    (and_then (choose b (f low.word distance) low.word) (λ word. done (record { word = word; is_out = low.is_out })))
+    (and_then (or b low.is_out) (λ is_out. done (record { word = low.word; is_out = is_out })))
+
 -- the word moved by each bit of the amount that counts below its width; a bit of more is told apart
 unfoldable pub moved_from : (List Signal → ℕ → List Signal) → List Signal → List Signal → Build Shifted
 moved_from f xs [] = done (record { word = xs; is_out = Fixed false })
-moved_from f xs (b ∷ ys) =
-    and_then (moved_from f xs ys) (λ low.
-    cond (nat_lt (2 ^ length ys) (length xs))
-    (and_then (choose b (f low.word (2 ^ length ys)) low.word) (λ word. done (record { word = word; is_out = low.is_out })))
-    (and_then (or b low.is_out) (λ is_out. done (record { word = low.word; is_out = is_out }))))
+moved_from f xs (b ∷ ys) = and_then (moved_from f xs ys) (λ low. stage f (length xs) (2 ^ length ys) b low)
 
 -- the word moved by a number
 unfoldable pub moved : (List Signal → ℕ → List Signal) → List Signal → List Signal → Build (List Signal)

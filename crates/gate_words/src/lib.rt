@@ -5,4 +5,5 @@ pub mod bitwise;
 pub mod divisions;
 pub mod laws;
 pub mod products;
+pub mod shifts;
 pub mod sums;

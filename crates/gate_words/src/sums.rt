@@ -1,7 +1,7 @@
 //! Sums and comparisons.
 ghost use Rattle.std.specs.Prelude.{◌≡◌, length, IfOk};
 ghost use Rattle.gates.specs.Circuits.{Runs};
-ghost use Rattle.gate_words.specs.Rows.{Total, sum, carried, inverses, difference, added, subtracted, less, negated, no_bits};
+ghost use Rattle.gate_words.specs.Rows.{Total, sum, carried, inverses, difference, added, subtracted, less, signed_less, top_inverted, negated, no_bits};
 
 use crate::bitwise::{copies, flipped, inverses};
 use gates::circuit::Gates;
@@ -105,6 +105,33 @@ pub fn less(
     let inverted = inverses(alloc, ys)?;
     let enough = carried(gates, xs, &inverted, Signal::Fixed(true))?;
     Ok(enough.inverse())
+}
+
+/// Whether the signed reading of the first of two words of one width is less.
+pub fn signed_less(
+    alloc: Global,
+    gates: &mut Gates,
+    xs: &[Signal],
+    ys: &[Signal],
+) -> Result<Signal, AllocError>
+    requires { length xs.now ≡ length ys.now }
+    ensures { IfOk result (Runs (signed_less xs.now ys.now) gates.old gates.new) }
+{
+    let first = top_inverted(alloc, xs)?;
+    let second = top_inverted(alloc, ys)?;
+    less(alloc, gates, &first, &second)
+}
+
+/// The word with its top bit inverted.
+fn top_inverted(alloc: Global, xs: &[Signal]) -> Result<Vec<Signal>, AllocError>
+    ensures { IfOk result (λ v. v.items ≡ top_inverted xs.now) }
+{
+    let mut made = Vec::with_capacity(alloc, xs.len())?;
+    if let Some((top, low)) = xs.split_first() {
+        made.push(top.inverse())?;
+        made.extend_from_slice(low)?;
+    }
+    Ok(made)
 }
 
 /// The word, or what it lacks to the power of its width where the condition is 1.

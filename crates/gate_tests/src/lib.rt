@@ -1,0 +1,11 @@
+//! Tests of circuits and of rows of gates over words, by the public calls of their crates.
+#![tactic(auto)]
+
+#[cfg(test)]
+mod circuits;
+#[cfg(test)]
+mod formulas;
+#[cfg(test)]
+mod pairs;
+#[cfg(test)]
+mod single_words;

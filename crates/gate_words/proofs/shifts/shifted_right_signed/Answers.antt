@@ -1,0 +1,8 @@
+use Rattle.std.proofs.Common.{subst, IfOk}
+use Rattle.gates.specs.Circuits.{Runs}
+use Rattle.gate_words.specs.Rows.{moved, moved_down}
+use Rattle.gate_words.proofs.shifts.shifted_right_signed.Goals as goal
+
+pub returns : goal.returns
+returns c =
+    subst (λ s. IfOk c.moved.result (λ v. Runs (moved (moved_down s) c.args.xs.now c.args.amount.now) c.args.gates.now c.moved.new.gates v.items)) c.top.ensures c.moved.ensures

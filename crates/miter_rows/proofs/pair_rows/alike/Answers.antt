@@ -1,0 +1,11 @@
+use Rattle.std.proofs.Common.{sym, subst}
+use Rattle.gates.specs.Circuits.{Runs}
+use Rattle.gates.proofs.Running.{runs-done, runs_then}
+use Rattle.gate_words.specs.Rows.{unlike}
+use Rattle.miter_rows.specs.OperationRows.{negation}
+use Rattle.miter_rows.proofs.pair_rows.alike.Goals as goal
+
+pub returns : goal.returns
+returns c =
+    subst (λ s. Runs (negation (unlike c.args.x.now c.args.y.now)) c.args.gates.now c.unlike.new.gates s) (sym c.inverse.ensures)
+    (runs_then _ c.in_ok-differ.ensures runs-done)

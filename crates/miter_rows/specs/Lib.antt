@@ -1,0 +1,4 @@
+pub mod OperationRows
+pub mod Operands
+pub mod Prices
+pub mod WordOrder

@@ -1,0 +1,4 @@
+pub mod InputWords
+pub mod Nets
+pub mod Circuits
+pub mod MiterLaw

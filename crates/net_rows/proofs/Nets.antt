@@ -1,0 +1,129 @@
+-- Each net's signals carry its word under a settled map.
+use Rattle.std.proofs.Common.{◌≡◌, refl, sym, ap, subst, ◌∙◌, ℕ, ◌+◌, ◌≤◌, ◌==◌, Bool, true, false, cond, List, [], ◌∷◌, ◌++◌, map, length, drop, arith, length-append, inl, inr, le_trans}
+use Rattle.wiring.specs.Wiring.{In}
+use Rattle.bits_core.specs.Word.{Word, first}
+use Rattle.gates.specs.declared.signal.Signal.{Signal}
+use Rattle.gates.proofs.Carrying.{Carrying, Makes, makes-done, makes_then}
+use Rattle.gate_words.proofs.Words.CarriesWord.{none}
+use Rattle.gate_words.proofs.Words.{CarriesWord, IsWord, word_later, word_same}
+use Rattle.hw_model.specs.Types.{Name}
+use Rattle.hw_model.specs.Design.{Ref, Design, same_name, find_module}
+use Rattle.hw_model.specs.Design.Ref.{port, result, undefined}
+use Rattle.hw_model.specs.Equality.{name_self, name_from, number_self, number_from, both, both_of}
+use Rattle.hw_model.specs.Flat.{Net, net, Source, source}
+use Rattle.hw_model.specs.Flat.Source.{nowhere, input, held, copy, op_result}
+use Rattle.hw_model.specs.Meaning.{needs, needs_of, value_of, Settled, outputs, outputs_of}
+use Rattle.miter_rows.proofs.WordLists.CarriesWords.{no_words, one_more}
+use Rattle.miter_rows.proofs.WordLists.{CarriesWords, word-joined}
+use Rattle.miter_rows.proofs.KindRows.{makes-row}
+use Rattle.net_rows.specs.NetRows.{variables, same_ref, same_net, with_net, source_row, nets_row, module_row}
+use Rattle.net_rows.specs.NetOrder.{NeedsComeFirst, seen_after, HasRow, HaveRows, OutputsAreAmong}
+use Rattle.net_rows.specs.NetPrices.{source_price, nets_price}
+use Rattle.net_rows.proofs.InputWords.{CarriesInputs, first_inputs, drop_inputs}
+
+-- ---- one net
+
+ref_self : (r : Ref) → same_ref r r ≡ true
+ref_self (port j) = number_self j
+ref_self (result i k) = both (i == i) (k == k) (number_self i) (number_self k)
+ref_self undefined = refl
+
+ref_from : (r s : Ref) → same_ref r s ≡ true → r ≡ s
+ref_from (port i) (port j) h = ap port (number_from i j h)
+ref_from (port i) (result j l) h = cc
+ref_from (port i) undefined h = cc
+ref_from (result i k) (port j) h = cc
+ref_from (result i k) (result j l) h =
+    let p = both_of (i == j) (k == l) h in
+    let e : i ≡ j = number_from i j p.0 in
+    let f : k ≡ l = number_from k l p.1 in cc
+ref_from (result i k) undefined h = cc
+ref_from undefined (port j) h = cc
+ref_from undefined (result j l) h = cc
+ref_from undefined undefined h = refl
+
+net_self : (a : Net) → same_net a a ≡ true
+net_self a = both (same_name a.path a.path) (same_ref a.ref a.ref) (name_self a.path) (ref_self a.ref)
+
+net_from : (a b : Net) → same_net a b ≡ true → a ≡ b
+net_from a b h =
+    let p = both_of (same_name a.path b.path) (same_ref a.ref b.ref) h in
+    let e : a.path ≡ b.path = name_from a.path b.path p.0 in
+    let f : a.ref ≡ b.ref = ref_from a.ref b.ref p.1 in
+    ap (λ q. net q a.ref) e ∙ ap (net b.path) f
+
+module _ {total : ℕ} (c : Carrying total) (d : Design) (top : Name) (inputs content : Word) (ρ : Net → Word)
+    (size : length (inputs ++ content) ≡ total) (settled : Settled d top inputs content ρ) (given : CarriesInputs total c (inputs ++ content)) where
+  -- the signals of each net that was seen carry its word
+  abbrev pub HaveWords : List Net → ℕ → (Net → List Signal) → Type 0
+  HaveWords seen k signals = (a : Net) → In a seen → CarriesWord c k (ρ a) (signals a)
+
+  words_of : (k : ℕ) (signals : Net → List Signal) (ns : List Net) → ((b : Net) → In b ns → CarriesWord c k (ρ b) (signals b))
+      → CarriesWords c k (map ρ ns) (map signals ns)
+  words_of k signals [] have = no_words
+  words_of k signals (n ∷ ns) have = one_more _ _ _ _ (have n (inl refl)) (words_of k signals ns (λ b here. have b (inr here)))
+
+  makes-source : (s : Source) (k : ℕ) (signals : Net → List Signal) → total ≤ k → HasRow (length inputs) (length content) ρ s
+      → ((b : Net) → In b (needs_of s) → CarriesWord c k (ρ b) (signals b))
+      → Makes c (source_row (length inputs) s (map signals (needs_of s))) k (source_price ρ s) (IsWord c (value_of inputs content s (map ρ (needs_of s))))
+  makes-source nowhere k signals l row have = makes-done c [] k (IsWord c []) none
+  makes-source (input start w) k signals l row have =
+      let within : start + w ≤ length (inputs ++ content) = omega (arith, row, length-append inputs content) in
+      makes-done c (variables start w) k (IsWord c (first w (drop start inputs)))
+      (word_same c k (first w (drop start (inputs ++ content))) (first w (drop start inputs)) (variables start w) (first_inputs w start inputs content row)
+      (given k start w l within))
+  makes-source (held start w) k signals l row have =
+      let within : length inputs + start + w ≤ length (inputs ++ content) = omega (arith, row, length-append inputs content) in
+      makes-done c (variables (length inputs + start) w) k (IsWord c (first w (drop start content)))
+      (word_same c k (first w (drop (length inputs + start) (inputs ++ content))) (first w (drop start content)) (variables (length inputs + start) w)
+      (ap (first w) (drop_inputs start inputs content)) (given k (length inputs + start) w l within))
+  makes-source (copy n) k signals l row have = makes-done c (signals n) k (IsWord c (ρ n)) (have n (inl refl))
+  makes-source (op_result kind ts t i ns) k signals l row have =
+      makes-row c k kind ts t i (map ρ ns) (map signals ns) (words_of k signals ns have) row.0 row.1
+
+  -- the signals of one more net
+  have_more : (n : Net) (seen : List Net) (k j : ℕ) (signals : Net → List Signal) (x : List Signal) → k ≤ j → HaveWords seen k signals → CarriesWord c j (ρ n) x
+      → HaveWords (n ∷ seen) j (with_net n x signals)
+  have_more n seen k j signals x l have is a (inl e) =
+      subst (λ b. CarriesWord c j (ρ a) (cond b x (signals a))) (sym (ap (λ z. same_net z n) e ∙ net_self n)) (subst (λ z. CarriesWord c j (ρ z) x) (sym e) is)
+  have_more n seen k j signals x l have is a (inr there) = go (same_net a n) refl
+    where
+      go : (b : Bool) → same_net a n ≡ b → CarriesWord c j (ρ a) (cond b x (signals a))
+      go true e = subst (λ z. CarriesWord c j (ρ z) x) (sym (net_from a n e)) is
+      go false e = word_later c k j (ρ a) (signals a) l (have a there)
+
+  pub makes-nets : (ns seen : List Net) (k : ℕ) (signals : Net → List Signal) → total ≤ k → NeedsComeFirst d top seen ns
+      → HaveRows d top (length inputs) (length content) ρ ns → HaveWords seen k signals
+      → Makes c (nets_row (length inputs) d top ns signals) k (nets_price d top ρ ns) (HaveWords (seen_after seen ns))
+  unfolding nets_row
+  makes-nets [] seen k signals l order rows have = makes-done c signals k (HaveWords seen) have
+  makes-nets (n ∷ ns) seen k signals l order rows have =
+      makes_then c _ _ k (source_price ρ (source d top n)) (nets_price d top ρ ns) (IsWord c (ρ n)) _
+      (subst (λ w. Makes c (source_row (length inputs) (source d top n) (map signals (needs d top n))) k (source_price ρ (source d top n)) (IsWord c w)) (sym (settled n))
+      (makes-source (source d top n) k signals l rows.0 (λ b here. have b (order.0 b here))))
+      (λ x j m is. makes-nets ns (n ∷ seen) j (with_net n x signals) (le_trans l m) order.1 rows.1 (have_more n seen k j signals x m have is))
+
+  -- what was seen stays so
+  seen_stays : (ns seen : List Net) (a : Net) → In a seen → In a (seen_after seen ns)
+  seen_stays [] seen a here = here
+  seen_stays (n ∷ ns) seen a here = seen_stays ns (n ∷ seen) a (inr here)
+
+  is_seen : (ns seen : List Net) (a : Net) → In a ns → In a (seen_after seen ns)
+  is_seen [] seen a here = absurd here
+  is_seen (n ∷ ns) seen a (inl e) = seen_stays ns (n ∷ seen) a (inl e)
+  is_seen (n ∷ ns) seen a (inr here) = is_seen ns (n ∷ seen) a here
+
+  outputs_carried : (rs : List Ref) (k : ℕ) (signals : Net → List Signal) → ((r : Ref) → In r rs → CarriesWord c k (ρ (net [] r)) (signals (net [] r)))
+      → CarriesWords c k (map (λ r. ρ (net [] r)) rs) (map (λ r. signals (net [] r)) rs)
+  outputs_carried [] k signals have = no_words
+  outputs_carried (r ∷ rs) k signals have = one_more _ _ _ _ (have r (inl refl)) (outputs_carried rs k signals (λ s here. have s (inr here)))
+
+  pub makes-module : (ns : List Net) (k : ℕ) → total ≤ k → NeedsComeFirst d top [] ns → HaveRows d top (length inputs) (length content) ρ ns
+      → OutputsAreAmong d top ns → Makes c (module_row (length inputs) d top ns) k (nets_price d top ρ ns + 0) (IsWord c (outputs d top ρ))
+  unfolding module_row
+  makes-module ns k l order rows among =
+      makes_then c _ _ k (nets_price d top ρ ns) 0 (HaveWords (seen_after [] ns)) _
+      (makes-nets ns [] k (λ n. []) l order rows (λ a here. absurd here))
+      (λ signals j m have. makes-done c _ j (IsWord c (outputs d top ρ))
+      (word-joined c j (map (λ r. ρ (net [] r)) (outputs_of (find_module d top))) (map (λ r. signals (net [] r)) (outputs_of (find_module d top)))
+      (outputs_carried (outputs_of (find_module d top)) j signals (λ r here. have (net [] r) (is_seen ns [] (net [] r) (among r here))))))

@@ -1,0 +1,4 @@
+pub mod NetRows
+pub mod NetOrder
+pub mod NetPrices
+pub mod Miters
