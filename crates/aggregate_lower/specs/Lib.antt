@@ -1,0 +1,5 @@
+pub mod Lowering
+pub mod Reading
+pub mod FormRows
+pub mod Pieces
+pub mod Shapes
