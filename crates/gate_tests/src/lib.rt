@@ -6,6 +6,10 @@ mod circuits;
 #[cfg(test)]
 mod formulas;
 #[cfg(test)]
+mod operations;
+#[cfg(test)]
 mod pairs;
 #[cfg(test)]
 mod single_words;
+#[cfg(test)]
+mod three_bits;
