@@ -11,34 +11,9 @@ use Rattle.op_checks.specs.TypeChecks.{has_bad_part, has_bad_part_among, is_with
 use Rattle.op_checks.proofs.Widths.{neither}
 use Rattle.op_checks.proofs.Owned.{integer_outside, clock_outside}
 use Rattle.aggregate_laws.specs.Aggregates.{is_scalar}
+use Rattle.aggregate_laws.proofs.Scalars.{from_copies, leaf_scalar}
 
 -- ---- leaves
-
-from_copies : (n : ℕ) (xs : List HwType) (u : HwType) → In u (list_copies n xs) → In u xs
-from_copies zero xs u here = absurd here
-from_copies (suc n) xs u here = go (In-append_cases u xs (list_copies n xs) here) (from_copies n xs u)
-  where
-    go : In u xs ⊎ In u (list_copies n xs) → (In u (list_copies n xs) → In u xs) → In u xs
-    go (inl there) rest = there
-    go (inr there) rest = rest there
-
-mutual
-  -- they have no parts
-  pub leaf_scalar : (t u : HwType) → In u (leaves t) → is_scalar u ≡ true
-  leaf_scalar (int w) u (inl same) = ap is_scalar same
-  leaf_scalar (int w) u (inr never) = absurd never
-  leaf_scalar clock u (inl same) = ap is_scalar same
-  leaf_scalar clock u (inr never) = absurd never
-  leaf_scalar (array n t) u here = leaf_scalar t u (from_copies n (leaves t) u here)
-  leaf_scalar (struct fs) u here = field_scalar fs u here
-
-  field_scalar : (fs : FieldTypes) (u : HwType) → In u (leaves_of_fields fs) → is_scalar u ≡ true
-  field_scalar no_fields u here = absurd here
-  field_scalar (field name t fs) u here = go (In-append_cases u (leaves t) (leaves_of_fields fs) here) (leaf_scalar t u) (field_scalar fs u)
-    where
-      go : In u (leaves t) ⊎ In u (leaves_of_fields fs) → (In u (leaves t) → is_scalar u ≡ true) → (In u (leaves_of_fields fs) → is_scalar u ≡ true) → is_scalar u ≡ true
-      go (inl there) first rest = first there
-      go (inr there) first rest = rest there
 
 mutual
   -- each is within the limits where the whole is

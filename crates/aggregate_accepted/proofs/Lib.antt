@@ -19,6 +19,7 @@ pub mod LoweredPorts
 pub mod LoweredResets
 pub mod LoweredFit
 pub mod WiresOut
+pub mod LoweredShapes
 pub mod PieceWeights
 pub mod LoweredWeights
 pub mod AcceptedLowered

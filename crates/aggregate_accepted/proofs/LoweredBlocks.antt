@@ -63,7 +63,8 @@ use Rattle.aggregate_accepted.proofs.ResultValues.{none_member, may_have_leaves,
 use Rattle.aggregate_accepted.proofs.MadeOps.{IsGood, kept_good}
 use Rattle.aggregate_accepted.proofs.MadeRows.{AreGood, good_append, constant_kind, wires_good, muxes_good, constants_good, registers_good, asyncs_good, tests_good, leaf_choices_good}
 use Rattle.aggregate_accepted.proofs.CastRows.{some_bits, same_types, cast_good}
-use Rattle.aggregate_accepted.proofs.SpreadRows.{scalar_leaves, scalars_typed, register_cause, async_cause, leaf_within, leaf_no_clock, parts_none, spread_op, instance_good, output_good}
+use Rattle.aggregate_laws.proofs.Scalars.{scalar_leaves}
+use Rattle.aggregate_accepted.proofs.SpreadRows.{scalars_typed, register_cause, async_cause, leaf_within, leaf_no_clock, parts_none, spread_op, instance_good, output_good}
 use Rattle.aggregate_accepted.proofs.LoweredModules.{Lowering, rules_of, parts_in, new_ports, new_body, old_type, new_type, regular_at, m_sound, new_sound, parts_typed_at, block_of, placed_at}
 use Rattle.aggregate_accepted.proofs.LoweredConstants.{nonzero_kept}
 

@@ -17,7 +17,8 @@ use Rattle.inline_pass.proofs.FitModules.{IsFitModule, fit_module}
 use Rattle.aggregate_laws.specs.Leaves.{bare_port, leaf_port, leaf_ports}
 use Rattle.aggregate_laws.specs.Aggregates.{is_scalar}
 use Rattle.op_checks.specs.TypeChecks.{has_bad_part}
-use Rattle.aggregate_accepted.proofs.LeafTypes.{leaf_scalar, leaf_part, leaf_clock, scalar_outside, scalar_fields, scalar_parts, scalar_readable, clock_of, no_clock, no_bad_part}
+use Rattle.aggregate_laws.proofs.Scalars.{leaf_scalar}
+use Rattle.aggregate_accepted.proofs.LeafTypes.{leaf_part, leaf_clock, scalar_outside, scalar_fields, scalar_parts, scalar_readable, clock_of, no_clock, no_bad_part}
 use Rattle.aggregate_accepted.proofs.LoweredModules.{Lowering, new_ports}
 
 no_port : (test : Port → Bool) (ps : List Port) → ((q : Port) → In q ps → test q ≡ false) → has_port test ps ≡ false

@@ -36,9 +36,9 @@ use Rattle.aggregate_laws.proofs.Muxes.{all_of_one}
 use Rattle.aggregate_laws.proofs.Blocks.{block_by}
 use Rattle.aggregate_accepted.specs.Names.{NamesPorts, NamesInstances}
 use Rattle.aggregate_accepted.specs.Joins.{only_joins, without_joins, joined_module, joined_design}
-use Rattle.aggregate_accepted.proofs.LeafTypes.{leaf_scalar}
+use Rattle.aggregate_laws.proofs.Scalars.{leaf_scalar, scalar_leaves}
 use Rattle.aggregate_accepted.proofs.PieceWeights.{weight_append, cast_weight}
-use Rattle.aggregate_accepted.proofs.SpreadRows.{scalar_leaves, scalars_typed}
+use Rattle.aggregate_accepted.proofs.SpreadRows.{scalars_typed}
 use Rattle.aggregate_accepted.proofs.LoweredModules.{Lowering, rules_of, parts_in, old_type, new_type, regular_at, splits_at, parts_typed_at}
 use Rattle.aggregate_accepted.proofs.LoweredBlocks.{settled, joined, same_leaves, named_leaves}
 

@@ -12,16 +12,16 @@ use Rattle.canonical_form.specs.Bytes.{Each, AreBytes}
 use Rattle.canonical_form.specs.Limits.{IsType, AreFields, IsAnyType}
 use Rattle.aggregate_laws.specs.Aggregates.{first_type, element_names, leaf_names, field_names, name_at, names_from, own_names}
 
-bytes_append : (xs ys : List ℕ) → AreBytes xs → AreBytes ys → AreBytes (xs ++ ys)
+pub bytes_append : (xs ys : List ℕ) → AreBytes xs → AreBytes ys → AreBytes (xs ++ ys)
 bytes_append [] ys first second = second
 bytes_append (x ∷ xs) ys (here, first) second = (here, bytes_append xs ys first second)
 
-decimal_bytes : (n : ℕ) → n < 10 ^ 64 → AreBytes (decimal n)
+pub decimal_bytes : (n : ℕ) → n < 10 ^ 64 → AreBytes (decimal n)
 decimal_bytes =
     decimal_by_steps_wide (λ n ds. AreBytes ds) (λ n small. (omega arith, tt))
     (λ n ds large bytes. bytes_append ds ((48 + n % 10) ∷ []) bytes (let small : n % 10 < 10 = omega arith in omega arith, tt))
 
-each_append : {A : Type 0} (P : A → Type 0) (xs ys : List A) → Each P xs → Each P ys → Each P (xs ++ ys)
+pub each_append : {A : Type 0} (P : A → Type 0) (xs ys : List A) → Each P xs → Each P ys → Each P (xs ++ ys)
 each_append P [] ys first second = second
 each_append P (x ∷ xs) ys (here, first) second = (here, each_append P xs ys first second)
 

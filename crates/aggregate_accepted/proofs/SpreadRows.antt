@@ -33,22 +33,13 @@ use Rattle.aggregate_laws.specs.Rows.{all_leaves}
 use Rattle.aggregate_laws.specs.Aggregates.{is_scalar}
 use Rattle.aggregate_laws.proofs.Bare.{types_bare}
 use Rattle.aggregate_laws.proofs.Types.{parts_typed}
-use Rattle.aggregate_accepted.proofs.LeafTypes.{leaf_scalar, leaf_part, leaf_clock, scalar_outside, scalar_fields, scalar_parts, scalar_readable, clock_of, no_clock, no_bad_part}
+use Rattle.aggregate_laws.proofs.Scalars.{leaf_scalar, all_scalar_leaves}
+use Rattle.aggregate_accepted.proofs.LeafTypes.{leaf_part, leaf_clock, scalar_outside, scalar_fields, scalar_parts, scalar_readable, clock_of, no_clock, no_bad_part}
 use Rattle.aggregate_accepted.proofs.ResultValues.{none_member}
 use Rattle.aggregate_accepted.proofs.MadeKinds.{same_differs, neither_of, none_any, differ_self}
 use Rattle.aggregate_accepted.proofs.MadeOps.{IsGood, typed_there}
 
 -- ---- what stays
-
-pub scalar_leaves : (t : HwType) → is_scalar t ≡ true → leaves t ≡ t ∷ []
-scalar_leaves (int w) is = refl
-scalar_leaves clock is = refl
-scalar_leaves (array n t) is = cc
-scalar_leaves (struct fs) is = cc
-
-pub all_scalar_leaves : (us : List HwType) → ((u : HwType) → In u us → is_scalar u ≡ true) → flat_map leaves us ≡ us
-all_scalar_leaves [] all = refl
-all_scalar_leaves (u ∷ us) all = ap₂ (λ xs ys. xs ++ ys) (scalar_leaves u (all u (inl refl))) (all_scalar_leaves us (λ v here. all v (inr here)))
 
 -- what stands for values without parts has their types
 pub scalars_typed : (old_type new_type : Ref → Option HwType) (parts : Ref → List Ref)

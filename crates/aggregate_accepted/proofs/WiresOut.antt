@@ -1,6 +1,7 @@
 -- The wires of operations that only join or take apart are taken out of a lowered design: it follows, and stays fit.
 use Rattle.std.proofs.Common.{◌≡◌, ℕ, ◌+◌, Bool, true, false, cond, List, [], ◌∷◌, ◌++◌, length, map, set, Some, slice_get, refl, sym, ap, subst, ◌∙◌, inl, inr, append_assoc, length-append}
 use Rattle.std.proofs.lemmas.List.{length-map, map-append}
+use Rattle.std.proofs.lemmas.List.Elements.{filter-append}
 use Rattle.std.proofs.lemmas.Option.{slice_get_within}
 use Rattle.wiring.specs.Wiring.{In}
 use Rattle.wiring.proofs.Lists.{slice_get-append_at, slice_get-set_same, set_some}
@@ -12,18 +13,22 @@ use Rattle.hw_model.specs.Kinds.StructOp.{struct_create, struct_extract, struct_
 use Rattle.hw_model.specs.Kinds.Kind.{on_array, on_struct, wire}
 use Rattle.hw_model.specs.Value.{fields, nth_type}
 use Rattle.hw_model.specs.Design.{Ref, Port, Op, Module, Design}
-use Rattle.hw_edits.specs.Edit.{retarget}
+use Rattle.hw_edits.specs.Edit.{retarget, is_anchor, anchors}
 use Rattle.hw_edits.specs.Follows.{Follows}
 use Rattle.hw_edits.specs.Laws.{with_body}
 use Rattle.hw_edits.proofs.Follows.{follows_then, follows_self}
+use Rattle.hw_edits.proofs.Positions.{anchors-retarget}
 use Rattle.accepted_edits.specs.Keeps.{IsFit}
+use Rattle.pass_laws.specs.Steady.{SameShape, IsSteady}
+use Rattle.pass_laws.proofs.Shapes.{shape_from_anchors}
+use Rattle.pass_laws.proofs.Steady.{steady_self, steady_then, steady_with_body}
 use Rattle.inline_laws.specs.Unwire.{unwire}
 use Rattle.inline_laws.proofs.WithoutWires.{IsBareWire, Others, bare_retarget, others_stay, set_twice, unwire_all_preserves}
 use Rattle.aggregate_laws.specs.Leaves.{part}
 use Rattle.aggregate_laws.specs.Rules.{Rules, count_by, blocks, lowered_module}
 use Rattle.aggregate_laws.specs.Rows.{made_op, all_leaves, for_each, joined_parts, argument, field_parts, with_field_parts}
 use Rattle.aggregate_laws.specs.Aggregates.{row_of, aggregate_rules}
-use Rattle.aggregate_laws.proofs.Blocks.{block_by}
+use Rattle.aggregate_laws.proofs.Blocks.{block_by, anchors_none}
 use Rattle.aggregate_accepted.specs.Names.{NamesPorts, NamesInstances}
 use Rattle.aggregate_accepted.specs.Joins.{only_joins, without_joins, joined_module, joined_design}
 use Rattle.aggregate_accepted.proofs.Borrowed.{fit_without_wires}
@@ -53,16 +58,36 @@ blocks_retarget rules f (o ∷ os) tail (ws, rest, tail_is, size, bare, more) = 
   blocks_retarget rules f os rest more,
 )
 
--- a fit design that follows from another one
+-- a fit design that follows from another one, with the same headers, registers and instances
 record IsFitAfter (d e : Design) : Type 0 where
-  fit : IsFit e
   follows : Follows d e
+  steady : IsSteady d e
+
+-- a body keeps its shape without wires between two parts
+shape_unwired : (n : ℕ) (front ws back : List Op) → length ws ≡ n → ((y : Op) → In y ws → IsBareWire y)
+    → SameShape (front ++ (ws ++ back)) (unwire (length front) n (front ++ (ws ++ back)))
+shape_unwired n front ws back size bare =
+    shape_from_anchors (front ++ (ws ++ back)) (unwire (length front) n (front ++ (ws ++ back))) others.stand
+    (ap anchors (others.body_is ∙ sym (map-append (retarget others.stand) front back))
+    ∙ anchors-retarget others.stand (front ++ back)
+    ∙ ap (map (retarget others.stand)) (filter-append is_anchor front back ∙ sym anchors_there))
+  where
+    others : Others front back (unwire (length front) n (front ++ (ws ++ back)))
+    others = others_stay n front ws back size
+
+    no_anchor : (y : Op) → In y ws → is_anchor y ≡ false
+    no_anchor y here = subst (λ k. is_anchor (record y { kind = k }) ≡ false) (sym (bare y here).kind_is) refl
+
+    anchors_there : anchors (front ++ (ws ++ back)) ≡ anchors front ++ anchors back
+    anchors_there =
+        filter-append is_anchor front (ws ++ back)
+        ∙ ap (λ xs. anchors front ++ xs) (filter-append is_anchor ws back ∙ ap (λ xs. xs ++ anchors back) (anchors_none ws no_anchor))
 
 -- without the wires of some operations, in one module
 joins_out : (rules : Rules) (os front tail : List Op) → AreBlocks rules os tail → (d : Design) (k : ℕ) (m : Module) → IsFit d → slice_get d k ≡ Some m → m.body ≡ front ++ tail
     → IsFitAfter d (with_body d k m (without_joins rules (length front) os m.body))
 joins_out rules [] front tail none d k m fit at body_is =
-    subst (IsFitAfter d) (sym (set_some d k m at)) (record { fit = fit; follows = follows_self d fit.valid })
+    subst (IsFitAfter d) (sym (set_some d k m at)) (record { follows = follows_self d fit.valid; steady = steady_self d fit })
 joins_out rules (o ∷ os) front tail (ws, rest, tail_is, size, bare, more) d k m fit at body_is =
     go (only_joins o.kind) refl (joins_out rules os)
   where
@@ -77,7 +102,7 @@ joins_out rules (o ∷ os) front tail (ws, rest, tail_is, size, bare, more) d k 
     go false stays rec =
         subst (λ n. IsFitAfter d (with_body d k m (without_joins rules n os m.body))) (length-append front ws ∙ ap (λ n. length front + n) size)
         (rec (front ++ ws) rest more d k m fit at (body_here ∙ sym (append_assoc front ws rest)))
-    go true joins rec = record { fit = once.fit; follows = follows_then d d1 _ first once.follows }
+    go true joins rec = record { follows = follows_then d d1 _ first once.follows; steady = steady_then d d1 _ own once.steady }
       where
         m1 : Module
         m1 = record m { body = unwire (length front) (count_by rules o) m.body }
@@ -90,6 +115,11 @@ joins_out rules (o ∷ os) front tail (ws, rest, tail_is, size, bare, more) d k 
 
         first : Follows d d1
         first = (unwire_all_preserves (count_by rules o) front ws rest size (bare joins) d k m fit.valid at body_here).follows
+
+        own : IsSteady d d1
+        own =
+            steady_with_body d k m (unwire (length front) (count_by rules o) m.body) at first fit1
+            (subst (λ os. SameShape os (unwire (length front) (count_by rules o) os)) (sym body_here) (shape_unwired (count_by rules o) front ws rest size (bare joins)))
 
         others : Others front rest (unwire (length front) (count_by rules o) (front ++ (ws ++ rest)))
         others = others_stay (count_by rules o) front ws rest size
@@ -142,7 +172,7 @@ module _ (S : Lowering) where
   -- modules from somewhere on
   modules_out : (done : Design) (ms : List Module) → ((m : Module) → In m ms → (k : ℕ) × (slice_get S.d k ≡ Some m)) → IsFit (done ++ map (lowered_module (rules_of S)) ms)
       → IsFitAfter (done ++ map (lowered_module (rules_of S)) ms) (done ++ map (joined_module (rules_of S)) ms)
-  modules_out done [] among fit = record { fit = fit; follows = follows_self (done ++ []) fit.valid }
+  modules_out done [] among fit = record { follows = follows_self (done ++ []) fit.valid; steady = steady_self (done ++ []) fit }
   modules_out done (m ∷ ms) among fit = finish (modules_out (done ++ joined_module (rules_of S) m ∷ []) ms (λ n here. among n (inr here)))
     where
       d0 : Design
@@ -164,12 +194,13 @@ module _ (S : Lowering) where
           → IsFitAfter ((done ++ joined_module (rules_of S) m ∷ []) ++ map (lowered_module (rules_of S)) ms) ((done ++ joined_module (rules_of S) m ∷ []) ++ map (joined_module (rules_of S)) ms))
           → IsFitAfter (done ++ lowered_module (rules_of S) m ∷ map (lowered_module (rules_of S)) ms) (done ++ joined_module (rules_of S) m ∷ map (joined_module (rules_of S)) ms)
       finish rest =
-          let next = rest (subst IsFit (sym (moved (joined_module (rules_of S) m) (map (lowered_module (rules_of S)) ms))) first.fit) in
+          let next = rest (subst IsFit (sym (moved (joined_module (rules_of S) m) (map (lowered_module (rules_of S)) ms))) first.steady.fit) in
           let later : IsFitAfter (done ++ joined_module (rules_of S) m ∷ map (lowered_module (rules_of S)) ms) (done ++ joined_module (rules_of S) m ∷ map (joined_module (rules_of S)) ms) =
           subst (λ x. IsFitAfter x (done ++ joined_module (rules_of S) m ∷ map (joined_module (rules_of S)) ms)) (moved (joined_module (rules_of S) m) (map (lowered_module (rules_of S)) ms))
           (subst (IsFitAfter ((done ++ joined_module (rules_of S) m ∷ []) ++ map (lowered_module (rules_of S)) ms)) (moved (joined_module (rules_of S) m) (map (joined_module (rules_of S)) ms)) next) in
           record {
-            fit = later.fit;
+            steady = steady_then d0 (done ++ joined_module (rules_of S) m ∷ map (lowered_module (rules_of S)) ms) (done ++ joined_module (rules_of S) m ∷ map (joined_module (rules_of S)) ms)
+                first.steady later.steady;
             follows = follows_then d0 (done ++ joined_module (rules_of S) m ∷ map (lowered_module (rules_of S)) ms) (done ++ joined_module (rules_of S) m ∷ map (joined_module (rules_of S)) ms)
                 first.follows later.follows;
           }
@@ -178,7 +209,10 @@ module _ (S : Lowering) where
   joined_after = modules_out [] S.d (λ m here. position_of_In m S.d here) (lowering_fit S)
 
   pub joined_fit : IsFit (joined_design (rules_of S) S.d)
-  joined_fit = joined_after.fit
+  joined_fit = joined_after.steady.fit
+
+  pub joined_steady : IsSteady (lowered S) (joined_design (rules_of S) S.d)
+  joined_steady = joined_after.steady
 
   pub joined_follows : Follows (lowered S) (joined_design (rules_of S) S.d)
   joined_follows = joined_after.follows

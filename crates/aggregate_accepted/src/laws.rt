@@ -1,10 +1,12 @@
 //! The laws of lowered designs, each a clause of a function that does nothing.
 
 ghost use Rattle.std.specs.Prelude.{◌≡◌, ◌≤◌, true, List, Some};
+ghost use Rattle.std.specs.List.{flat_map};
 ghost use Rattle.wiring.specs.Wiring.{In};
 ghost use Rattle.hw_model.specs.Types.{Name};
 ghost use Rattle.hw_model.specs.Kinds.{Kind};
 ghost use Rattle.hw_model.specs.Design.{Port, Op, Module, Design, find_module, is_instance};
+ghost use Rattle.hw_model.specs.Hierarchy.{calls};
 ghost use Rattle.hw_model.specs.Resets.{ResetsFromPorts};
 ghost use Rattle.hw_model.specs.Sound.{type_in};
 ghost use Rattle.hw_model.specs.Weight.{weight};
@@ -13,6 +15,7 @@ ghost use Rattle.op_verifier.specs.Verdict.{IsAccepted};
 ghost use Rattle.mlir_printer.specs.Printable.{Printable};
 ghost use Rattle.port_checks.specs.ResetPorts.{is_reset_port};
 ghost use Rattle.accepted_edits.specs.Keeps.{IsFit};
+ghost use Rattle.pass_laws.specs.PassLaw.{register_types, leaf_types};
 ghost use Rattle.aggregate_laws.specs.Leaves.{bare_kind};
 ghost use Rattle.aggregate_laws.specs.Rules.{lowered_design};
 ghost use Rattle.aggregate_laws.specs.Aggregates.{aggregate_rules, IsRegular};
@@ -51,6 +54,15 @@ pub fn joins_are_taken_out()
         → Follows d (joined_design (aggregate_rules split named) d) }
     ensures lighter { (split : List Port → List Port) (named : Op → Kind) (d : Design) → IsFit d → NamesPorts split d → NamesInstances split d named
         → (s : Name) → weight (joined_design (aggregate_rules split named) d) s ≤ weight d s }
+{}
+
+/// Does nothing. Its clauses say that the registers of such a design are those that were, each one for each of its leaves, in
+/// order, and that instances stay.
+pub fn registers_become_leaves()
+    ensures registers { (split : List Port → List Port) (named : Op → Kind) (d : Design) → IsFit d → NamesPorts split d → NamesInstances split d named
+        → (s : Name) → register_types (joined_design (aggregate_rules split named) d) s ≡ flat_map leaf_types (register_types d s) }
+    ensures instances { (split : List Port → List Port) (named : Op → Kind) (d : Design) → IsFit d → NamesPorts split d → NamesInstances split d named
+        → (s : Name) → calls (joined_design (aggregate_rules split named) d) s ≡ calls d s }
 {}
 
 /// Does nothing. Its clause says that an accepted design that can be printed is so where its aggregate values become their

@@ -8,5 +8,5 @@ mod laws;
 
 pub use laws::{
     joins_are_taken_out, lowered_designs_are_accepted, lowered_designs_are_fit,
-    operations_are_regular, resets_come_from_leaves,
+    operations_are_regular, registers_become_leaves, resets_come_from_leaves,
 };

@@ -30,12 +30,7 @@ use Rattle.aggregate_laws.proofs.Injects.{inject_splits}
 use Rattle.aggregate_laws.proofs.Bitcasts.{bitcast_splits}
 use Rattle.aggregate_laws.proofs.Anchored.{register_splits, register_stays_splits, spread_splits}
 use Rattle.aggregate_laws.proofs.Designs.{design_follows}
-
-scalar_leaves : (t : HwType) → is_scalar t ≡ true → leaves t ≡ t ∷ []
-scalar_leaves (int w) is = refl
-scalar_leaves clock is = refl
-scalar_leaves (array n t) is = cc
-scalar_leaves (struct fs) is = cc
+use Rattle.aggregate_laws.proofs.Scalars.{scalar_leaves}
 
 first_is : (o : Op) (t : HwType) → result_types o ≡ t ∷ [] → first_type o ≡ t
 first_is o t one = ap (λ ts. nth_type ts 0) one

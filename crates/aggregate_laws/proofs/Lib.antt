@@ -1,5 +1,6 @@
 -- Lemmas.
 pub mod Lists
+pub mod Scalars
 pub mod Words
 pub mod Bare
 pub mod Anchors
@@ -27,3 +28,4 @@ pub mod Injects
 pub mod Samples
 pub mod Bitcasts
 pub mod Aggregates
+pub mod LeafPorts

@@ -5,3 +5,5 @@ pub mod Leaves
 pub mod Lowered
 pub mod Rows
 pub mod Rules
+pub mod LeafPorts
+pub mod Scalars

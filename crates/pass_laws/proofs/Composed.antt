@@ -1,5 +1,5 @@
 -- Laws of passes one after another.
-use Rattle.std.proofs.Common.{◌≡◌, Bool, true, false, ◌||◌, List, ◌++◌, Some, ◌≤◌, refl, sym, subst, ◌∙◌, arith}
+use Rattle.std.proofs.Common.{◌≡◌, Bool, true, false, cond, ◌||◌, List, ◌++◌, flat_map, Some, ◌≤◌, refl, sym, subst, ◌∙◌, arith}
 use Rattle.hw_model.specs.Types.{Name}
 use Rattle.hw_model.specs.Design.{Module, Design, find_module}
 use Rattle.hw_model.specs.Hierarchy.{calls}
@@ -8,9 +8,11 @@ use Rattle.hw_model.specs.Weight.{weight}
 use Rattle.hw_model.proofs.Finite.{module_found}
 use Rattle.hw_model.proofs.Machines.{same_then}
 use Rattle.pass_pipeline.specs.declared.pass.Pass.{Pass}
-use Rattle.pass_laws.specs.Remaining.{is_flatten, is_symbol_dce, has_pass, symbols, IsPublic, IsKept, Remains, AreThose, AreWithin}
-use Rattle.pass_laws.specs.PassLaw.{InstancesStay, IsModuleAfter, IsAfter}
+use Rattle.aggregate_laws.specs.LeafPorts.{split_ports}
+use Rattle.pass_laws.specs.Remaining.{is_flatten, is_symbol_dce, is_lowering, has_pass, symbols, IsPublic, IsKept, Remains, AreThose, AreWithin}
+use Rattle.pass_laws.specs.PassLaw.{InstancesStay, leaf_types, register_types, IsModuleAfter, IsAfter}
 use Rattle.pass_laws.proofs.Those.{those_were, those_meet, those_same, those_then, within_then, within_those}
+use Rattle.pass_laws.proofs.LoweredTwice.{named_once, ports_both, types_both}
 use Rattle.pass_laws.proofs.Remaining.{has_pass-append, symbol_found, public_after, public_before, remains_both, remained_first, remained_second}
 
 module _ (ps qs : List Pass) (d e f : Design) (first : IsAfter ps d e) (second : IsAfter qs e f) where
@@ -45,8 +47,10 @@ module _ (ps qs : List Pass) (d e f : Design) (first : IsAfter ps d e) (second :
       record {
         mark = two.mark ∙ one.mark;
         place = two.place ∙ one.place;
-        ports = two.ports ∙ one.ports;
-        registers = two.registers ∙ one.registers;
+        ports = subst (λ b. n.ports ≡ cond b (split_ports m.ports) m.ports) (sym (has_pass-append is_lowering ps qs))
+            (ports_both (has_pass is_lowering ps) (has_pass is_lowering qs) m.ports between.0.ports n.ports (named_once e first.accepted first.printable s between.0 between.1) one.ports two.ports);
+        registers = subst (λ b. register_types f s ≡ cond b (flat_map leaf_types (register_types d s)) (register_types d s)) (sym (has_pass-append is_lowering ps qs))
+            (types_both (has_pass is_lowering ps) (has_pass is_lowering qs) (register_types d s) (register_types e s) (register_types f s) one.registers two.registers);
         instances = subst (λ b. InstancesStay b d (calls d s) (calls f s)) (sym (has_pass-append is_flatten ps qs))
             (instances_both (has_pass is_flatten ps) (has_pass is_flatten qs) (calls d s) (calls e s) (calls f s) one.instances two.instances);
         weight = omega arith;

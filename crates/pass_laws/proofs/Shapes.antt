@@ -63,7 +63,7 @@ held_same d e each (suc n) s =
 -- ---- shapes of bodies
 
 module _ (inner : Name → List (Option HwType)) where
-  held_anchors : (os : List Op) → body_held inner (anchors os) ≡ body_held inner os
+  pub held_anchors : (os : List Op) → body_held inner (anchors os) ≡ body_held inner os
   held_anchors [] = refl
   held_anchors (o ∷ os) = go (sort_of o.kind) (held_anchors os)
     where

@@ -1,6 +1,6 @@
 -- Designs that follow from one another by edits of bodies: from themselves, one after another, by one edit; and that the law
 -- of passes that keep all modules holds of them.
-use Rattle.std.proofs.Common.{◌≡◌, ◌≤◌, ℕ, zero, suc, Bool, true, false, cond, List, [], ◌∷◌, length, map, Some, slice_get, refl, sym, ap, ap₂, subst, ◌∙◌, length-set}
+use Rattle.std.proofs.Common.{◌≡◌, ◌≤◌, ℕ, zero, suc, Bool, true, false, cond, List, [], ◌∷◌, length, map, flat_map, Some, slice_get, refl, sym, ap, ap₂, subst, ◌∙◌, length-set}
 use Rattle.hw_model.specs.Types.{Name}
 use Rattle.hw_model.specs.Design.{Op, Module, Design, find_module, same_name, result_type}
 use Rattle.hw_model.specs.Flat.{Slot, module_registers}
@@ -15,13 +15,14 @@ use Rattle.hw_edits.specs.Laws.{with_body}
 use Rattle.hw_edits.proofs.Follows.{valid_settles, set_each}
 use Rattle.accepted_edits.specs.Keeps.{IsFit}
 use Rattle.accepted_edits.proofs.NameCounts.{accepted_again}
+use Rattle.aggregate_laws.specs.LeafPorts.{split_ports}
 use Rattle.pass_pipeline.specs.declared.pass.Pass.{Pass}
-use Rattle.pass_laws.specs.PassLaw.{InstancesStay, IsAfter}
+use Rattle.pass_laws.specs.PassLaw.{InstancesStay, leaf_types, register_types, IsAfter}
 use Rattle.pass_laws.specs.Remaining.{is_flatten, is_symbol_dce, is_lowering, has_pass, symbols, IsKept, AreThose}
 use Rattle.pass_laws.specs.Steady.{SameShape, SameHeader, SameHeaders, IsSteady}
 use Rattle.pass_laws.proofs.Shapes.{types_held, held_same}
 use Rattle.pass_laws.proofs.Those.{all_those}
-use Rattle.pass_laws.proofs.Unchanged.{all_remain}
+use Rattle.pass_laws.proofs.Unchanged.{all_remain, stays_unlowered}
 
 -- ---- headers
 
@@ -121,8 +122,8 @@ steady_is_after passes d e flat gone kept accepted steady lighter =
           record {
             mark = header.mark;
             place = header.place;
-            ports = header.ports;
-            registers = steady.registers s;
+            ports = header.ports ∙ stays_unlowered (has_pass is_lowering passes) kept split_ports m.ports;
+            registers = steady.registers s ∙ stays_unlowered (has_pass is_lowering passes) kept (flat_map leaf_types) (register_types d s);
             instances = instances_stay (has_pass is_flatten passes) flat s;
             weight = lighter s;
           };

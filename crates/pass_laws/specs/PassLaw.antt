@@ -1,5 +1,6 @@
 -- What every pass keeps of a design.
-use Rattle.std.specs.Prelude.{◌≡◌, ◌≤◌, Bool, true, false, List, map, Option, Some}
+use Rattle.std.specs.Prelude.{◌≡◌, ◌≤◌, Bool, true, false, cond, List, map, Option, Some}
+use Rattle.std.specs.List.{flat_map}
 use Rattle.hw_model.specs.Types.{Name, HwType}
 use Rattle.hw_model.specs.Design.{Port, Module, Design, find_module, result_type}
 use Rattle.hw_model.specs.Flat.{Slot, registers}
@@ -10,17 +11,23 @@ use Rattle.hw_model.specs.Weight.{weight}
 use Rattle.op_verifier.specs.Verdict.{IsAccepted}
 use Rattle.mlir_printer.specs.Printable.{Printable}
 use Rattle.pass_pipeline.specs.declared.pass.Pass.{Pass}
-use Rattle.pass_laws.specs.Remaining.{is_flatten, has_pass, symbols, IsPublic, IsKept, AreThose, AreWithin}
+use Rattle.aggregate_laws.specs.Leaves.{leaves_of}
+use Rattle.aggregate_laws.specs.LeafPorts.{split_ports}
+use Rattle.pass_laws.specs.Remaining.{is_flatten, is_lowering, has_pass, symbols, IsPublic, IsKept, AreThose, AreWithin}
 
 -- ---- the look of a module
 
--- the ports that passes leave a module with these ports
+-- the ports that passes leave a module with these ports: where aggregates are lowered, their leaves
 abbrev pub ports_after : List Pass → List Port → List Port
-ports_after passes ports = ports
+ports_after passes ports = cond (has_pass is_lowering passes) (split_ports ports) ports
+
+-- the types of the leaves of a type that there may be
+abbrev pub leaf_types : Option HwType → List (Option HwType)
+leaf_types t = map (λ (u : HwType). Some u) (leaves_of t)
 
 -- the types of the registers that passes leave of registers of these types
 abbrev pub register_types_after : List Pass → List (Option HwType) → List (Option HwType)
-register_types_after passes types = types
+register_types_after passes types = cond (has_pass is_lowering passes) (flat_map leaf_types types) types
 
 -- the types of the registers of a flattened module, in the order of its content
 abbrev pub register_types : Design → Name → List (Option HwType)
