@@ -3,7 +3,7 @@ use Rattle.std.proofs.Common.{◌≡◌, ℕ, zero, suc, ◌+◌, Bool, true, fa
 use Rattle.hw_model.specs.Design.{Op}
 use Rattle.ir_store.specs.BodyOps.{BodyOp}
 use Rattle.ir_store.specs.Designs.{StoredModule, numbered_module}
-use Rattle.aggregate_lower.specs.Lowering.{has_aggregate_value, has_aggregate_type, has_aggregate_result, has_aggregates}
+use Rattle.aggregate_laws.specs.Scalars.{has_aggregate_value, has_aggregate_type, has_aggregate_result, has_aggregates}
 
 -- ---- modules
 

@@ -1,5 +1,3 @@
+pub mod JoinsOut
 pub mod Lowering
-pub mod Reading
-pub mod FormRows
-pub mod Pieces
-pub mod Shapes
+pub mod MadeBodies

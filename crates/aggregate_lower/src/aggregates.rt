@@ -4,9 +4,9 @@ ghost use Rattle.ir_store.specs.Bodies.{ops_of};
 ghost use Rattle.ir_store.specs.Numbered.{ops_by_position};
 ghost use Rattle.ir_store.specs.OperationViews.{results_in};
 ghost use Rattle.ir_store.specs.Designs.{design_of, ports_in, module_of, numbered_module};
-ghost use Rattle.aggregate_lower.specs.Lowering.{has_aggregates, has_aggregate_value, has_aggregate_port, has_aggregate_type, has_aggregate_result};
+ghost use Rattle.aggregate_laws.specs.Scalars.{has_aggregates, has_aggregate_value, has_aggregate_port, has_aggregate_type, has_aggregate_result};
 
-use crate::leaf_types::is_scalar;
+use aggregate_rows::leaf_types::is_scalar;
 use ir_store::body::Body;
 use ir_store::design::{Design, Module, PortList};
 use ir_store::operation::NewResultList;

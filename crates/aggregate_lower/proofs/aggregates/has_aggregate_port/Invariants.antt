@@ -1,6 +1,6 @@
 use Rattle.std.proofs.Common.{◌≡◌, map, drop}
 use Rattle.ir_store.specs.Designs.{port_of, ports_in}
-use Rattle.aggregate_lower.specs.Lowering.{has_aggregate_port}
+use Rattle.aggregate_laws.specs.Scalars.{has_aggregate_port}
 use Rattle.aggregate_lower.proofs.aggregates.has_aggregate_port.Given as goal
 
 abbrev pub invariant-loop-port : goal.invariant-loop-port

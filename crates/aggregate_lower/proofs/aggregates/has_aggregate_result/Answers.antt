@@ -4,7 +4,7 @@ use Rattle.ir_store.specs.BodyOps.{BodyOp}
 use Rattle.ir_store.specs.Numbered.{position_of, op_by, ops_by_position}
 use Rattle.ir_store.proofs.BodyLemmas.{ids_once}
 use Rattle.ir_store.proofs.Walks.{all_among, first_among, rest_among, ops_at, through_all, walk}
-use Rattle.aggregate_lower.specs.Lowering.{has_aggregate_result}
+use Rattle.aggregate_laws.specs.Scalars.{has_aggregate_result}
 use Rattle.aggregate_lower.proofs.DesignValues.{op_with, op_without}
 use Rattle.aggregate_lower.proofs.aggregates.has_aggregate_result.Goals as goal
 

@@ -4,7 +4,7 @@ use Rattle.ir_store.specs.declared.operation.OpId.{OpId}
 use Rattle.ir_store.specs.Bodies.{ids_of, ops_of, ids_left}
 use Rattle.ir_store.specs.Numbered.{position_of, op_by, ops_by_position}
 use Rattle.ir_store.proofs.Walks.{ops_at}
-use Rattle.aggregate_lower.specs.Lowering.{has_aggregate_result}
+use Rattle.aggregate_laws.specs.Scalars.{has_aggregate_result}
 use Rattle.aggregate_lower.proofs.aggregates.has_aggregate_result.Given as goal
 
 abbrev pub invariant-loop-id : goal.invariant-loop-id

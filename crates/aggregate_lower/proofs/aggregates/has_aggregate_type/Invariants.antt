@@ -1,7 +1,7 @@
 use Rattle.std.proofs.Common.{◌≡◌, map, drop}
 use Rattle.ir_store.specs.OperationViews.{result_of, results_in}
 use Rattle.ir_store.specs.ShortLists.{short_items}
-use Rattle.aggregate_lower.specs.Lowering.{has_aggregate_type}
+use Rattle.aggregate_laws.specs.Scalars.{has_aggregate_type}
 use Rattle.aggregate_lower.proofs.aggregates.has_aggregate_type.Given as goal
 
 abbrev pub invariant-loop-one : goal.invariant-loop-one

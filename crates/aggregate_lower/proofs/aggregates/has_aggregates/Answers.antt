@@ -1,5 +1,5 @@
 use Rattle.ir_store.specs.Designs.{design_of, modules_of, module_of}
-use Rattle.aggregate_lower.specs.Lowering.{has_aggregates}
+use Rattle.aggregate_laws.specs.Scalars.{has_aggregates}
 use Rattle.aggregate_lower.proofs.DesignValues.{module_with, module_without}
 use Rattle.aggregate_lower.proofs.aggregates.has_aggregates.Goals as goal
 

@@ -1,0 +1,73 @@
+-- What operations become, one after another, by a table of what stands for values.
+use Rattle.std.proofs.Common.{◌≡◌, ℕ, suc, ◌+◌, ◌<◌, ◌≤◌, List, [], ◌∷◌, ◌++◌, length, map, drop, get_or, Some, slice_get, refl, sym, ap, ap₂, ◌∙◌, arith, append_assoc, inl, inr}
+use Rattle.std.proofs.lemmas.List.{length-map, append-nil, drop_all}
+use Rattle.std.proofs.lemmas.Option.{slice_get-map}
+use Rattle.wiring.specs.Options.{omap}
+use Rattle.wiring.specs.Wiring.{In}
+use Rattle.wiring.proofs.Lists.{map-map, drop_some, slice_get_some}
+use Rattle.wiring.proofs.Members.{map_same}
+use Rattle.hw_model.specs.Design.{Ref, Op, Design}
+use Rattle.ir_store.specs.declared.body.Body.{Body}
+use Rattle.ir_store.specs.declared.body.Op.{Op as ReadOp}
+use Rattle.ir_store.specs.declared.operation.OpId.{OpId}
+use Rattle.ir_store.specs.Bodies.{ids_of, ops_of, op_id, read_op}
+use Rattle.ir_store.specs.declared.operation.Value.{Value}
+use Rattle.ir_store.specs.BodyOps.{BodyOp, op_at}
+use Rattle.ir_store.specs.Numbered.{ref_by, op_by}
+use Rattle.ir_store.proofs.BodyLemmas.{ids_once}
+use Rattle.ir_store.proofs.PositionTables.{ids_same, index_at}
+use Rattle.ir_store.proofs.ReadOps.{op_once}
+use Rattle.aggregate_laws.specs.Rules.{Row, count_by, block, blocks}
+use Rattle.aggregate_rows.specs.declared.leaf_table.LeafTable.{LeafTable}
+use Rattle.aggregate_rows.specs.LeafTables.{leaves_at, starts_from}
+use Rattle.aggregate_rows.specs.LoweringRules.{lowering_rules}
+use Rattle.aggregate_lower.proofs.BareRows.{row_without}
+use Rattle.aggregate_lower.specs.MadeBodies.{block_made, blocks_made}
+
+-- an operation that is read stands at its position
+pub read_there : (b : Body) (ids : List OpId) → ids ≡ map op_id (ids_of b) → (j : ℕ) → j < length ids → (o : ReadOp)
+    → op_at (ops_of b) (get_or ids j (op_id 0)).index ≡ Some (read_op (get_or ids j (op_id 0)) o) → slice_get (ops_of b) j ≡ Some (read_op (get_or ids j (op_id 0)) o)
+read_there b ids all j within o found =
+    let many : length ids ≡ length (ids_of b) = ap length all ∙ length-map (ids_of b) op_id in
+    let ops : length (ids_of b) ≡ length (ops_of b) = length-map (ops_of b) (λ (x : BodyOp). x.id) in
+    let there = slice_get_some (ops_of b) j (omega arith) in
+    let its_id : slice_get (ids_of b) j ≡ Some there.0.id = slice_get-map (λ (x : BodyOp). x.id) (ops_of b) j ∙ ap (omap (λ (x : BodyOp). x.id)) there.1 in
+    let same_id : Some there.0.id ≡ Some (get_or ids j (op_id 0)).index =
+    sym its_id ∙ sym (ap (λ (l : List ℕ). slice_get l j) (ids_same ids (ids_of b) all)) ∙ index_at ids j (op_id 0) within in
+    let index : there.0.id ≡ (get_or ids j (op_id 0)).index = cc in
+    there.1 ∙ sym (op_once (ops_of b) j there.0 there.1 (ids_once b there.0.id)) ∙ ap (op_at (ops_of b)) index ∙ found
+
+module _ (d : Design) (t : LeafTable) where
+  -- one more
+  pub block_next : (ops : List BodyOp) (starts : List ℕ) (p : ℕ) (o : BodyOp) (start : ℕ) (before after whole : List Op) → slice_get ops p ≡ Some o → slice_get starts p ≡ Some start
+      → after ≡ before ++ block_made d t o start → before ++ blocks_made d t (drop p ops) (drop p starts) ≡ whole
+      → after ++ blocks_made d t (drop (p + 1) ops) (drop (p + 1) starts) ≡ whole
+  block_next ops starts p o start before after whole at start_at is left =
+      let next : suc p ≡ p + 1 = omega arith in
+      ap (λ xs. xs ++ blocks_made d t (drop (p + 1) ops) (drop (p + 1) starts)) is
+      ∙ append_assoc before (block_made d t o start) (blocks_made d t (drop (p + 1) ops) (drop (p + 1) starts))
+      ∙ sym (ap₂ (λ xs ys. before ++ blocks_made d t xs ys) (drop_some ops p o at ∙ ap (λ n. o ∷ drop n ops) next) (drop_some starts p start start_at ∙ ap (λ n. start ∷ drop n starts) next))
+      ∙ left
+
+  pub no_block_left : (ops : List BodyOp) (starts : List ℕ) (p : ℕ) (before whole : List Op) → length ops ≤ p → before ++ blocks_made d t (drop p ops) (drop p starts) ≡ whole → before ≡ whole
+  no_block_left ops starts p before whole past left =
+      sym (append-nil before) ∙ ap (λ xs. before ++ blocks_made d t xs (drop p starts)) (sym (drop_all p ops past)) ∙ left
+
+-- ---- all blocks
+
+module _ (d : Design) (t : LeafTable) (parts : Ref → List Ref) (place : ℕ → ℕ) where
+  -- the table has what stands for an operation's operands
+  abbrev pub HasParts : BodyOp → Type 0
+  HasParts o = (v : Value) → In v o.operands → leaves_at t v ≡ parts (ref_by place v)
+
+  block_same : (o : BodyOp) → HasParts o → (start : ℕ) → block_made d t o start ≡ block ((lowering_rules d).row (op_by place o)) parts start (op_by place o)
+  block_same o has start =
+      ap₂ (λ (row : Row) args. row.made args start) (row_without d (op_by place o) [] o.parts.kind)
+      (map_same (leaves_at t) (λ v. parts (ref_by place v)) o.operands has ∙ sym (map-map parts (ref_by place) o.operands))
+
+  pub blocks_same : (ops : List BodyOp) → ((o : BodyOp) → In o ops → HasParts o) → (start : ℕ)
+      → blocks_made d t ops (starts_from (lowering_rules d) start (map (op_by place) ops)) ≡ blocks (lowering_rules d) parts start (map (op_by place) ops)
+  blocks_same [] has start = refl
+  blocks_same (o ∷ ops) has start =
+      ap₂ (λ xs ys. xs ++ ys) (block_same o (has o (inl refl)) start)
+      (blocks_same ops (λ p here. has p (inr here)) (start + count_by (lowering_rules d) (op_by place o)))

@@ -1,0 +1,92 @@
+-- The body of a module of a fit design, by its leaves.
+use Rattle.std.proofs.Common.{◌≡◌, ℕ, suc, ◌+◌, List, [], ◌∷◌, length, refl, sym, ap, ap₂, subst, ◌∙◌, arith}
+use Rattle.std.proofs.lemmas.List.{length-map}
+use Rattle.wiring.specs.Wiring.{In}
+use Rattle.hw_model.specs.Design.{Ref, Port, Op, Design}
+use Rattle.accepted_edits.specs.Keeps.{IsFit}
+use Rattle.ir_store.specs.declared.body.Body.{Body}
+use Rattle.ir_store.specs.declared.operation.NewOp.{NewOp}
+use Rattle.ir_store.specs.Bodies.{ids_of, ops_of, op_id}
+use Rattle.ir_store.specs.BodyOps.{BodyOp, ids_in}
+use Rattle.ir_store.specs.Live.{AreDistinct}
+use Rattle.ir_store.specs.Numbered.{position_of, op_by, ops_by_position}
+use Rattle.ir_store.proofs.BodyLemmas.{ids_once}
+use Rattle.aggregate_laws.specs.Rules.{Rules, count_by, blocks, parts_of}
+use Rattle.aggregate_accepted.specs.Joins.{without_joins}
+use Rattle.aggregate_rows.specs.declared.leaf_table.LeafTable.{LeafTable}
+use Rattle.aggregate_rows.specs.LeafTables.{starts_from, ends_from, IsLeafTable}
+use Rattle.aggregate_rows.specs.LoweringRules.{lowering_rules}
+use Rattle.aggregate_rows.specs.Made.{made_in}
+use Rattle.aggregate_rows.specs.Reading.{new_seen}
+use Rattle.aggregate_lower.specs.JoinsOut.{joins_out, CanJoin}
+use Rattle.aggregate_lower.specs.MadeBodies.{numbered_from, blocks_made, joined_body, HasBody}
+use Rattle.aggregate_lower.proofs.BlocksMade.{blocks_same}
+use Rattle.aggregate_lower.proofs.JoinsLeaving.{Leave, all_leave}
+use Rattle.aggregate_lower.proofs.NumberedBodies.{IsBelow, numbered_seen}
+use Rattle.aggregate_lower.proofs.OperandsTyped.{IsWellNamed, well_named}
+
+many_starts : (rules : Rules) (start : ℕ) (os : List Op) → length (starts_from rules start os) ≡ length os
+many_starts rules start [] = refl
+many_starts rules start (o ∷ os) = ap suc (many_starts rules (start + count_by rules o) os)
+
+many_ends : (rules : Rules) (start : ℕ) (os : List Op) → length (ends_from rules start os) ≡ length os
+many_ends rules start [] = refl
+many_ends rules start (o ∷ os) = ap suc (many_ends rules (start + count_by rules o) os)
+
+module _ (d : Design) (ps : List Port) (b : Body) (t : LeafTable) (table : IsLeafTable (lowering_rules d) ps b t) where
+  ids_many : length t.ids.items ≡ length (ops_by_position (ops_of b))
+  ids_many =
+      ap length table.ids ∙ length-map (ids_of b) op_id ∙ length-map (ops_of b) (λ (o : BodyOp). o.id)
+      ∙ sym (length-map (ops_of b) (op_by (position_of (ids_of b))))
+
+  pub starts_many : length t.starts.items ≡ length t.ids.items
+  starts_many = ap length table.starts ∙ many_starts (lowering_rules d) 0 (ops_by_position (ops_of b)) ∙ sym ids_many
+
+  pub ends_many : length t.ends.items ≡ length t.ids.items
+  ends_many = ap length table.ends ∙ many_ends (lowering_rules d) 0 (ops_by_position (ops_of b)) ∙ sym ids_many
+
+  module _ (fit : IsFit d) (has : HasBody d ps (ops_by_position (ops_of b))) (made : List NewOp) (made_is : made_in made ≡ blocks_made d t (ops_of b) t.starts.items)
+      (new : Body) (new_is : ops_of new ≡ numbered_from 0 made) where
+    abbrev all_blocks : List Op
+    all_blocks = blocks (lowering_rules d) (parts_of (lowering_rules d) ps (ops_by_position (ops_of b))) 0 (ops_by_position (ops_of b))
+
+    blocks_are : made_in made ≡ all_blocks
+    blocks_are =
+        made_is ∙ ap (blocks_made d t (ops_of b)) table.starts
+        ∙ blocks_same d t (parts_of (lowering_rules d) ps (ops_by_position (ops_of b))) (position_of (ids_of b)) (ops_of b) (λ o here v among. table.values v) 0
+
+    named : IsWellNamed (lowering_rules d) ps (ops_by_position (ops_of b))
+    named = well_named d fit ps (ops_by_position (ops_of b)) has
+
+    many_made : length made ≡ length all_blocks
+    unfolding made_in
+    many_made = sym (length-map made new_seen) ∙ ap length blocks_are
+
+    all_below : (x : Op) (r : Ref) → In x (made_in made) → In r x.operands → IsBelow (length made) r
+    all_below x r there here = subst (λ n. IsBelow n r) (sym many_made) (named.below x r (subst (In x) blocks_are there) here)
+
+    leave : Leave (lowering_rules d) 0 0 (ops_by_position (ops_of b)) (numbered_from 0 made)
+    leave =
+        all_leave (lowering_rules d) (ops_by_position (ops_of b)) made
+        (subst (λ (ops : List BodyOp). AreDistinct (ids_in ops)) new_is (ids_once new))
+        all_below
+        (λ x r there here. named.first x r (subst (In x) blocks_are there) here)
+        (let size = named.size in omega (arith, many_made, size))
+
+    pub can_join : CanJoin (ops_by_position (ops_of b)) t.starts.items t.ends.items (ops_of new)
+    can_join =
+        subst (CanJoin (ops_by_position (ops_of b)) t.starts.items t.ends.items) (sym new_is)
+        (subst (λ highs. CanJoin (ops_by_position (ops_of b)) t.starts.items highs (numbered_from 0 made)) (sym table.ends)
+        (subst (λ lows. CanJoin (ops_by_position (ops_of b)) lows (ends_from (lowering_rules d) 0 (ops_by_position (ops_of b))) (numbered_from 0 made)) (sym table.starts) leave.can))
+
+    by_position : ops_by_position (numbered_from 0 made) ≡ all_blocks
+    by_position =
+        numbered_seen made (subst (λ (ops : List BodyOp). AreDistinct (ids_in ops)) new_is (ids_once new)) all_below ∙ blocks_are
+
+    pub body_joined : (after : List BodyOp) → after ≡ joins_out (ops_by_position (ops_of b)) t.starts.items t.ends.items (ops_of new)
+        → ops_by_position after ≡ joined_body (lowering_rules d) ps (ops_by_position (ops_of b))
+    body_joined after is =
+        ap ops_by_position
+        (is ∙ ap₂ (λ lows highs. joins_out (ops_by_position (ops_of b)) lows highs (ops_of new)) table.starts table.ends
+        ∙ ap (joins_out (ops_by_position (ops_of b)) (starts_from (lowering_rules d) 0 (ops_by_position (ops_of b))) (ends_from (lowering_rules d) 0 (ops_by_position (ops_of b)))) new_is)
+        ∙ leave.left ∙ ap (without_joins (lowering_rules d) 0 (ops_by_position (ops_of b))) by_position

@@ -1,0 +1,82 @@
+-- The operands of the blocks of a module of a fit design.
+use Rattle.std.proofs.Common.{◌≡◌, ℕ, true, List, length, map, Option, Some, None, is_some, slice_get, refl, ap, subst, ◌∙◌}
+use Rattle.wiring.specs.Options.{omap}
+use Rattle.wiring.specs.Wiring.{In}
+use Rattle.wiring.proofs.Members.{position_of_In}
+use Rattle.hw_model.specs.Types.{HwType}
+use Rattle.hw_model.specs.Design.{Ref, Port, Op, Module, Design}
+use Rattle.hw_model.specs.Design.Ref.{result}
+use Rattle.hw_model.specs.Sound.{type_in, SoundBody}
+use Rattle.hw_edits.specs.Follows.{Follows}
+use Rattle.accepted_edits.specs.Keeps.{IsFit}
+use Rattle.accepted_edits.proofs.Accepted.{fit_found}
+use Rattle.accepted_edits.proofs.FitBodies.{operand_there}
+use Rattle.ir_store.specs.Bodies.{op_id}
+use Rattle.aggregate_laws.specs.LeafPorts.{split_ports}
+use Rattle.aggregate_laws.specs.Rules.{Rules, blocks, parts_of, Splits, lowered_module, lowered_design}
+use Rattle.aggregate_laws.proofs.Aggregates.{regular_splits, aggregates_follow}
+use Rattle.aggregate_laws.proofs.LeafPorts.{split_bare}
+use Rattle.aggregate_accepted.proofs.Borrowed.{typed_all, find_lowered}
+use Rattle.aggregate_accepted.proofs.Regular.{regular_op, all_regular}
+use Rattle.aggregate_rows.specs.LoweringRules.{leaf_named, lowering_rules}
+use Rattle.aggregate_rows.proofs.BareKinds.{kind_bare}
+use Rattle.aggregate_lower.specs.MadeBodies.{HasBody}
+use Rattle.aggregate_lower.proofs.BlockOperands.{all_below, all_first, blocks_many}
+use Rattle.aggregate_lower.proofs.JoinWires.{join_one}
+use Rattle.aggregate_lower.proofs.JoinsLeaving.{how_many, join_ids}
+use Rattle.aggregate_lower.proofs.NumberedBodies.{IsBelow}
+
+-- operands of the blocks of a body are results that are there, and those of wires that leave later are first results
+pub record IsWellNamed (rules : Rules) (ps : List Port) (os : List Op) : Type 0 where
+  pub size : length (blocks rules (parts_of rules ps os) 0 os) ≡ how_many rules os
+  pub below : (x : Op) (r : Ref) → In x (blocks rules (parts_of rules ps os) 0 os) → In r x.operands → IsBelow (length (blocks rules (parts_of rules ps os) 0 os)) r
+  pub first : (x : Op) (r : Ref) → In x (blocks rules (parts_of rules ps os) 0 os) → In r x.operands → (j k : ℕ) → r ≡ result j k → In (op_id j) (join_ids rules 0 os) → k ≡ 0
+
+its_type : (x : Option HwType) → is_some x ≡ true → (t : HwType) × (x ≡ Some t)
+its_type None some = cc
+its_type (Some t) some = (t, refl)
+
+module _ (d : Design) (fit : IsFit d) (k : ℕ) (m : Module) (at : slice_get d k ≡ Some m) where
+  abbrev rules : Rules
+  rules = lowering_rules d
+
+  abbrev new_ops : List Op
+  new_ops = blocks (lowering_rules d) (parts_of (lowering_rules d) m.ports m.body) 0 m.body
+
+  sound : SoundBody d m.ports m.body
+  sound = fit.valid.sound m.symbol m (fit_found d fit k m at)
+
+  splits : (o : Op) → In o m.body → Splits ((lowering_rules d).row o) (type_in m.ports m.body) (parts_of (lowering_rules d) m.ports m.body) o
+  splits o here =
+      let spot = position_of_In o m.body here in
+      regular_splits (leaf_named d) o (type_in m.ports m.body) (parts_of (lowering_rules d) m.ports m.body) (sound.ops spot.0 o spot.1) o.kind refl
+      (regular_op d fit k m at (leaf_named d) spot.0 o spot.1 (λ inst. kind_bare d o.kind))
+
+  given : (o : Op) (r : Ref) → In o m.body → In r o.operands → (t : HwType) × (type_in m.ports m.body r ≡ Some t)
+  given o r here among =
+      let spot = position_of_In o m.body here in
+      its_type (type_in m.ports m.body r) (operand_there d fit k m at spot.0 o r spot.1 among)
+
+  follows : Follows d (lowered_design (lowering_rules d) d)
+  follows = aggregates_follow split_ports (leaf_named d) d split_bare (all_regular d (leaf_named d) fit (λ o inst. kind_bare d o.kind)) fit.valid
+
+  new_sound : SoundBody (lowered_design (lowering_rules d) d) (split_ports m.ports) new_ops
+  new_sound =
+      follows.valid.sound m.symbol (lowered_module (lowering_rules d) m)
+      (find_lowered (lowering_rules d) d m.symbol ∙ ap (omap (lowered_module (lowering_rules d))) (fit_found d fit k m at))
+
+  well_named_at : IsWellNamed (lowering_rules d) m.ports m.body
+  well_named_at =
+      let typed = typed_all (lowering_rules d) m.ports (split_ports m.ports) m.body (split_bare m.ports) splits in
+      record {
+        size = blocks_many (lowering_rules d) m.ports (split_ports m.ports) m.body splits typed given new_sound.ops;
+        below = all_below (lowering_rules d) m.ports (split_ports m.ports) m.body splits typed given new_sound.ops;
+        first = all_first (lowering_rules d) m.ports (split_ports m.ports) m.body splits typed given new_sound.ops
+            (λ o here joins start y among. join_one (leaf_named d) o o.kind joins (map (parts_of (lowering_rules d) m.ports m.body) o.operands) start y among);
+      }
+
+pub well_named : (d : Design) → IsFit d → (ps : List Port) (os : List Op) → HasBody d ps os → IsWellNamed (lowering_rules d) ps os
+well_named d fit ps os has =
+    let place = position_of_In has.owner d has.is_in in
+    subst (λ (qs : List Port). IsWellNamed (lowering_rules d) qs os) has.ports_are
+    (subst (λ (xs : List Op). IsWellNamed (lowering_rules d) has.owner.ports xs) has.body_is (well_named_at d fit place.0 has.owner place.1))

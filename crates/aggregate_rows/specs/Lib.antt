@@ -1,0 +1,10 @@
+pub mod LoweringRules
+pub mod Reading
+pub mod FormRows
+pub mod Pieces
+pub mod PieceRows
+pub mod Shapes
+pub mod LeafTables
+pub mod Callees
+pub mod Made
+pub mod Names
