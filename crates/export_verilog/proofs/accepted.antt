@@ -5,6 +5,4 @@ pub mod AcceptedOps
 pub mod AcceptedTypes
 pub mod AcceptedValues
 pub mod AcceptedWeights
-pub mod AggregateSamples
-pub mod FirstAggregates
 pub mod NoAggregates

@@ -2,7 +2,6 @@
 #![tactic(auto)]
 
 mod acceptance;
-pub mod aggregates;
 mod assigns;
 mod blocks;
 mod body_names;

@@ -48,10 +48,10 @@ module _ (d : Design) (fine : IsAccepted d) (plain : HasNoAggregates d) (n : ℕ
   tests = op_tested d fine n m there
 
   plain_ops : (j : ℕ) (o : Op) → slice_get m.body j ≡ Some o → IsPlain o
-  plain_ops = op_plain d plain n m there
+  plain_ops = op_plain d fine plain n m there
 
   port_bits : (j : ℕ) (p : Port) → slice_get m.ports j ≡ Some p → HasSomeBits p.type
-  port_bits j p at = within_limits p.type (none_of (λ (q : Port). is_aggregate q.type) m.ports (ports_plain d plain n m there) p (in_list m.ports j p at)) (port_within d fine n m there j p at)
+  port_bits j p at = within_limits p.type (none_of (λ (q : Port). is_aggregate q.type) m.ports (ports_plain d fine plain n m there) p (in_list m.ports j p at)) (port_within d fine n m there j p at)
 
   body_fits : (j : ℕ) (o : Op) → slice_get m.body j ≡ Some o → OpFits (type_in m.ports m.body) o
   body_fits = (accepted_sound d fine m.symbol m (found d fine n m there)).ops

@@ -148,9 +148,9 @@ module _ (d : Design) (fine : IsAccepted d) (none : HasNoAggregates d) (n : ℕ)
 
   identifiers_within : (inner : Name → ℕ) → length (module_identifiers m) ≤ weight_of inner (Some m)
   identifiers_within inner =
-      let ports = port_leaves 0 m.ports (ports_plain d none n m there) in
+      let ports = port_leaves 0 m.ports (ports_plain d fine none n m there) in
       let ops = body_identifiers inner (op_identifiers m.ports m.body) 0 m.body
-      (λ j o at i. identifiers_weigh inner m.ports m.body i o (op_tested d fine n m there j o at) (op_plain d none n m there j o at)) in
+      (λ j o at i. identifiers_weigh inner m.ports m.body i o (op_tested d fine n m there j o at) (op_plain d fine none n m there j o at)) in
       let all = length-append (each port_identifiers 0 m.ports) (each (op_identifiers m.ports m.body) 0 m.body) in
       omega (arith, ports, ops, all)
 
