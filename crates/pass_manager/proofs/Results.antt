@@ -22,12 +22,13 @@ use Rattle.cse_pass.specs.Cse.{IsCseOf}
 use Rattle.cse_pass.proofs.Following.{changes_follow}
 use Rattle.cse_pass.proofs.Leading.{cse_leads}
 use Rattle.cse_pass.proofs.Once.{once as cse_once}
+use Rattle.aggregate_lower.proofs.LoweringLaw.{lowering_is_after}
 use Rattle.inline_pass.proofs.FlatteningLaw.{flattening_is_after, flattened_once, flattened_fit}
 use Rattle.seq_lower.specs.Lowered.{IsLoweredOf, Lowers}
 use Rattle.seq_lower.proofs.Following.{lowering_keeps}
 use Rattle.seq_lower.proofs.Plain.{lowered_leads}
 use Rattle.inline_pass.proofs.DeadModulesGone.{dce_is_after, without_dead_once, without_dead_fit}
-use Rattle.pass_manager.specs.Results.{IsChosen, IsResult, on_offer}
+use Rattle.pass_manager.specs.Results.{IsChosen, IsResult}
 use Rattle.pass_manager.proofs.ChangedBodies.{changed_keeps, modules_once}
 
 -- ---- bodies
@@ -45,14 +46,6 @@ pub merged_keeps : (d : Design) (k : ℕ) (m : Module) (os : List Op) → IsFit 
 merged_keeps d k m os fit at is = changes_follow d k m os fit at (cse_leads m.body os is)
 
 -- ---- one pass
-
-pub chosen_fit : (pass : Pass) (d e : Design) → IsFit d → IsChosen pass d e → IsFit e
-chosen_fit Canonicalize d e fit chosen = (changed_keeps IsCanonicalOf canonical_keeps d e fit chosen).steady.fit
-chosen_fit Cse d e fit chosen = (changed_keeps IsCseOf merged_keeps d e fit chosen).steady.fit
-chosen_fit SeqLowerRegs d e fit chosen = (changed_keeps IsLoweredOf lowered_keeps d e fit chosen).steady.fit
-chosen_fit HwLowerAggregates d e fit chosen = subst IsFit (sym chosen) fit
-chosen_fit HwFlattenModules d e fit chosen = flattened_fit d e fit chosen
-chosen_fit SymbolDce d e fit chosen = without_dead_fit d e fit chosen
 
 pub canonicalize_keeps : PassLaw (Canonicalize ∷ []) (IsChosen Canonicalize)
 canonicalize_keeps d e accepted printable chosen =
@@ -75,11 +68,14 @@ flatten_keeps d e accepted printable chosen = flattening_is_after d e accepted p
 pub symbol_dce_keeps : PassLaw (SymbolDce ∷ []) (IsChosen SymbolDce)
 symbol_dce_keeps d e accepted printable chosen = dce_is_after d e accepted printable chosen
 
-chosen_after : (pass : Pass) (d e : Design) → IsAccepted d → Printable d → IsChosen pass d e → IsAfter (on_offer (pass ∷ [])) d e
+pub lower_aggregates_keeps : PassLaw (HwLowerAggregates ∷ []) (IsChosen HwLowerAggregates)
+lower_aggregates_keeps d e accepted printable chosen = lowering_is_after d e accepted printable chosen
+
+pub chosen_after : (pass : Pass) (d e : Design) → IsAccepted d → Printable d → IsChosen pass d e → IsAfter (pass ∷ []) d e
 chosen_after Canonicalize d e accepted printable chosen = canonicalize_keeps d e accepted printable chosen
 chosen_after Cse d e accepted printable chosen = cse_keeps d e accepted printable chosen
 chosen_after SeqLowerRegs d e accepted printable chosen = seq_lower_regs_keeps d e accepted printable chosen
-chosen_after HwLowerAggregates d e accepted printable chosen = identity_keeps [] refl refl refl d e accepted printable chosen
+chosen_after HwLowerAggregates d e accepted printable chosen = lower_aggregates_keeps d e accepted printable chosen
 chosen_after HwFlattenModules d e accepted printable chosen = flatten_keeps d e accepted printable chosen
 chosen_after SymbolDce d e accepted printable chosen = symbol_dce_keeps d e accepted printable chosen
 
@@ -93,20 +89,17 @@ chosen_once SymbolDce d e f one other = without_dead_once d e f one other
 
 -- ---- lists of passes
 
-offered_then : (pass : Pass) (passes : List Pass) → on_offer (pass ∷ []) ++ on_offer passes ≡ on_offer (pass ∷ passes)
-offered_then Canonicalize passes = refl
-offered_then Cse passes = refl
-offered_then SeqLowerRegs passes = refl
-offered_then HwLowerAggregates passes = refl
-offered_then HwFlattenModules passes = refl
-offered_then SymbolDce passes = refl
-
-pub result_is_after : (passes : List Pass) (d e : Design) → IsAccepted d → Printable d → IsResult passes d e → IsAfter (on_offer passes) d e
+pub result_is_after : (passes : List Pass) (d e : Design) → IsAccepted d → Printable d → IsResult passes d e → IsAfter passes d e
 result_is_after [] d e accepted printable same = identity_keeps [] refl refl refl d e accepted printable same
 result_is_after (pass ∷ passes) d f accepted printable (e, chosen, rest) =
-    let first : IsAfter (on_offer (pass ∷ [])) d e = chosen_after pass d e accepted printable chosen in
-    let then : IsAfter (on_offer passes) e f = result_is_after passes e f first.accepted first.printable rest in
-    subst (λ z. IsAfter z d f) (offered_then pass passes) (after_both (on_offer (pass ∷ [])) (on_offer passes) d e f first then)
+    let first : IsAfter (pass ∷ []) d e = chosen_after pass d e accepted printable chosen in
+    let then : IsAfter passes e f = result_is_after passes e f first.accepted first.printable rest in
+    after_both (pass ∷ []) passes d e f first then
+
+-- passes after others
+pub result_then : (passes others : List Pass) (d e f : Design) → IsResult passes d e → IsResult others e f → IsResult (passes ++ others) d f
+result_then [] others d e f same rest = subst (λ x. IsResult others x f) same rest
+result_then (pass ∷ passes) others d e f (g, first, more) rest = (g, first, result_then passes others g e f more rest)
 
 pub result_once : (passes : List Pass) (d e f : Design) → IsResult passes d e → IsResult passes d f → e ≡ f
 result_once [] d e f one other = one ∙ sym other

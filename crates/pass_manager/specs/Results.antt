@@ -1,10 +1,11 @@
 -- What passes make of a design (MLIR documentation, "Pass infrastructure"; CIRCT documentation, "Passes").
-use Rattle.std.specs.Prelude.{◌≡◌, Bool, true, false, cond, List, [], ◌∷◌, ⊤}
+use Rattle.std.specs.Prelude.{◌≡◌, List, [], ◌∷◌, ⊤}
 use Rattle.hw_model.specs.Design.{Op, Module, Design}
 use Rattle.canonicalise.specs.Canonical.{IsCanonicalOf}
 use Rattle.cse_pass.specs.Cse.{IsCseOf}
 use Rattle.inline_pass.specs.DeadModules.{IsWithoutDead}
 use Rattle.inline_pass.specs.Flattening.{IsFlattened}
+use Rattle.aggregate_lower.specs.Lowering.{lowered_aggregates}
 use Rattle.seq_lower.specs.Lowered.{IsLoweredOf}
 use Rattle.pass_pipeline.specs.declared.pass.Pass.{Pass}
 use Rattle.pass_pipeline.specs.declared.pass.Pass.TheVariants.{Canonicalize, Cse, SeqLowerRegs, HwLowerAggregates, HwFlattenModules, SymbolDce}
@@ -25,24 +26,14 @@ AreModulesBy Makes (m ∷ d) [] = ⊥
 
 -- ---- lists of passes
 
--- whether a pass is on offer
-abbrev pub is_on_offer : Pass → Bool
-is_on_offer HwLowerAggregates = false
-is_on_offer _ = true
-
--- the passes of a list that are
-abbrev pub on_offer : List Pass → List Pass
-on_offer [] = []
-on_offer (pass ∷ passes) = cond (is_on_offer pass) (pass ∷ on_offer passes) (on_offer passes)
-
--- what one pass makes of a design; a pass that is not on offer makes nothing else of it
+-- what one pass makes of a design
 abbrev pub IsChosen : Pass → Design → Design → Type 0
 IsChosen Canonicalize d e = AreModulesBy IsCanonicalOf d e
 IsChosen Cse d e = AreModulesBy IsCseOf d e
 IsChosen SeqLowerRegs d e = AreModulesBy IsLoweredOf d e
 IsChosen HwFlattenModules d e = IsFlattened d e
 IsChosen SymbolDce d e = IsWithoutDead d e
-IsChosen HwLowerAggregates d e = e ≡ d
+IsChosen HwLowerAggregates d e = e ≡ lowered_aggregates d
 
 -- what a list of passes makes of a design, the first one first
 abbrev pub IsResult : List Pass → Design → Design → Type 0

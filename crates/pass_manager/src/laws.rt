@@ -5,15 +5,16 @@ ghost use Rattle.hw_model.specs.Design.{Design};
 ghost use Rattle.op_verifier.specs.Verdict.{IsAccepted};
 ghost use Rattle.mlir_printer.specs.Printable.{Printable};
 ghost use Rattle.pass_pipeline.specs.declared.pass.Pass.{Pass};
-ghost use Rattle.pass_pipeline.specs.declared.pass.Pass.TheVariants.{Canonicalize, Cse, SeqLowerRegs, HwFlattenModules, SymbolDce};
+ghost use Rattle.pass_pipeline.specs.declared.pass.Pass.TheVariants.{Canonicalize, Cse, SeqLowerRegs, HwLowerAggregates, HwFlattenModules, SymbolDce};
 ghost use Rattle.pass_laws.specs.PassLaw.{IsAfter, PassLaw};
-ghost use Rattle.pass_manager.specs.Results.{IsChosen, IsResult, on_offer};
+ghost use Rattle.pass_manager.specs.Results.{IsChosen, IsResult};
 
-/// Does nothing. Its clauses say that each pass on offer meets the law of passes.
+/// Does nothing. Its clauses say that each pass meets the law of passes.
 pub fn passes_keep()
     ensures canonicalize { PassLaw (Canonicalize ∷ []) (IsChosen Canonicalize) }
     ensures cse { PassLaw (Cse ∷ []) (IsChosen Cse) }
     ensures seq_lower_regs { PassLaw (SeqLowerRegs ∷ []) (IsChosen SeqLowerRegs) }
+    ensures lower_aggregates { PassLaw (HwLowerAggregates ∷ []) (IsChosen HwLowerAggregates) }
     ensures flatten { PassLaw (HwFlattenModules ∷ []) (IsChosen HwFlattenModules) }
     ensures symbol_dce { PassLaw (SymbolDce ∷ []) (IsChosen SymbolDce) }
 {}
@@ -23,9 +24,8 @@ pub fn result_once()
     ensures { (passes : List Pass) (d e f : Design) → IsResult passes d e → IsResult passes d f → e ≡ f }
 {}
 
-/// Does nothing. Its clause says that what a list of passes makes of an accepted, printable design meets the law of those that are
-/// on offer: it is accepted and printable, the modules that remain are in order and no heavier, and each public one does what
-/// it did.
+/// Does nothing. Its clause says that what a list of passes makes of an accepted, printable design meets their law: it is accepted
+/// and printable, the modules that remain are in order and no heavier, and each public one does what it did.
 pub fn results_follow()
-    ensures { (passes : List Pass) (d e : Design) → IsAccepted d → Printable d → IsResult passes d e → IsAfter (on_offer passes) d e }
+    ensures { (passes : List Pass) (d e : Design) → IsAccepted d → Printable d → IsResult passes d e → IsAfter passes d e }
 {}

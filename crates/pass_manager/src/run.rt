@@ -2,6 +2,7 @@
 ghost use Rattle.std.specs.Prelude.{◌≡◌, ◌≤◌, IfOk, OnOk};
 ghost use Rattle.ir_store.specs.Designs.{design_of};
 ghost use Rattle.accepted_edits.specs.Keeps.{IsFit};
+ghost use Rattle.pass_pipeline.specs.declared.pass.Pass.TheVariants.{HwLowerAggregates};
 ghost use Rattle.pass_manager.specs.Results.{AreModulesBy, IsChosen, IsResult};
 
 use crate::bodies::{put_bodies, take_bodies};
@@ -9,6 +10,7 @@ use crate::body_pass::{BodyPass, CanonicalForm, CommonSubexpressions, LoweredReg
 use crate::body_work::{Bodies, BodyWork};
 use crate::callees::callee_lists;
 use crate::gate::Gate;
+use aggregate_lower::lowering::lower_aggregates;
 use inline_pass::dead_modules::symbol_dce;
 use inline_pass::flattening::flatten_modules;
 use ir_store::design::Design;
@@ -44,6 +46,16 @@ pub fn run_pipeline<R: Threads + Sync, G: Gate + Sync>(
     Ok(Verified::new(made))
 }
 
+/// The design of which nothing is refused with its aggregates lowered to their leaves, where it has any (CIRCT, HW dialect:
+/// `hw-lower-aggregates`). The error comes only when out of memory, and the design is dropped then.
+pub fn with_lowered_aggregates(alloc: Global, design: Verified) -> Result<Verified, AllocError>
+    ensures { IfOk result (λ done. IsChosen HwLowerAggregates (design_of design.design) (design_of done.design)) }
+{
+    let mut made = design.into_design();
+    lower_aggregates(alloc, &mut made)?;
+    Ok(Verified::new(made))
+}
+
 /// One pass.
 fn run_pass<R: Threads + Sync, G: Gate + Sync>(
     rt: &R,
@@ -68,7 +80,7 @@ fn run_pass<R: Threads + Sync, G: Gate + Sync>(
         ),
         Pass::HwFlattenModules => flatten_modules(alloc, design),
         Pass::SymbolDce => symbol_dce(alloc, design),
-        Pass::HwLowerAggregates => Ok(()),
+        Pass::HwLowerAggregates => lower_aggregates(alloc, design),
     }
 }
 

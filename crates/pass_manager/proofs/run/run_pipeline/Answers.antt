@@ -2,26 +2,36 @@ use Rattle.std.proofs.Common.{sym, subst, ap}
 use Rattle.ir_store.specs.Designs.{design_of, numbered_module}
 use Rattle.std.specs.Prelude.{map}
 use Rattle.accepted_edits.proofs.Accepted.{accepted_fit}
-use Rattle.accepted_edits.specs.Keeps.{IsFit}
+use Rattle.hw_model.specs.Design.{Design}
+use Rattle.op_verifier.specs.Verdict.{IsAccepted}
+use Rattle.mlir_printer.specs.Printable.{Printable}
 use Rattle.pass_manager.proofs.CanonicalAgain.{canonical_again}
 use Rattle.mlir_printer.proofs.printable.VerifiedDesigns.{canonical_designs_are_printable}
 use Rattle.pass_manager.specs.Results.{IsResult}
-use Rattle.pass_manager.proofs.Results.{chosen_fit, from_one, result_of, result_is_after}
+use Rattle.pass_manager.proofs.Results.{chosen_after, from_one, result_of, result_is_after}
 use Rattle.pass_manager.proofs.run.run_pipeline.Goals as goal
+
+-- accepted, and printable
+abbrev Shown : Design → Type 0
+Shown d = IsAccepted d × Printable d
 
 pub loop-pass-init : goal.loop-pass-init
 loop-pass-init g c =
     let d = design_of c.args.design.design in
     let printable = canonical_designs_are_printable d c.args.design.accepted c.args.design.canonical in
-    (subst IsFit (sym (ap (map numbered_module) c.into_design-made.ensures)) (accepted_fit d c.args.design.accepted printable), λ f is. is)
+    (subst Shown (sym (ap (map numbered_module) c.into_design-made.ensures)) (c.args.design.accepted, printable), λ f is. is)
+
+pub run_pass-requires-clause-fit : goal.run_pass-requires-clause-fit
+run_pass-requires-clause-fit g c κs within = accepted_fit (design_of c.loop-pass.made) c.loop-pass.invariant.0.0 c.loop-pass.invariant.0.1
 
 pub loop-pass-preserved : goal.loop-pass-preserved
-loop-pass-preserved g c = (
-  chosen_fit _ (design_of c.loop-pass.made) (design_of c.run_pass.new.design) c.loop-pass.invariant.0 c.in_ok-run_pass.ensures,
-  λ f is. c.loop-pass.invariant.1 f
-      (subst (λ z. IsResult z (design_of c.loop-pass.made) f) (sym (from_one c.as_slice-pass-items.result.now c.loop-pass.pass-index _ c.loop-pass-test.true))
-      (design_of c.run_pass.new.design, c.in_ok-run_pass.ensures, is)),
-)
+loop-pass-preserved g c =
+    let after = chosen_after _ (design_of c.loop-pass.made) (design_of c.run_pass.new.design) c.loop-pass.invariant.0.0 c.loop-pass.invariant.0.1 c.in_ok-run_pass.ensures in (
+      (after.accepted, after.printable),
+      λ f is. c.loop-pass.invariant.1 f
+          (subst (λ z. IsResult z (design_of c.loop-pass.made) f) (sym (from_one c.as_slice-pass-items.result.now c.loop-pass.pass-index _ c.loop-pass-test.true))
+          (design_of c.run_pass.new.design, c.in_ok-run_pass.ensures, is)),
+    )
 
 pub new-requires : goal.new-requires
 new-requires g c =
