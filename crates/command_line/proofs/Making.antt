@@ -1,5 +1,5 @@
 -- A command that got one more argument.
-use Rattle.std.proofs.Common.{◌≡◌, ◌∙◌, ◌||◌, false, Result, Ok, Err, ap, refl}
+use Rattle.std.proofs.Common.{◌≡◌, ◌∙◌, ◌||◌, false, Result, Ok, Err, ap}
 use Rattle.std.specs.Prelude.{IfOk}
 use Rattle.clap.specs.Words.{AddsArg, Rule, app_of, rule_of, with_rule}
 use Rattle.clap.specs.declared.builder.Arg.{Arg}

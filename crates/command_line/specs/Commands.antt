@@ -35,6 +35,18 @@ workers_rule = record (new_rule (codes "workers")) { long = Some (codes "workers
 abbrev pub threading_rule : Rule
 threading_rule = record (new_rule (codes "mlir-disable-threading")) { long = Some (codes "mlir-disable-threading"); action = Some SetTrue }
 
+-- SEED, which is asked for
+abbrev pub seed_rule : Rule
+seed_rule = record (new_rule (codes "seed")) { required = true }
+
+-- N, the number of modules, which is asked for
+abbrev pub count_rule : Rule
+count_rule = record (new_rule (codes "count")) { required = true }
+
+-- `--verilog`
+abbrev pub verilog_rule : Rule
+verilog_rule = record (new_rule (codes "verilog")) { long = Some (codes "verilog"); action = Some SetTrue }
+
 -- with `--workers N` and `--mlir-disable-threading`
 abbrev pub with_workers : App → App
 with_workers a = with_rule (with_rule a workers_rule) threading_rule
@@ -51,6 +63,10 @@ opt_app = with_rule (with_common (new_app (codes "opt"))) split_rule
 abbrev pub translate_app : App
 translate_app = with_rule (with_common (new_app (codes "translate"))) export_rule
 
+-- `gen SEED N [--verilog] [-o FILE] [--workers N]`
+abbrev pub gen_app : App
+gen_app = with_rule (with_rule (with_rule (with_rule (with_rule (new_app (codes "gen")) seed_rule) count_rule) verilog_rule) output_rule) workers_rule
+
 -- a command without help and version, of which a subcommand is wanted; its words are those after the program's name
 abbrev pub bare : App → App
 bare a = record a {
@@ -64,4 +80,4 @@ bare a = record a {
 
 -- the program
 abbrev pub circt_app : App
-circt_app = with_subcommand (with_subcommand (bare (new_app (codes "circt"))) opt_app.top) translate_app.top
+circt_app = with_subcommand (with_subcommand (with_subcommand (bare (new_app (codes "circt"))) opt_app.top) translate_app.top) gen_app.top

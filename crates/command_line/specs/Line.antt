@@ -13,11 +13,14 @@ use Rattle.command_line.specs.declared.usage.UsageKind.{UsageKind}
 use Rattle.command_line.specs.declared.usage.UsageKind.TheVariants.{Words, TwoPipelines, NoTranslation, Pipeline}
 
 -- what is made of the inputs: MLIR text, or Verilog, of the design that passes make of the one that is read; or MLIR text of the
--- designs that they make of those of the pieces of an input
+-- designs that they make of those of the pieces of an input; or, without an input, a summary, or Verilog, of the design that is
+-- generated from a seed with so many modules
 pub data Work : Type 0 where
   mlir : List Pass → Work
   mlir_pieces : List Pass → Work
   verilog : List Pass → Work
+  generated_summary : ℕ → ℕ → Work
+  generated_verilog : ℕ → ℕ → Work
 
 -- a command: the files that it reads, in order, the one that it writes, its work, and by how many workers; `-` is standard input, no file
 -- standard output
@@ -36,9 +39,11 @@ unless_dash (Some text) = cond (bytes_eq text (codes "-")) None (Some text)
 abbrev pub input_in : List Row → Text
 input_in rows = unwrap_or (first_of (codes "file") rows) (codes "-")
 
--- the files that are read
-abbrev pub inputs_in : List Row → List Text
-inputs_in rows = input_in rows ∷ []
+-- the files that are read for a work; what is generated is of none
+abbrev pub inputs_in : List Row → Work → List Text
+inputs_in rows (generated_summary seed count) = []
+inputs_in rows (generated_verilog seed count) = []
+inputs_in rows _ = input_in rows ∷ []
 
 -- the file that is written
 abbrev pub output_in : List Row → Option Text
@@ -103,16 +108,41 @@ abbrev pub mlir_work : Bool → List Pass → Work
 mlir_work true passes = mlir_pieces passes
 mlir_work false passes = mlir passes
 
--- the work of a command of this name: passes given in two ways are wrong first, then a missing translation, then a bad pipeline
-abbrev pub work_in : List Pass → Text → List Row → Result Work UsageKind
-work_in offered name rows =
+-- the number from one to another that an argument says
+abbrev pub number_in : ℕ → ℕ → Option Text → Option ℕ
+number_in least most None = None
+number_in least most (Some text) = number_between least most text
+
+-- `gen` with `--verilog` gives Verilog, and without it a summary
+abbrev pub generated_work : Bool → ℕ → ℕ → Work
+generated_work true seed count = generated_verilog seed count
+generated_work false seed count = generated_summary seed count
+
+-- the work on the design of a seed and a number of modules, where both are such numbers
+abbrev pub on_numbers : Bool → Option ℕ → Option ℕ → Result Work UsageKind
+on_numbers is_verilog (Some seed) (Some count) = Ok (generated_work is_verilog seed count)
+on_numbers is_verilog (Some seed) None = Err Words
+on_numbers is_verilog None count = Err Words
+
+-- the work of `gen`: its seed is of 32 bits, and it has one to 10,000 modules
+abbrev pub gen_work : List Row → Result Work UsageKind
+gen_work rows =
+    on_numbers (is_flagged (codes "verilog") rows) (number_in 0 4294967295 (first_of (codes "seed") rows)) (number_in 1 10000 (first_of (codes "count") rows))
+
+-- the work of a command that takes passes: passes given in two ways are wrong first, then a missing translation, then a bad pipeline
+abbrev pub passes_work : List Pass → Text → List Row → Result Work UsageKind
+passes_work offered name rows =
     cond (is_given_twice rows) (Err TwoPipelines)
     (cond (bytes_eq name (codes "opt")) (on_passes (mlir_work (is_flagged (codes "split-input-file") rows)) (passes_in offered rows))
     (cond (is_flagged (codes "export-verilog") rows) (on_passes verilog (passes_in offered rows)) (Err NoTranslation)))
 
+-- the work of a command of this name
+abbrev pub work_in : List Pass → Text → List Row → Result Work UsageKind
+work_in offered name rows = cond (bytes_eq name (codes "gen")) (gen_work rows) (passes_work offered name rows)
+
 -- a work with the files that are named, and workers
 abbrev pub with_files : List Row → ℕ → Result Work UsageKind → Result Command UsageKind
-with_files rows workers (Ok work) = Ok (record { inputs = inputs_in rows; output = output_in rows; work = work; workers = workers })
+with_files rows workers (Ok work) = Ok (record { inputs = inputs_in rows work; output = output_in rows; work = work; workers = workers })
 with_files rows workers (Err kind) = Err kind
 
 -- a wrong number of workers is wrong first

@@ -1,7 +1,7 @@
 //! The commands and their arguments.
 ghost use Rattle.std.specs.Prelude.{◌≡◌, IfOk, false, codes};
 ghost use Rattle.clap.specs.Words.{App, app_of, new_app, with_rule};
-ghost use Rattle.command_line.specs.Commands.{file_rule, output_rule, pipeline_rule, passes_rule, export_rule, split_rule, workers_rule, threading_rule, opt_app, translate_app, circt_app, bare};
+ghost use Rattle.command_line.specs.Commands.{file_rule, output_rule, pipeline_rule, passes_rule, export_rule, split_rule, workers_rule, threading_rule, seed_rule, count_rule, verilog_rule, opt_app, translate_app, gen_app, circt_app, bare};
 ghost use Rattle.command_line.specs.Making.{Grows, GrowsCommon, GrowsWorkers, IsMade};
 
 use clap::{Arg, ArgAction, Command};
@@ -13,8 +13,10 @@ pub(crate) fn circt_command<'a>(alloc: Global) -> Result<Command<'a>, AllocError
 {
     let opt = opt_command(alloc)?;
     let translate = translate_command(alloc)?;
+    let generate = gen_command(alloc)?;
     let command = bare_command(alloc).subcommand(opt)?;
-    command.subcommand(translate)
+    let command = command.subcommand(translate)?;
+    command.subcommand(generate)
 }
 
 fn bare_command<'a>(alloc: Global) -> Command<'a>
@@ -41,7 +43,17 @@ fn translate_command<'a>(alloc: Global) -> Result<Command<'a>, AllocError>
     export(alloc, command)
 }
 
-/// The command with the arguments that both have.
+fn gen_command<'a>(alloc: Global) -> Result<Command<'a>, AllocError>
+    ensures { IfOk result (IsMade gen_app) }
+{
+    let command = seed(alloc, Command::new(alloc, "gen"))?;
+    let command = count(alloc, command)?;
+    let command = verilog(alloc, command)?;
+    let command = output(alloc, command)?;
+    workers(alloc, command)
+}
+
+/// The command with the arguments that both `opt` and `translate` have.
 fn common<'a>(alloc: Global, command: Command<'a>) -> Result<Command<'a>, AllocError>
     ensures { IfOk result (GrowsCommon command.entry) }
 {
@@ -65,6 +77,28 @@ fn file<'a>(alloc: Global, command: Command<'a>) -> Result<Command<'a>, AllocErr
     ensures { IfOk result (Grows command.entry file_rule) }
 {
     command.arg(Arg::new(alloc, "file"))
+}
+
+/// The command with SEED.
+fn seed<'a>(alloc: Global, command: Command<'a>) -> Result<Command<'a>, AllocError>
+    ensures { IfOk result (Grows command.entry seed_rule) }
+{
+    command.arg(Arg::new(alloc, "seed").required(true))
+}
+
+/// The command with N.
+fn count<'a>(alloc: Global, command: Command<'a>) -> Result<Command<'a>, AllocError>
+    ensures { IfOk result (Grows command.entry count_rule) }
+{
+    command.arg(Arg::new(alloc, "count").required(true))
+}
+
+/// The command with `--verilog`.
+fn verilog<'a>(alloc: Global, command: Command<'a>) -> Result<Command<'a>, AllocError>
+    ensures { IfOk result (Grows command.entry verilog_rule) }
+{
+    let flag = Arg::new(alloc, "verilog").long("verilog");
+    command.arg(flag.action(ArgAction::SetTrue))
 }
 
 /// The command with `-o FILE`.

@@ -1,13 +1,15 @@
 //! What the words of a command line say.
-ghost use Rattle.std.specs.Prelude.{◌≡◌, IfOk, map, string_bytes, option_map, codes, [], Some, Ok, Err};
+ghost use Rattle.std.specs.Prelude.{◌≡◌, IfOk, IfSome, ◌≤◌, map, string_bytes, option_map, codes, [], Some, Ok, Err};
 ghost use Rattle.clap.specs.Words.{found_of, rows_of, first_of, fault_of, subcommand_of, subcommand_rows_of, FailsBy};
 ghost use Rattle.pass_pipeline.specs.Pipelines.{passes};
 ghost use Rattle.command_line.specs.Commands.{circt_app};
-ghost use Rattle.command_line.specs.Line.{line, parse, input_in, inputs_in, output_in, items_text, in_items, in_pipeline, in_list, passes_in, is_given_twice, mlir_work, work_in, is_flagged, workers_said, workers_in, command_in};
+ghost use Rattle.command_line.specs.Line.{line, parse, input_in, inputs_in, output_in, items_text, in_items, in_pipeline, in_list, passes_in, is_given_twice, mlir_work, number_in, generated_work, gen_work, passes_work, work_in, is_flagged, workers_said, workers_in, command_in};
 ghost use Rattle.command_line.specs.Invocations.{command_of, work_of, Says, SaysWork, SaysPasses, IsFault};
 
 use crate::commands::circt_command;
 use crate::normalise::{WordsFail, normalise};
+use crate::numbers::number_between;
+use crate::recipe::Recipe;
 use crate::usage::UsageKind;
 use crate::workers::Workers;
 use clap::ArgMatches;
@@ -15,6 +17,9 @@ use clap::error::ErrorKind;
 use pass_pipeline::pass::Pass;
 use pass_pipeline::pipeline::{Pipeline, PipelineError, PipelineFail, read_pipeline};
 use std::alloc::{AllocError, Global};
+
+/// How many modules are generated at most.
+const MOST_MODULES: u32 = 10_000;
 
 /// What is made of the inputs.
 #[derive(Debug, Drop)]
@@ -25,6 +30,10 @@ pub enum Work {
     MlirPieces(Pipeline),
     /// Verilog of the design that these passes make.
     Verilog(Pipeline),
+    /// A summary of the design that is generated from this recipe.
+    GeneratedSummary(Recipe),
+    /// Verilog of the design that is generated from this recipe.
+    GeneratedVerilog(Recipe),
 }
 
 /// A command with its values.
@@ -63,7 +72,8 @@ impl From<AllocError> for LineFail {
 /// What the words after the program's name say, which may name the passes of `offered`.
 ///
 /// Words are wrong for the first of these causes: they are no command with its arguments, the
-/// number of workers is none of 1 to 64 in decimal digits without a leading zero, passes
+/// number of workers is none of 1 to 64 in decimal digits without a leading zero, or the seed of `gen` none
+/// of 0 to 4294967295, or its number of modules none of 1 to 10000; passes
 /// are given both by flags and by a pipeline, no translation is named, the text of a pipeline is
 /// none.
 pub fn read_words(alloc: Global, words: &[String], offered: &[Pass]) -> Result<Invocation, LineFail>
@@ -118,7 +128,7 @@ fn command_in(
     };
     let work = work_in(alloc, name, matches, offered)?;
     Ok(Invocation {
-        inputs: inputs_in(alloc, matches)?,
+        inputs: inputs_in(alloc, matches, &work)?,
         output: output_in(alloc, matches)?,
         work,
         workers,
@@ -155,6 +165,58 @@ fn work_in(
     offered: &[Pass],
 ) -> Result<Work, LineFail>
     ensures { SaysWork (work_in offered.now name.now (rows_of (found_of matches.now))) result }
+{
+    if name == "gen" {
+        gen_work(matches)
+    } else {
+        passes_work(alloc, name, matches, offered)
+    }
+}
+
+/// The work of `gen`.
+fn gen_work(matches: &ArgMatches<'_>) -> Result<Work, LineFail>
+    ensures { SaysWork (gen_work (rows_of (found_of matches.now))) result }
+{
+    let Some(seed) = number_in(matches, "seed", 0, u32::MAX) else {
+        return Err(LineFail::Usage(UsageKind::Words));
+    };
+    let Some(count) = number_in(matches, "count", 1, MOST_MODULES) else {
+        return Err(LineFail::Usage(UsageKind::Words));
+    };
+    Ok(generated_work(is_flagged(matches, "verilog"), Recipe { seed, count }))
+}
+
+/// The work on the design from this recipe: Verilog, or a summary.
+fn generated_work(is_verilog: bool, recipe: Recipe) -> Work
+    ensures { work_of result ≡ generated_work is_verilog recipe.seed recipe.count }
+{
+    if is_verilog {
+        Work::GeneratedVerilog(recipe)
+    } else {
+        Work::GeneratedSummary(recipe)
+    }
+}
+
+/// The number from `least` to `most` that an argument says.
+fn number_in(matches: &ArgMatches<'_>, id: &str, least: u32, most: u32) -> Option<u32>
+    ensures is { result ≡ number_in least most (first_of id.now (rows_of (found_of matches.now))) }
+    ensures least { IfSome result (λ n. least ≤ n) }
+    ensures most { IfSome result (λ n. n ≤ most) }
+{
+    match value(matches, id) {
+        Some(text) => number_between(text, least, most),
+        None => None,
+    }
+}
+
+/// The work of a command of this name that takes passes.
+fn passes_work(
+    alloc: Global,
+    name: &str,
+    matches: &ArgMatches<'_>,
+    offered: &[Pass],
+) -> Result<Work, LineFail>
+    ensures { SaysWork (passes_work offered.now name.now (rows_of (found_of matches.now))) result }
 {
     if is_given_twice(matches) {
         return Err(LineFail::Usage(UsageKind::TwoPipelines));
@@ -236,12 +298,21 @@ fn in_items(fail: PipelineFail) -> PipelineFail
     }
 }
 
-/// The names of the files that are read.
-fn inputs_in(alloc: Global, matches: &ArgMatches<'_>) -> Result<Vec<String>, AllocError>
-    ensures { IfOk result (λ v. map string_bytes v.items ≡ inputs_in (rows_of (found_of matches.now))) }
+/// The names of the files that are read for a work.
+fn inputs_in(
+    alloc: Global,
+    matches: &ArgMatches<'_>,
+    work: &Work,
+) -> Result<Vec<String>, AllocError>
+    ensures { IfOk result (λ v. map string_bytes v.items ≡ inputs_in (rows_of (found_of matches.now)) (work_of work.now)) }
 {
     let mut inputs = Vec::new(alloc);
-    inputs.push(String::from_str(alloc, input_in(matches))?)?;
+    match work {
+        Work::GeneratedSummary(_) | Work::GeneratedVerilog(_) => {}
+        Work::Mlir(_) | Work::MlirPieces(_) | Work::Verilog(_) => {
+            inputs.push(String::from_str(alloc, input_in(matches))?)?;
+        }
+    }
     Ok(inputs)
 }
 

@@ -5,5 +5,6 @@ mod commands;
 pub mod invocation;
 pub mod normalise;
 mod numbers;
+pub mod recipe;
 pub mod usage;
 pub mod workers;

@@ -1,0 +1,3 @@
+-- Lemmas.
+pub mod Totals
+pub mod RegisterWalks
