@@ -9,7 +9,7 @@ use Rattle.diag.specs.declared.refusal.OpName.TheVariants as op
 use Rattle.diag.specs.declared.cause.Cause.TheVariants.{TooLong}
 use Rattle.diag.specs.declared.refusal.Refusal.{Refusal}
 use Rattle.command_line.specs.Line.{Command, Work}
-use Rattle.command_line.specs.Line.Work.{mlir, mlir_pieces, verilog}
+use Rattle.command_line.specs.Line.Work.{mlir, mlir_pieces, verilog, generated_summary, generated_verilog}
 use Rattle.mlir_syntax.specs.Stream.{stream_of, refusal}
 use Rattle.mlir_operations.specs.ModuleText.{file_text}
 use Rattle.mlir_reader.specs.Reading.{text_limit, read, design_read}
@@ -17,7 +17,7 @@ use Rattle.pass_pipeline.specs.declared.pass.Pass.{Pass}
 use Rattle.circt_top.specs.Accepting.{Accepted, IsRefused, IsRefusedIn, first_input, unread, unaccepted}
 use Rattle.circt_top.specs.Reprint.{IsReprint}
 use Rattle.circt_top.specs.PieceReprint.{IsReprintOfPieces, IsRefusedInPieces}
-use Rattle.circt_top.specs.Translation.{IsTranslation, IsUnexported}
+use Rattle.circt_top.specs.Translation.{IsTranslation}
 use Rattle.circt_top.specs.Outcome.{Verdict, Answer, IsAnswer}
 use Rattle.circt_top.specs.Outcome.Verdict.{given}
 use Rattle.circt_top.specs.Outcome.Answer.{prints, refuses}
@@ -110,20 +110,7 @@ reprint_whole passes bytes source text same is = record {
 }
 
 translation_whole : (passes : List Pass) (bytes source text : List ℕ) → read source ≡ read bytes → IsTranslation passes source text → IsTranslation passes bytes text
-translation_whole passes bytes source text same is = record {
-  design = is.design;
-  accepted = accepted_whole bytes source is.design same is.accepted;
-  made = is.made;
-  result = is.result;
-  partners = is.partners;
-  exported = is.exported;
-  behaves = is.behaves;
-  laid_out = is.laid_out;
-}
-
-unexported_whole : (passes : List Pass) (bytes source : List ℕ) (r : Refusal) → read source ≡ read bytes → IsUnexported passes source r → IsUnexported passes bytes r
-unexported_whole passes bytes source r same is =
-    record { design = is.design; accepted = accepted_whole bytes source is.design same is.accepted; made = is.made; result = is.result; missing = is.missing }
+translation_whole passes bytes source text same is = record { design = is.design; accepted = accepted_whole bytes source is.design same is.accepted; translated = is.translated }
 
 -- pieces of a front that is not too long are those of the whole
 pieces_whole : (passes : List Pass) (bytes source text : List ℕ) → source ≡ take read_limit bytes → IsReprintOfPieces passes source text → IsReprintOfPieces passes bytes text
@@ -143,10 +130,12 @@ answer_whole (mlir_pieces passes) contents sources (prints given text) front is 
 answer_whole (mlir_pieces passes) contents sources (refuses r) front is = refused_pieces_whole (first_input contents) (first_input sources) r front is
 answer_whole (verilog passes) contents sources (prints given text) front is =
     translation_whole passes (first_input contents) (first_input sources) text (read_whole (first_input contents) (first_input sources) front) is
-answer_whole (verilog passes) contents sources (refuses r) front (inl is) =
-    inl (refused_in_again 0 (first_input contents) (first_input sources) r (read_whole (first_input contents) (first_input sources) front) is)
-answer_whole (verilog passes) contents sources (refuses r) front (inr is) =
-    inr (unexported_whole passes (first_input contents) (first_input sources) r (read_whole (first_input contents) (first_input sources) front) is)
+answer_whole (verilog passes) contents sources (refuses r) front is =
+    refused_in_again 0 (first_input contents) (first_input sources) r (read_whole (first_input contents) (first_input sources) front) is
+answer_whole (generated_summary seed count) contents sources (prints given text) front is = is
+answer_whole (generated_summary seed count) contents sources (refuses r) front is = absurd is
+answer_whole (generated_verilog seed count) contents sources (prints given text) front is = is
+answer_whole (generated_verilog seed count) contents sources (refuses r) front is = absurd is
 
 first_front : (contents : List (List ℕ)) → first_input (fronts contents) ≡ take read_limit (first_input contents)
 first_front [] = refl

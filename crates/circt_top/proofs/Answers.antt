@@ -1,16 +1,13 @@
 -- A text is answered exactly where it is not refused.
-use Rattle.std.proofs.Common.{◌≡◌, ℕ, inl, inr, List, [], ◌∷◌, arith, Some, None, Ok, Err, sym, ◌∙◌, ap, subst, false, true, is_some}
+use Rattle.std.proofs.Common.{◌≡◌, ℕ, inl, inr, List, [], ◌∷◌, arith, Ok, Err, sym, ◌∙◌, ap, subst, false, true, is_some}
 use Rattle.diag.specs.declared.refusal.Refusal.{Refusal}
 use Rattle.hw_model.specs.Design.{Design}
 use Rattle.command_line.specs.Line.{Work}
-use Rattle.command_line.specs.Line.Work.{mlir, mlir_pieces, verilog}
-use Rattle.pass_manager.specs.Results.{IsResult}
-use Rattle.pass_manager.proofs.Results.{result_once}
+use Rattle.command_line.specs.Line.Work.{mlir, mlir_pieces, verilog, generated_summary, generated_verilog}
 use Rattle.mlir_reader.specs.Reading.{read}
 use Rattle.op_verifier.specs.Faults.{first_fault}
 use Rattle.op_verifier.specs.Verdict.{IsAccepted, IsRefusal, unfit, recursive, too_large, cyclic}
 use Rattle.circt_top.specs.Accepting.{Accepted, IsRefused, IsRefusedIn, first_input, unread, unaccepted}
-use Rattle.export_verilog.specs.Aggregates.{first_aggregate}
 use Rattle.pass_pipeline.specs.declared.pass.Pass.{Pass}
 use Rattle.circt_top.specs.Pieces.{Piece, pieces_of}
 use Rattle.circt_top.specs.PieceReprint.{AreReprints, IsFirstRefused, IsRefusedInPieces, AreAccepted, IsAcceptedInPieces}
@@ -57,15 +54,15 @@ printed_accepted passes (p ∷ ps) (text ∷ texts) h = ((h.0.design, h.0.accept
 pub answered_unrefused : (work : Work) (contents : List (List ℕ)) (r : Refusal) → IsAnswered work contents → IsAnswer work contents (refuses r) → ⊥
 answered_unrefused (mlir passes) contents r a is = unrefused_in 0 (first_input contents) a.0 r a.1 is
 answered_unrefused (mlir_pieces passes) contents r a is = pieces_unrefused (first_input contents) r a is
-answered_unrefused (verilog passes) contents r (d, e, accepted, result, none) (inl is) = unrefused_in 0 (first_input contents) d r accepted is
-answered_unrefused (verilog passes) contents r (d, e, accepted, result, none) (inr is) =
-    let same : is.design ≡ d = one_design (first_input contents) is.design d is.accepted.says accepted.says in
-    let made : e ≡ is.made = result_once passes d e is.made result (subst (λ z. IsResult passes z is.made) same is.result) in
-    let f : None ≡ Some r = sym none ∙ ap first_aggregate made ∙ is.missing in cc
+answered_unrefused (verilog passes) contents r a is = unrefused_in 0 (first_input contents) a.0 r a.1 is
+answered_unrefused (generated_summary seed count) contents r a is = is
+answered_unrefused (generated_verilog seed count) contents r a is = is
 
 -- what gives a text is answered
 pub made_answered : (work : Work) (contents : List (List ℕ)) (verdict : Verdict) (text : List ℕ) → IsAnswer work contents (prints verdict text) → IsAnswered work contents
 made_answered (mlir passes) contents given text is = (is.design, is.accepted)
 made_answered (mlir_pieces passes) contents given text is =
     record { short = is.short; each = printed_accepted passes (pieces_of (first_input contents)) is.printed.texts is.printed.each }
-made_answered (verilog passes) contents given text is = (is.design, is.made, is.accepted, is.result, is.exported)
+made_answered (verilog passes) contents given text is = (is.design, is.accepted)
+made_answered (generated_summary seed count) contents given text is = tt
+made_answered (generated_verilog seed count) contents given text is = tt

@@ -10,3 +10,5 @@ mod Partners
 pub mod Outcomes
 pub mod Cuts
 pub mod PieceTexts
+pub mod GenerationPasses
+pub mod Generated

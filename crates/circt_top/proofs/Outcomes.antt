@@ -1,14 +1,16 @@
 -- What is made of an accepted design.
-use Rattle.std.proofs.Common.{◌≡◌, ℕ, ◌≤◌, inr, List, length, Result, Ok, Err, sym, subst}
+use Rattle.std.proofs.Common.{◌≡◌, ℕ, ◌≤◌, false, List, [], ◌∷◌, length, Ok, Err, refl, sym, ap, subst, ◌∙◌}
 use Rattle.hw_model.specs.Design.{Design, IsSameDesign}
 use Rattle.hw_model.specs.Hierarchy.{HasNoRecursion}
 use Rattle.hw_model.specs.Machine.{Same}
 use Rattle.hw_model.specs.Meaning.{machine, HasNoCycle, HasHeights}
 use Rattle.hw_model.specs.Types.{Name}
-use Rattle.command_line.specs.Line.Work.{verilog}
 use Rattle.pass_pipeline.specs.declared.pass.Pass.{Pass}
+use Rattle.pass_pipeline.specs.declared.pass.Pass.TheVariants.{HwLowerAggregates}
 use Rattle.pass_laws.specs.PassLaw.{IsAfter}
-use Rattle.pass_manager.specs.Results.{IsResult, on_offer}
+use Rattle.pass_manager.specs.Results.{IsResult}
+use Rattle.aggregate_laws.specs.Scalars.{has_aggregates}
+use Rattle.aggregate_lower.specs.Lowering.{lowered_aggregates}
 use Rattle.export_verilog.specs.Aggregates.{HasNoAggregates}
 use Rattle.export_verilog.specs.Behaviour.{BehavesAs}
 use Rattle.export_verilog.specs.Exportable.{IsExportable}
@@ -26,15 +28,13 @@ use Rattle.op_verifier.specs.Verdict.{IsAccepted}
 use Rattle.mlir_printer.specs.Printable.{Printable}
 use Rattle.canonical_form.specs.Canonical.{IsCanonical}
 use Rattle.mlir_printer.specs.Texts.{ir_text}
-use Rattle.circt_top.specs.Accepting.{Accepted, first_input, unaccepted}
+use Rattle.circt_top.specs.Accepting.{Accepted, unaccepted}
 use Rattle.circt_top.specs.Accepting.{unread as unread_text}
 use Rattle.circt_top.specs.Outcomes.{IsTaken, IsPrinted, read_failure, verify_failure}
 use Rattle.circt_top.proofs.Partners.{partners}
-use Rattle.circt_top.specs.Exports.{Exports}
-use Rattle.circt_top.specs.Outcome.{Gives}
+use Rattle.circt_top.specs.Translates.{IsTranslatedFrom}
+use Rattle.circt_top.specs.Translation.{exported_passes}
 use Rattle.circt_top.specs.Reprint.{IsReprint, IsSaidAgain}
-use Rattle.circt_top.specs.declared.outcome.OutcomeFail.{OutcomeFail}
-use Rattle.circt_top.specs.declared.outcome.OutcomeFail.TheVariants.{Refused, NoMemory}
 
 -- what the laws of the crates below say
 pub record PrintingLaws : Type 0 where
@@ -50,7 +50,7 @@ pub record DesignLaws : Type 0 where
 
 -- what passes make of an accepted, printable design
 pub record ResultLaws : Type 0 where
-  pub after : (passes : List Pass) (d e : Design) → IsAccepted d → Printable d → IsResult passes d e → IsAfter (on_offer passes) d e
+  pub after : (passes : List Pass) (d e : Design) → IsAccepted d → Printable d → IsResult passes d e → IsAfter passes d e
 
 module _ (printing : PrintingLaws) (designs : DesignLaws) (results : ResultLaws) (source : List ℕ) (d : Design) (form : IsCanonical d) (accepted : Accepted source d) where
   printable : Printable d
@@ -71,13 +71,13 @@ module _ (printing : PrintingLaws) (designs : DesignLaws) (results : ResultLaws)
   -- what passes make of an accepted design, printed, is a reprint
   pub reprinted : (passes : List Pass) (text : List ℕ) → IsPrinted passes d text → IsReprint passes source text
   reprinted passes text is =
-      let after : IsAfter (on_offer passes) d is.made = results.after passes d is.made accepted.accepted printable is.result in
+      let after : IsAfter passes d is.made = results.after passes d is.made accepted.accepted printable is.result in
       record {
         design = d;
         accepted = accepted;
         made = is.made;
         result = is.result;
-        partners = partners (on_offer passes) d is.made accepted.accepted after;
+        partners = partners passes d is.made accepted.accepted after;
         said_again = subst (IsSaidAgain is.made) (sym is.is) (said_again is.made after.accepted after.printable);
         laid_out = is.is;
       }
@@ -87,23 +87,31 @@ pub record ExportLaws : Type 0 where
   pub exportable : (d : Design) → IsAccepted d → HasNoAggregates d → HasRoomToExport d → IsExportable d
   pub behaves : (d : Design) → IsExportable d → BehavesAs (verilog_text d) d
 
--- what passes make of an accepted design, exported, is a translation, or refused for its first aggregate
-pub translated : ExportLaws → ResultLaws → (passes : List Pass) (contents : List (List ℕ)) (d e : Design) (r : Result (List ℕ) OutcomeFail) → Accepted (first_input contents) d → Printable d → IsResult passes d e
-    → HasRoomToExport e → Exports e r → Gives (verilog passes) contents r
-translated laws results passes contents d e (Ok text) accepted shown is room h =
-    let after : IsAfter (on_offer passes) d e = results.after passes d e accepted.accepted shown is in
+-- what the law of lowering says
+pub record LoweringLaws : Type 0 where
+  pub none_left : (d : Design) → IsAccepted d → Printable d → has_aggregates (lowered_aggregates d) ≡ false
+
+-- what passes make of an accepted design, with its aggregates lowered, has none
+pub lowered_none : ResultLaws → LoweringLaws → (passes : List Pass) (d e f : Design) → IsAccepted d → Printable d → IsResult passes d e → f ≡ lowered_aggregates e → HasNoAggregates f
+lowered_none results lowering passes d e f accepted shown is lowered =
+    let after : IsAfter passes d e = results.after passes d e accepted shown is in
+    ap has_aggregates lowered ∙ lowering.none_left e after.accepted after.printable
+
+-- what passes and then the lowering made of an accepted design, exported, is its translation
+pub exported : ExportLaws → ResultLaws → (passes : List Pass) (d f : Design) → IsAccepted d → Printable d → IsResult (exported_passes passes) d f → HasNoAggregates f → HasRoomToExport f
+    → (text : List ℕ) → text ≡ verilog_text f → IsTranslatedFrom passes d f text
+exported laws results passes d f accepted shown all none room text laid =
+    let after : IsAfter (exported_passes passes) d f = results.after (exported_passes passes) d f accepted shown all in
     record {
-      design = d;
-      accepted = accepted;
-      made = e;
-      result = is;
-      partners = partners (on_offer passes) d e accepted.accepted after;
-      exported = h.0;
-      behaves = subst (λ t. BehavesAs t e) (sym h.1) (laws.behaves e (laws.exportable e after.accepted h.0 room));
-      laid_out = h.1;
+      translated = record {
+        made = f;
+        result = all;
+        partners = partners (exported_passes passes) d f accepted after;
+        behaves = subst (λ t. BehavesAs t f) (sym laid) (laws.behaves f (laws.exportable f after.accepted none room));
+        laid_out = laid;
+      };
+      made_is = refl;
     }
-translated laws results passes contents d e (Err (Refused r)) accepted shown is room h = inr (record { design = d; accepted = accepted; made = e; result = is; missing = h })
-translated laws results passes contents d e (Err NoMemory) accepted shown is room h = tt
 
 -- what is not read is refused, and what is not verified
 pub unread_taken : (source : List ℕ) (fail : ReadFail) → ReadsDesign (Err fail) (read source) → IsTaken source (Err (read_failure fail))

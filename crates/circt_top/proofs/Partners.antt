@@ -14,7 +14,7 @@ use Rattle.pass_laws.proofs.Remaining.{symbol_found, public_kept}
 use Rattle.pass_laws.proofs.Those.{those_stay}
 use Rattle.circt_top.specs.Partners.{HasPartners}
 
-pub partners : (passes : List Pass) (d e : Design) → IsAccepted d → IsAfter passes d e → HasPartners d e
+pub partners : (passes : List Pass) (d e : Design) → IsAccepted d → IsAfter passes d e → HasPartners passes d e
 partners passes d e accepted after = λ m here exposed.
     let at = position_of_In m d here in
     let found : find_module d m.symbol ≡ Some m = (found_at d (accepted_distinct d accepted) at.0 m at.1).1 in

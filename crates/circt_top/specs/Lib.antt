@@ -8,10 +8,13 @@ pub mod Words
 pub mod Outcome
 pub mod Delivery
 pub mod Accepting
-pub mod Exports
 pub mod Reprint
 pub mod Pieces
 pub mod PieceReprint
 pub mod PieceViews
 pub mod Outcomes
 pub mod Views
+pub mod Summary
+pub mod SummaryViews
+pub mod Generation
+pub mod Translates

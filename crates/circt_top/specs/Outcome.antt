@@ -1,16 +1,13 @@
 -- What is made of the texts of the inputs.
-use Rattle.std.specs.Prelude.{ℕ, ◌⊎◌, List, Result, Ok, Err}
-use Rattle.hw_model.specs.Design.{Design}
+use Rattle.std.specs.Prelude.{ℕ, List, Result, Ok, Err}
 use Rattle.diag.specs.declared.refusal.Refusal.{Refusal}
 use Rattle.command_line.specs.Line.{Work}
-use Rattle.command_line.specs.Line.Work.{mlir, mlir_pieces, verilog}
-use Rattle.export_verilog.specs.Aggregates.{HasNoAggregates}
-use Rattle.pass_pipeline.specs.declared.pass.Pass.{Pass}
-use Rattle.pass_manager.specs.Results.{IsResult}
-use Rattle.circt_top.specs.Accepting.{Accepted, IsAcceptedText, IsRefusedIn, first_input}
+use Rattle.command_line.specs.Line.Work.{mlir, mlir_pieces, verilog, generated_summary, generated_verilog}
+use Rattle.circt_top.specs.Accepting.{IsAcceptedText, IsRefusedIn, first_input}
 use Rattle.circt_top.specs.Reprint.{IsReprint}
 use Rattle.circt_top.specs.PieceReprint.{IsReprintOfPieces, IsRefusedInPieces, IsAcceptedInPieces}
-use Rattle.circt_top.specs.Translation.{IsTranslation, IsUnexported}
+use Rattle.circt_top.specs.Translation.{IsTranslation}
+use Rattle.circt_top.specs.Generation.{IsGenerated, IsSummary}
 use Rattle.circt_top.specs.declared.outcome.OutcomeFail.{OutcomeFail}
 use Rattle.circt_top.specs.declared.outcome.OutcomeFail.TheVariants.{Refused, NoMemory}
 
@@ -30,17 +27,19 @@ IsAnswer (mlir passes) contents (refuses r) = IsRefusedIn 0 (first_input content
 IsAnswer (mlir_pieces passes) contents (prints given text) = IsReprintOfPieces passes (first_input contents) text
 IsAnswer (mlir_pieces passes) contents (refuses r) = IsRefusedInPieces (first_input contents) r
 IsAnswer (verilog passes) contents (prints given text) = IsTranslation passes (first_input contents) text
-IsAnswer (verilog passes) contents (refuses r) = IsRefusedIn 0 (first_input contents) r ⊎ IsUnexported passes (first_input contents) r
+IsAnswer (verilog passes) contents (refuses r) = IsRefusedIn 0 (first_input contents) r
+IsAnswer (generated_summary seed count) contents (prints given text) = IsSummary seed count text
+IsAnswer (generated_summary seed count) contents (refuses r) = ⊥
+IsAnswer (generated_verilog seed count) contents (prints given text) = IsGenerated seed count text
+IsAnswer (generated_verilog seed count) contents (refuses r) = ⊥
 
--- bytes are accepted, and passes make a design of theirs that has no aggregates
-abbrev pub IsExportedText : List Pass → List ℕ → Type 0
-IsExportedText passes bytes = (d e : Design) × Accepted bytes d × IsResult passes d e × HasNoAggregates e
-
--- the contents are accepted, as what the work takes
+-- the contents are accepted, as what the work takes; a generated design takes none
 abbrev pub IsAnswered : Work → List (List ℕ) → Type 0
 IsAnswered (mlir passes) contents = IsAcceptedText (first_input contents)
 IsAnswered (mlir_pieces passes) contents = IsAcceptedInPieces (first_input contents)
-IsAnswered (verilog passes) contents = IsExportedText passes (first_input contents)
+IsAnswered (verilog passes) contents = IsAcceptedText (first_input contents)
+IsAnswered (generated_summary seed count) contents = Unit {0}
+IsAnswered (generated_verilog seed count) contents = Unit {0}
 
 -- what is given is the answer, or out of memory
 abbrev pub Gives : Work → List (List ℕ) → Result (List ℕ) OutcomeFail → Type 0

@@ -30,7 +30,7 @@ pub record IsReprint (passes : List Pass) (bytes text : List ℕ) : Type 0 where
   pub accepted : Accepted bytes design
   pub made : Design
   pub result : IsResult passes design made
-  pub partners : HasPartners design made
+  pub partners : HasPartners passes design made
   pub said_again : IsSaidAgain made text
   -- and it is laid out so
   pub laid_out : text ≡ ir_text made

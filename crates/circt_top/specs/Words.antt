@@ -2,14 +2,14 @@
 use Rattle.std.specs.Prelude.{◌≡◌, List, [], ◌∷◌, Option, Some, None, Result, Ok, Err}
 use Rattle.hw_model.specs.Types.{Name}
 use Rattle.pass_pipeline.specs.declared.pass.Pass.{Pass}
-use Rattle.pass_pipeline.specs.declared.pass.Pass.TheVariants.{Canonicalize, Cse, SeqLowerRegs, HwFlattenModules, SymbolDce}
+use Rattle.pass_pipeline.specs.declared.pass.Pass.TheVariants.{Canonicalize, Cse, SeqLowerRegs, HwLowerAggregates, HwFlattenModules, SymbolDce}
 use Rattle.command_line.specs.Line as commands
 use Rattle.command_line.specs.Line.{Command}
 use Rattle.command_line.specs.declared.usage.UsageKind.{UsageKind}
 
 -- the passes that words may name
 abbrev pub passes_on_offer : List Pass
-passes_on_offer = Canonicalize ∷ Cse ∷ SeqLowerRegs ∷ HwFlattenModules ∷ SymbolDce ∷ []
+passes_on_offer = Canonicalize ∷ Cse ∷ SeqLowerRegs ∷ HwLowerAggregates ∷ HwFlattenModules ∷ SymbolDce ∷ []
 
 -- what the words say
 abbrev pub line : List Name → Result Command UsageKind

@@ -4,11 +4,13 @@
 #![tactic(auto)]
 
 mod delivery;
+mod generation;
 mod inputs;
 mod outcome;
 mod pieces;
 mod report;
 pub mod run;
 pub mod status;
+mod summary;
 
 pub use report::stop;

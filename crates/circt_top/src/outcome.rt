@@ -1,13 +1,19 @@
 //! What is made of the texts of the inputs.
 ghost use Rattle.std.specs.Prelude.{◌≡◌, ℕ, List, ◌++◌, codes, map, IfOk, IfErr, OnOk};
+ghost use Rattle.hw_model.specs.Design.{Design};
 ghost use Rattle.ir_store.specs.Designs.{design_of};
+ghost use Rattle.op_verifier.specs.Verdict.{IsAccepted};
+ghost use Rattle.canonical_form.specs.Canonical.{IsCanonical};
+ghost use Rattle.export_verilog.specs.Aggregates.{HasNoAggregates};
+ghost use Rattle.pass_pipeline.specs.declared.pass.Pass.{Pass};
 ghost use Rattle.command_line.specs.Invocations.{work_of};
 ghost use Rattle.command_line.specs.Line.Work.{mlir, mlir_pieces, verilog};
 ghost use Rattle.canonical_form.specs.Bytes.{AreBytes};
 ghost use Rattle.pass_manager.specs.Results.{IsResult};
 ghost use Rattle.circt_top.specs.Accepting.{Accepted, first_input};
 ghost use Rattle.circt_top.specs.Reprint.{IsReprint};
-ghost use Rattle.circt_top.specs.Exports.{Exports};
+ghost use Rattle.circt_top.specs.Translation.{exported_passes, IsTranslated};
+ghost use Rattle.circt_top.specs.Translates.{IsTranslatedFrom};
 ghost use Rattle.circt_top.specs.Outcome.{Gives};
 ghost use Rattle.circt_top.specs.Outcomes.{IsTaken, IsPrinted, read_failure, verify_failure, fail_in_file, fail_in_whole, IsFailOfPiece, GivesPieces};
 ghost use Rattle.circt_top.specs.PieceViews.{piece_of};
@@ -16,12 +22,13 @@ ghost use Rattle.diag.specs.declared.refusal.OpName.TheVariants as op;
 ghost use Rattle.diag.specs.declared.cause.Cause.TheVariants.{TooLong};
 ghost use Rattle.mlir_syntax.specs.Stream.{refusal};
 
+use crate::generation::{generate_verilog, summarise};
 use crate::pieces::{Piece, pieces_of};
+use aggregate_lower::lowering_keeps;
 use command_line::invocation::Work;
 use command_line::workers::Workers;
 use diag::cause::Cause;
 use diag::refusal::{OpName, Place, Refusal};
-use export_verilog::aggregates::first_aggregate;
 use export_verilog::export::export;
 use export_verilog::{
     accepted_designs_are_exportable, exported_designs_behave, stored_designs_have_room,
@@ -38,7 +45,7 @@ use op_verifier::{
 };
 use pass_manager::gate::Gate;
 use pass_manager::results_follow;
-use pass_manager::run::run_pipeline;
+use pass_manager::run::{run_pipeline, with_lowered_aggregates};
 use pass_pipeline::pipeline::Pipeline;
 use std::alloc::{AllocError, Global};
 use std::thread::Threads;
@@ -89,6 +96,8 @@ pub(crate) fn outcome<R: Threads + Sync, G: Gate + Sync>(
         Work::Mlir(passes) => print_whole(means, source, passes),
         Work::MlirPieces(passes) => print_pieces(means, source, passes),
         Work::Verilog(passes) => translate_whole(means, source, passes),
+        Work::GeneratedSummary(recipe) => summarise(means, *recipe),
+        Work::GeneratedVerilog(recipe) => generate_verilog(means, *recipe),
     }
 }
 
@@ -115,7 +124,7 @@ fn translate_whole<R: Threads + Sync, G: Gate + Sync>(
     ensures { (contents : List (List ℕ)) → first_input contents ≡ source.now → Gives (verilog passes.now) contents result }
 {
     match accept(means.alloc, source) {
-        Ok(verified) => translate(means, verified, passes),
+        Ok(verified) => Ok(translate(means, verified, passes)?),
         Err(fail) => Err(fail.in_file(0)),
     }
 }
@@ -320,35 +329,48 @@ fn passes_result<R: Threads + Sync, G: Gate + Sync>(
     )
 }
 
-/// The Verilog of what passes make of an accepted design, of any text that says it, or the refusal of its first header or
-/// operation with an aggregate.
-fn translate<R: Threads + Sync, G: Gate + Sync>(
+/// What passes make of a verified design, with its aggregates lowered to their leaves.
+pub(crate) fn exported_result<R: Threads + Sync, G: Gate + Sync>(
     means: &Means<'_, R, G>,
     verified: Verified,
     passes: &Pipeline,
-) -> Result<Text, OutcomeFail>
-    ensures { (contents : List (List ℕ)) → Accepted (first_input contents) (design_of verified.design) → Gives (verilog passes.now) contents result }
+) -> Result<Verified, AllocError>
+    ensures made { IfOk result (λ made. IsResult (exported_passes passes.now) (design_of verified.design) (design_of made.design)) }
+    ensures plain { IfOk result (λ made. HasNoAggregates (design_of made.design)) }
 {
     what_is_canonical_is_printable();
     results_follow();
+    lowering_keeps();
     let made = passes_result(means, verified, passes)?;
+    with_lowered_aggregates(means.alloc, made)
+}
+
+/// The Verilog of what passes and then the lowering of aggregates made of any verified design.
+pub(crate) fn export_made<R: Threads + Sync, G: Gate + Sync>(
+    means: &Means<'_, R, G>,
+    made: &Verified,
+) -> Result<Text, AllocError>
+    requires { HasNoAggregates (design_of made.now.design) }
+    ensures { (passes : List Pass) (d : Design) → IsAccepted d → IsCanonical d → IsResult (exported_passes passes) d (design_of made.now.design) → IfOk result (IsTranslatedFrom passes d (design_of made.now.design)) }
+{
+    what_is_canonical_is_printable();
+    results_follow();
     accepted_designs_are_exportable();
     exported_designs_behave();
     stored_designs_have_room(made.design());
-    export_text(means, &made)
+    export(means.rt, means.alloc, made, means.workers.count)
 }
 
-/// The Verilog text of a design without aggregates, or the refusal of its first header or operation that has one.
-fn export_text<R: Threads + Sync, G: Gate + Sync>(
+/// The Verilog of what passes make of a verified design, with its aggregates lowered.
+pub(crate) fn translate<R: Threads + Sync, G: Gate + Sync>(
     means: &Means<'_, R, G>,
-    verified: &Verified,
-) -> Result<Text, OutcomeFail>
-    ensures { Exports (design_of verified.now.design) result }
+    verified: Verified,
+    passes: &Pipeline,
+) -> Result<Text, AllocError>
+    ensures { IfOk result (IsTranslated passes.now (design_of verified.design)) }
 {
-    match first_aggregate(means.alloc, verified.design())? {
-        Some(refusal) => Err(OutcomeFail::Refused(refusal)),
-        None => Ok(export(means.rt, means.alloc, verified, means.workers.count)?),
-    }
+    let made = exported_result(means, verified, passes)?;
+    export_made(means, &made)
 }
 
 /// Does nothing. Its clause says that bytes are numbers below 256.

@@ -27,10 +27,11 @@ use std::alloc::Global;
 use std::thread::Threads;
 
 /// The passes that words may name.
-const PASSES_ON_OFFER: [Pass; 5] = [
+const PASSES_ON_OFFER: [Pass; 6] = [
     Pass::Canonicalize,
     Pass::Cse,
     Pass::SeqLowerRegs,
+    Pass::HwLowerAggregates,
     Pass::HwFlattenModules,
     Pass::SymbolDce,
 ];
@@ -44,7 +45,9 @@ const PASSES_ON_OFFER: [Pass; 5] = [
 /// passes of `--canonicalize`, `--cse`, `--seq-lower-regs`, `--hw-flatten-modules`, `--symbol-dce` or of
 /// `--pass-pipeline=TEXT` make, if it is given, by `--workers N` workers (1 to 64; 4 where nothing is said, one with
 /// `--mlir-disable-threading`). `opt --split-input-file` does so with each
-/// piece of FILE between the lines that are `// -----`, and joins the texts by such lines. All other words are answered by
+/// piece of FILE between the lines that are `// -----`, and joins the texts by such lines.
+/// `gen SEED N [--verilog] [-o FILE]` prints a summary, or the Verilog, of a design of N modules (1 to 10,000) that is generated from
+/// a seed. All other words are answered by
 /// [`Status::Usage`]. A fault of `err` changes no status.
 pub fn run_circt<R: Threads + Sync, F: Files, O: Sink, E: Sink, G: Gate + Sync>(
     rt: &R,

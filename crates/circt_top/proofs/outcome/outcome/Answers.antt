@@ -15,3 +15,11 @@ returns-in-MlirPieces g c =
 pub returns-in-Verilog : goal.returns-in-Verilog
 returns-in-Verilog g c =
     subst (λ (w : Work). Gives (work_of w) c.args.sources.now c.translate_whole.result) (sym c.in-Verilog.is) (c.translate_whole.ensures c.args.sources.now (sym c.first_input-source.ensures))
+
+pub returns-in-GeneratedSummary : goal.returns-in-GeneratedSummary
+returns-in-GeneratedSummary g c =
+    subst (λ (w : Work). Gives (work_of w) c.args.sources.now c.summarise.result) (sym c.in-GeneratedSummary.is) (c.summarise.ensures c.args.sources.now)
+
+pub returns-in-GeneratedVerilog : goal.returns-in-GeneratedVerilog
+returns-in-GeneratedVerilog g c =
+    subst (λ (w : Work). Gives (work_of w) c.args.sources.now c.generate_verilog.result) (sym c.in-GeneratedVerilog.is) (c.generate_verilog.ensures c.args.sources.now)
