@@ -35,7 +35,7 @@ fn usage_of(alloc: Global, line: &str, offered: &[Pass]) -> Result<Option<UsageK
     }
 }
 
-const WORDS: [(&str, Option<UsageKind>); 40] = [
+const WORDS: [(&str, Option<UsageKind>); 47] = [
     ("", Some(UsageKind::Words)),
     ("opt", None),
     ("opt a.mlir b.mlir", Some(UsageKind::Words)),
@@ -88,7 +88,82 @@ const WORDS: [(&str, Option<UsageKind>); 40] = [
         Some(UsageKind::Words),
     ),
     ("translate --workers 0", Some(UsageKind::Words)),
+    ("gen 0 1", None),
+    ("gen 4294967295 10000 -o x --workers 64 --verilog", None),
+    ("gen 4294967296 1", Some(UsageKind::Words)),
+    ("gen 0 10001", Some(UsageKind::Words)),
+    ("gen 0", Some(UsageKind::Words)),
+    ("gen --workers=4 -- 7 1", None),
+    ("gen 7 1 --mlir-disable-threading", Some(UsageKind::Words)),
 ];
+
+/// Words of `gen`, and what they say.
+struct Generation {
+    line: &'static str,
+    is_verilog: bool,
+    seed: u32,
+    count: u32,
+}
+
+const GENERATIONS: [Generation; 4] = [
+    Generation {
+        line: "gen 7 200",
+        is_verilog: false,
+        seed: 7,
+        count: 200,
+    },
+    Generation {
+        line: "gen 0 1 --verilog",
+        is_verilog: true,
+        seed: 0,
+        count: 1,
+    },
+    Generation {
+        line: "gen --verilog 4294967295 10000",
+        is_verilog: true,
+        seed: 4294967295,
+        count: 10000,
+    },
+    Generation {
+        line: "gen -- 2 3",
+        is_verilog: false,
+        seed: 2,
+        count: 3,
+    },
+];
+
+// Whether an invocation generates a design as a row says, and reads no file.
+fn generates(invocation: &Invocation, row: &Generation) -> bool {
+    let (recipe, is_verilog) = match &invocation.work {
+        Work::GeneratedSummary(recipe) => (*recipe, false),
+        Work::GeneratedVerilog(recipe) => (*recipe, true),
+        _ => return false,
+    };
+    (recipe.seed == row.seed && recipe.count == row.count)
+        && (is_verilog == row.is_verilog && invocation.inputs.is_empty())
+}
+
+// The first words of `gen` that say something else.
+fn first_other_generation(
+    alloc: Global,
+    rows: &[Generation],
+) -> Result<Option<&'static str>, AllocError> {
+    for row in rows {
+        let words = words_of(alloc, row.line)?;
+        match read_line(alloc, words.as_slice(), &ALL) {
+            Ok(invocation) if generates(&invocation, row) => {}
+            Err(LineFail::NoMemory) => return Err(AllocError),
+            _ => return Ok(Some(row.line)),
+        }
+    }
+    Ok(None)
+}
+
+#[test]
+fn designs_are_named_by_numbers(rt: HostRuntime) -> Result<(), Fail> {
+    assert_eq!(rt; first_other_generation(rt.alloc(), &GENERATIONS)?, None);
+    Ok(())
+}
 
 // How many workers the words of a line say.
 const WORKERS: [(&str, u32); 6] = [
@@ -245,6 +320,7 @@ fn is_on(work: &Work, passes: &[Pass]) -> bool {
         Work::Mlir(given) | Work::MlirPieces(given) | Work::Verilog(given) => {
             given.as_slice() == passes
         }
+        Work::GeneratedSummary(_) | Work::GeneratedVerilog(_) => false,
     }
 }
 
@@ -300,7 +376,7 @@ fn splits(alloc: Global, line: &str) -> Result<bool, AllocError> {
     match read_line(alloc, words.as_slice(), &ALL) {
         Ok(invocation) => match invocation.work {
             Work::MlirPieces(_) => Ok(true),
-            Work::Mlir(_) | Work::Verilog(_) => Ok(false),
+            _ => Ok(false),
         },
         Err(LineFail::Usage(_)) => Ok(false),
         Err(LineFail::NoMemory) => Err(AllocError),
@@ -390,8 +466,8 @@ const NAMED: [Named; 7] = [
 // Whether a work translates.
 fn is_translation(work: &Work) -> bool {
     match work {
-        Work::Mlir(_) | Work::MlirPieces(_) => false,
         Work::Verilog(_) => true,
+        _ => false,
     }
 }
 

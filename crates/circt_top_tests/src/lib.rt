@@ -1,7 +1,9 @@
-//! Tests of the whole program, on files and sinks in memory: words, pipelines, faults, limits, and runs of what is printed. What is
+//! Tests of the whole program, on files and sinks in memory: words, pipelines, faults, limits, generated designs, and runs of what is printed. What is
 //! printed of each form of text is checked by the crate `circt_examples`.
 #![tactic(auto)]
 
+#[cfg(test)]
+mod generation;
 #[cfg(test)]
 mod groups;
 #[cfg(test)]

@@ -82,7 +82,7 @@ const ROWS: [Row; 21] = [
         err: UNKNOWN_AT_15,
     },
     Row {
-        words: &["opt", "--pass-pipeline=builtin.module(hw-lower-aggregates"],
+        words: &["opt", "--pass-pipeline=builtin.module(hw-lower-aggregate"],
         code: 2,
         out: "",
         err: UNKNOWN_AT_15,

@@ -62,6 +62,9 @@ pub enum Failing {
     Line,
 }
 
+/// How many bytes a long output takes.
+const LONG: usize = 1048576;
+
 /// How a run ended: the exit status, the files, what is on the output and on the error output.
 #[derive(Drop)]
 pub struct Ended {
@@ -143,6 +146,29 @@ fn run_at(
     let mut out = sink_of(alloc, failing == Failing::Put)?;
     let mut err = sink_of(alloc, failing == Failing::Line)?;
     let status = run_circt(rt, alloc, words, &mut files, &mut out, &mut err, gate);
+    Ok(Ended {
+        code: status.code(),
+        files,
+        out,
+        err,
+    })
+}
+
+/// The run of the words that stand between the blanks of a line, with an output that takes long texts and of which these puts
+/// fail.
+pub fn run_long(
+    rt: &(impl Threads + Sync + AllocGlobal),
+    line: &str,
+    failing: &[u64],
+) -> Result<Ended, AllocError> {
+    let alloc = rt.alloc();
+    let words = words_of(alloc, line)?;
+    let mut files = files_of(alloc, "", Failing::No)?;
+    let places = Vec::from_slice(alloc, failing)?;
+    let mut out = MemorySink::new(alloc, LONG)?.failing_at(places);
+    let mut err = sink_of(alloc, false)?;
+    let words = words.as_slice();
+    let status = run_circt(rt, alloc, words, &mut files, &mut out, &mut err, &Open);
     Ok(Ended {
         code: status.code(),
         files,

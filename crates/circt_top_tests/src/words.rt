@@ -8,13 +8,12 @@ const REFUSED_FILE: &str = "a.mlir:1:1: error: 'foo' S3: unknown operation\n";
 const READ_FAULT: &str = "circt: cannot read b.mlir\n";
 
 // Words that are no command.
-const BAD: [&str; 38] = [
+const BAD: [&str; 37] = [
     "",
     "help",
     "--help",
     "-h",
     "--version",
-    "gen 7 200",
     "lec a.mlir -c1 p -c2 q",
     "opt --help",
     "opt -h",
@@ -24,7 +23,7 @@ const BAD: [&str; 38] = [
     "opt --export-verilog",
     "opt --passes=cse",
     "opt -passes cse",
-    "opt --hw-lower-aggregates",
+    "opt --hw-lower-aggregate",
     "opt --cse=1",
     "opt --canonicalise",
     "opt --canonicalize=x",
