@@ -1,41 +1,86 @@
 //! Whole runs, with their workers in threads: each module is worked once, and the results are those of its number.
 
-ghost use Rattle.std.specs.Prelude.{◌≡◌, ℕ, ◌+◌, ◌≤◌, IsTrue, true, map, length};
+ghost use Rattle.std.specs.Prelude.{◌≡◌, ℕ, ◌+◌, ◌<◌, ◌≤◌, IsTrue, IfOk, Some, true, map, length};
+ghost use Rattle.shared_schedule.specs.Views.{callees_in};
 ghost use Rattle.sched_core.specs.Runs.{AreCallees};
 ghost use Rattle.sched_core.proofs.Falling.{all_below};
 
-use shared_schedule::{Pieces, Work, run_modules};
+use shared_schedule::{Pieces, Plan, Work, run_modules};
 use std::alloc::{AllocError, Global};
 use std::sync::atomic::{AtomicU64, Ordering};
 use std::test::Fail;
 use std::thread::Threads;
 
-/// Bodies that are 7 at first, and finished with the module's number added.
+/// Bodies that are 7 at first, and finished with the module's number added. Finished bodies go to the callers.
 #[derive(Drop)]
 struct Sevens;
 
 impl Pieces for Sevens {
-    ghost use Rattle.std.specs.Prelude.{None};
+    ghost use Rattle.std.specs.Prelude.{Some, ⊤};
 
     type Body = u64;
+
+    ghost lists = { λ _ _. ⊤ };
 
     ghost first = { λ _ m b. b ≡ 7 };
 
     ghost finished = { λ _ m b. b ≡ 7 + m };
 
-    ghost copied = { λ _ m o. o ≡ None };
+    ghost copied = { λ _ m o. o ≡ Some (7 + m) };
 }
 
-/// Adds a module's number, and counts the modules.
+/// Adds a module's number, and counts the modules, and those to which other bodies came than the finished ones of their
+/// callees.
 #[derive(Drop)]
 struct Count {
     modules: AtomicU64,
+    wrong: AtomicU64,
+}
+
+// whether the finished bodies of these modules have come
+fn have_come(callees: &[u32], received: &[Option<u64>]) -> bool {
+    if received.len() != callees.len() {
+        return false;
+    }
+    for (callee, copy) in callees.iter().zip(received) {
+        if *copy != Some(7 + u64::from(*callee)) {
+            return false;
+        }
+    }
+    true
 }
 
 impl Work<Sevens> for Count {
-    fn work(&self, _alloc: Global, _pieces: &Sevens, m: u32, body: u64) -> Result<u64, AllocError> {
+    fn work(
+        &self,
+        _alloc: Global,
+        plan: &Plan<Sevens>,
+        m: u32,
+        body: u64,
+        received: Vec<Option<u64>>,
+    ) -> Result<u64, AllocError>
+        requires within { m < length (callees_in plan.now) }
+        requires first { body ≡ 7 }
+        ensures { IfOk result (λ b. b ≡ 7 + m) }
+    {
         self.modules.fetch_add(1, Ordering::SeqCst);
+        if !have_come(plan.callees[m as usize].as_slice(), received.as_slice()) {
+            self.wrong.fetch_add(1, Ordering::SeqCst);
+        }
         Ok(body + u64::from(m))
+    }
+
+    fn copy(
+        &self,
+        _alloc: Global,
+        _plan: &Plan<Sevens>,
+        m: u32,
+        body: &u64,
+    ) -> Result<Option<u64>, AllocError>
+        requires finished { body.now ≡ 7 + m }
+        ensures { IfOk result (λ o. o ≡ Some (7 + m)) }
+    {
+        Ok(Some(*body))
     }
 }
 
@@ -157,10 +202,16 @@ fn goes_well<R: Threads + Sync>(
     let bodies = vec![in alloc; 7u64; modules]?;
     let count = Count {
         modules: AtomicU64::new(0),
+        wrong: AtomicU64::new(0),
     };
     let bodies = run_modules(rt, alloc, Sevens, callees, bodies, workers, &count)?;
     let worked = count.modules.load(Ordering::SeqCst);
-    Ok(worked == modules as u64 && (bodies.len() == modules && is_right(bodies.as_slice())))
+    let wrong = count.wrong.load(Ordering::SeqCst);
+    Ok(
+        worked == modules as u64
+            && wrong == 0
+            && (bodies.len() == modules && is_right(bodies.as_slice())),
+    )
 }
 
 // the same with 1, 2, 8 and 64 workers

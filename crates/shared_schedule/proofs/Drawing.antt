@@ -1,15 +1,13 @@
 -- A draw of a leaf keeps the rule.
-use Rattle.std.proofs.Common.{◌≡◌, ◌≢◌, ℕ, zero, suc, ◌+◌, ◌-◌, ◌%◌, ◌<◌, ◌≤◌, ◌⊎◌, Bool, true, false, List, [], ◌∷◌, length, get_or, set, Option, Some, None, slice_index, slice_get, refl, sym, ap, subst, ◌∙◌, inl, inr, length-set, get_or-set_same, get_or-set_other, mod-eq_of_lt, arith}
+use Rattle.std.proofs.Common.{◌≡◌, ◌≢◌, ℕ, ◌+◌, ◌-◌, ◌%◌, ◌<◌, ◌≤◌, true, false, List, length, set, Option, Some, None, slice_index, slice_get, refl, sym, ap, subst, ◌∙◌, length-set, get_or-set_same, get_or-set_other, mod-eq_of_lt, arith}
 use mathlib.Core.Option.{some, none}
 use lib.ListN.{get_elem?}
 use Rattle.atomic_table.specs.Table as table
 use Rattle.atomic_table.specs.Table.{Me, Act, keeps, Valid, Allows, stepped, step, carried_after}
-use Rattle.sched_core.specs.declared.parts.Stage.{Stage}
 use Rattle.sched_core.specs.declared.parts.Stage.TheVariants.{Waiting, Owed}
-use Rattle.sched_core.specs.declared.event.Event.TheVariants.{Claim}
-use Rattle.sched_core.specs.Sums.{sum_below, one_if, put}
-use Rattle.sched_core.specs.State.{State, callees_of, callee, IsEdge, leaves, IsThere}
-use Rattle.sched_core.specs.Events.{May, draw_leaf}
+use Rattle.sched_core.specs.Sums.{one_if, put}
+use Rattle.sched_core.specs.State.{State, leaves, IsThere}
+use Rattle.sched_core.specs.Events.{draw_leaf}
 use Rattle.sched_core.specs.Sound.{Sound, passed_workers}
 use Rattle.sched_core.proofs.SumLemmas.{sum_below-le, one_if-le}
 use Rattle.sched_core.proofs.Puts.{put-here, put-other, put_cases}
@@ -21,11 +19,11 @@ use Rattle.shared_schedule.specs.declared.plan.Plan.{Plan}
 use Rattle.shared_schedule.specs.declared.slot.Slot.{Slot}
 use Rattle.shared_schedule.specs.declared.view.Place.TheVariants.{Nowhere, Body, Edge}
 use Rattle.shared_schedule.specs.declared.view.View.{View}
-use Rattle.shared_schedule.specs.Views.{callees_in, hold_of, Tells, ToldBy}
+use Rattle.shared_schedule.specs.Views.{callees_in, hold_of, Tells}
 use Rattle.shared_schedule.specs.Rule.{BodyFits, Shows, Rule}
 use Rattle.shared_schedule.specs.Plays.{drawn, Draws}
 use Rattle.shared_schedule.proofs.Lookups.{place-lt}
-use Rattle.shared_schedule.proofs.Staying.{Quiet, tells_still, tells_of, told_by, body_still, edge_still, Goes, goes}
+use Rattle.shared_schedule.proofs.Staying.{Quiet, tells_still, tells_of, told_by, body_still, edge_still, goes}
 use Rattle.shared_schedule.proofs.Stages.{owed-other, quiet-stage, tells-owed}
 
 -- the draws are few
@@ -151,6 +149,7 @@ module _ {P B : Type 0} (first finished : P → ℕ → B → Type 0) (copied : 
             quiet = quiet;
             told = told_by plan plan after w (drawn me.0 None) me.0.plan mine refl (record {
               moves = tells.moves;
+              once = tells.once;
               emptied = tells.emptied;
               told = tells.told;
               passed = sym (ap (λ x. x.passed) (put-here w (record (s.worker w) { passed = true }) s.worker));

@@ -1,31 +1,25 @@
 -- At the end: where one worker has gathered all others, has finished and passed the leaves, every module is done.
 use Rattle.std.proofs.Common.{◌≡◌, ◌≢◌, ℕ, zero, suc, ◌+◌, ◌-◌, ◌<◌, ◌≤◌, ◌⊎◌, Bool, true, false, ◌&&◌, List, [], ◌∷◌, length, Option, Some, None, sum_by, refl, sym, ap, subst, ◌∙◌, inl, inr, arith}
-use Rattle.std.specs.Prelude.{◌==◌}
 use Rattle.std.proofs.lemmas.Bool.{true≢false, false≢true, cases_eq, false_from_ne_true, eq-eqb}
 use Rattle.std.proofs.lemmas.List.Sums.{sum_by-cons}
-use mathlib.Core.Option.{some, none, some-injective, some-ne-none}
+use mathlib.Core.Option.{some, some-injective, some-ne-none}
 use lib.ListN.{get_elem?}
-use Rattle.atomic_table.specs.Table as table
 use Rattle.atomic_table.specs.Table.{Final, Seen}
 use Rattle.sched_core.specs.declared.parts.Stage.{Stage}
 use Rattle.sched_core.specs.declared.parts.Stage.TheVariants.{Waiting, Owed, Taken, Done}
-use Rattle.sched_core.specs.Sums.{sum_below, one_if}
-use Rattle.sched_core.specs.State.{State, callee, IsEdge, leaves, is_done, is_held_by, is_busy_with, is_done_by, IsThere, IsFree}
-use Rattle.sched_core.specs.Sound.{Sound, passed_workers}
-use Rattle.sched_core.specs.Runs.{IsSettled}
+use Rattle.sched_core.specs.Sums.{one_if}
+use Rattle.sched_core.specs.State.{callee, IsEdge, leaves, is_done, is_held_by, is_busy_with, is_done_by, IsThere}
+use Rattle.sched_core.specs.Sound.{passed_workers}
 use Rattle.sched_core.proofs.SumLemmas.{le-sum_below}
 use Rattle.sched_core.proofs.RunLemmas.{complete}
 use Rattle.shared_schedule.specs.declared.plan.Plan.{Plan}
 use Rattle.shared_schedule.specs.declared.slot.Slot.{Slot}
 use Rattle.shared_schedule.specs.declared.slot.Slot.TheVariants.{Made}
-use Rattle.shared_schedule.specs.declared.view.Hold.{Hold}
-use Rattle.shared_schedule.specs.declared.view.Hold.TheVariants.{Over}
 use Rattle.shared_schedule.specs.declared.view.Place.TheVariants.{Nowhere, Body}
 use Rattle.shared_schedule.specs.declared.view.View.{View}
-use Rattle.shared_schedule.specs.Views.{callees_in, last_move, hold_of, is_over, has_edge, Tells, ToldBy}
-use Rattle.shared_schedule.specs.Rule.{handles_body, Lies, home, out, BodyFits, Shows, Rule}
+use Rattle.shared_schedule.specs.Views.{callees_in, last_move, hold_of, is_over, done_times, Tells, ToldBy}
+use Rattle.shared_schedule.specs.Rule.{handles_body, Lies, home, out, BodyFits, Rule}
 use Rattle.shared_schedule.specs.Seats.{IsFinished}
-use Rattle.shared_schedule.proofs.Lookups.{place-lt}
 use Rattle.shared_schedule.proofs.Drawing.{nowhere-body, tells-now, there-now}
 use Rattle.shared_schedule.proofs.Joining.{IsRest, free-of, done-over}
 
@@ -71,12 +65,14 @@ first-true false b is = absurd (false≢true is)
 
 module _ {P B : Type 0} (first finished : P → ℕ → B → Type 0) (copied : P → ℕ → Option B → Type 0) where
   pub ends : (plan : Plan P) (v : View P) (words : List ℕ) (xs : List (Slot B)) → v.plan ≡ Some plan → v.out ≡ Nowhere → v.passed ≡ true → v.shares ≡ v.splits + 1 → IsFinished (callees_in plan) v
-      → Final (Seen (Rule first finished copied plan) 0 v) words xs → (m : ℕ) → m < length (callees_in plan) → (b : B) × (get_elem? xs m ≡ some (Made b)) × finished plan.pieces m b
+      → Final (Seen (Rule first finished copied plan) 0 v) words xs → (m : ℕ) → m < length (callees_in plan) → (b : B) × (get_elem? xs m ≡ some (Made b)) × finished plan.pieces m b × (done_times v.moves m ≡ 1)
   ends plan v words xs mine idle passed all ended (t, ((s, shows), at), same, long, values) m below =
       let made : (y : Slot B) × (get_elem? t.homes m ≡ some (some y)) × BodyFits first finished copied plan.pieces m (s.stage m) y = at-home (shows.bodies m within) in
       let who : (w : ℕ) × (s.stage m ≡ Done w) = doer (s.stage m) over in
       let is : (b : B) × (made.0 ≡ Made b) × finished plan.pieces m b = subst (λ x. BodyFits first finished copied plan.pieces m x made.0) who.1 made.2 in
-      (is.0, values m made.0 made.1 ∙ ap some is.1, is.2)
+      let mine_is : who.0 ≡ 0 = holder who.0 m (ap (is_held_by who.0) who.1 ∙ eq-eqb who.0 who.0 refl) in
+      let once : done_times v.moves m ≡ 1 = tells.once m ∙ ap (λ x. one_if (is_over (hold_of 0 x))) (who.1 ∙ ap Done mine_is) in
+      (is.0, values m made.0 made.1 ∙ ap some is.1, is.2, once)
     where
       within : m < length s.callees
       within = omega (arith, ap length shows.callees)

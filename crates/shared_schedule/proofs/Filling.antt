@@ -1,6 +1,6 @@
 -- An edge changes: what that is to the worker that changes it, and to the others.
-use Rattle.std.proofs.Common.{◌≡◌, ◌≢◌, ℕ, ◌⊎◌, Bool, true, false, ◌&&◌, List, [], ◌∷◌, Option, Some, None, refl, sym, ap, subst, ◌∙◌, inl, inr}
-use Rattle.std.proofs.lemmas.Bool.{true≢false, false≢true}
+use Rattle.std.proofs.Common.{◌≡◌, ℕ, ◌⊎◌, true, false, ◌&&◌, ◌∷◌, refl, sym, ap, subst, ◌∙◌, inl, inr}
+use Rattle.std.proofs.lemmas.Bool.{true≢false}
 use Rattle.sched_core.specs.declared.parts.Edge.{Edge}
 use Rattle.sched_core.specs.declared.parts.Fill.{Fill}
 use Rattle.sched_core.specs.declared.parts.Fill.TheVariants.{Empty, Full, Emptied}
@@ -38,6 +38,7 @@ pub tells-cleared : {P : Type 0} (s : State) (w c i : ℕ) (e : Edge) (v : View 
     → Tells (record s { edge = put_edge c i e s.edge }) w (cleared v c i)
 tells-cleared s w c i e v t held emptied same = record {
   moves = t.moves;
+  once = t.once;
   emptied = λ a b at. by_edge a b at (edge-cases c i a b);
   told = λ a b at. t.told a b at ∙ ap (λ r. r && is_over (hold_of w (s.stage (callee s.callees a b)))) (sym (put_edge_keeps (λ x. x.reported) c i e s.edge same a b));
   passed = t.passed;
@@ -61,6 +62,7 @@ pub tells-told : {P : Type 0} (s : State) (w c i : ℕ) (e : Edge) (v : View P) 
     → Tells (record s { edge = put_edge c i e s.edge }) w (record v { told = (c, i) ∷ v.told; out = Nowhere })
 tells-told s w c i e v t over same reported = record {
   moves = t.moves;
+  once = t.once;
   emptied = λ a b at. t.emptied a b at ∙ ap (λ r. r && is_held (hold_of w (s.stage a))) (sym (put_edge_keeps (λ x. is_emptied x.fill) c i e s.edge same a b));
   told = λ a b at. by_edge a b at (edge-cases c i a b);
   passed = t.passed;

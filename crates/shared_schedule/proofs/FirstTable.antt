@@ -1,21 +1,20 @@
 -- A new table shows the first state.
-use Rattle.std.proofs.Common.{◌≡◌, ◌≢◌, ℕ, zero, suc, ◌+◌, ◌<◌, ◌≤◌, ◌⊎◌, inl, inr, true, false, List, [], ◌∷◌, ◌++◌, map, length, replicate, slice_get, get_or, length-append, Result, Ok, Err, Option, Some, None, slice_index, sum_by, refl, sym, ap, subst, ◌∙◌, arith}
+use Rattle.std.proofs.Common.{◌≡◌, ℕ, zero, suc, ◌+◌, ◌<◌, ◌≤◌, ◌⊎◌, inl, inr, List, [], ◌∷◌, ◌++◌, map, length, replicate, slice_get, get_or, length-append, Result, Ok, Err, Option, Some, slice_index, refl, sym, ap, subst, ◌∙◌, arith}
 use Rattle.std.proofs.lemmas.List.{length-map, length-replicate}
 use Rattle.std.specs.Prelude.{IfOk, IsOkAnd}
-use mathlib.Core.Option.{some, none, some-injective, some-ne-none}
+use mathlib.Core.Option.{some, some-injective, some-ne-none}
 use lib.ListN.{get_elem?}
 use Rattle.atomic_table.specs.Table.{opening}
 use Rattle.atomic_table.proofs.Lists.{at_map, at_longer}
-use Rattle.sched_core.specs.State.{callees_of, callee, IsEdge, first as first_state}
+use Rattle.sched_core.specs.State.{first as first_state}
 use Rattle.sched_core.specs.Runs.{AreCallees}
 use Rattle.sched_core.proofs.Draws.{first-sound}
-use Rattle.sched_core.proofs.EdgeSums.{edge_within}
 use Rattle.shared_schedule.specs.declared.plan.Plan.{Plan}
 use Rattle.shared_schedule.specs.declared.slot.Slot.{Slot}
 use Rattle.shared_schedule.specs.declared.slot.Slot.TheVariants.{Stored, Made, Bare}
 use Rattle.shared_schedule.specs.declared.view.View.{View}
-use Rattle.shared_schedule.specs.Views.{callees_in, new_view, Tells, ToldBy}
-use Rattle.shared_schedule.specs.Rule.{edge_slot, slots_of, Lies, home, Shows, Rule}
+use Rattle.shared_schedule.specs.Views.{callees_in, new_view, ToldBy}
+use Rattle.shared_schedule.specs.Rule.{edge_slot, slots_of, home, Rule}
 use Rattle.shared_schedule.specs.Opened.{AreFirstWords, AreFirstSlots}
 use Rattle.shared_schedule.proofs.Places.{edge_slot-lt}
 
@@ -43,7 +42,7 @@ module _ {P B : Type 0} (first finished : P → ℕ → B → Type 0) (copied : 
     where
       told : (w : ℕ) (v : View P) → get_elem? (new_view (Some plan) ∷ []) w ≡ some v → ToldBy plan (first_state (callees_in plan)) w v v.plan
       told zero v at = subst (λ z. ToldBy plan (first_state (callees_in plan)) 0 z z.plan) (some-injective (new_view (Some plan)) v at)
-          (refl, record { moves = λ m. refl; emptied = λ c i edge. refl; told = λ c i edge. refl; passed = refl; here = refl; splits = λ e. refl; shares = omega arith })
+          (refl, record { moves = λ m. refl; once = λ m. refl; emptied = λ c i edge. refl; told = λ c i edge. refl; passed = refl; here = refl; splits = λ e. refl; shares = omega arith })
       told (suc w) v at = absurd (some-ne-none v (sym at))
 
 -- the words, from the lengths of the rows
@@ -94,7 +93,7 @@ pub made-same : {B : Type 0} {b c : B} → Made b ≡ Made c → b ≡ c
 made-same same = cc
 
 -- what stands at a place of a list with one more element
-get-last : {B : Type 0} (xs : List B) (x y : B) (k : ℕ) → slice_get (xs ++ x ∷ []) k ≡ Some y → ((k < length xs) × (slice_get xs k ≡ Some y)) ⊎ ((k ≡ length xs) × (x ≡ y))
+pub get-last : {B : Type 0} (xs : List B) (x y : B) (k : ℕ) → slice_get (xs ++ x ∷ []) k ≡ Some y → ((k < length xs) × (slice_get xs k ≡ Some y)) ⊎ ((k ≡ length xs) × (x ≡ y))
 get-last [] x y zero at = inr (refl, cc)
 get-last [] x y (suc k) at = absurd (cc)
 get-last (z ∷ zs) x y zero at = inl (omega arith, at)

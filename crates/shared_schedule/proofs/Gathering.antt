@@ -1,37 +1,30 @@
 -- A worker comes, and a worker goes: that keeps the rule.
-use Rattle.std.proofs.Common.{◌≡◌, ◌≢◌, ℕ, zero, suc, ◌+◌, ◌<◌, ◌≤◌, ◌⊎◌, Bool, true, false, cond, ◌&&◌, ◌||◌, List, [], ◌∷◌, ◌++◌, length, set, Option, Some, None, sum_by, refl, sym, ap, subst, ◌∙◌, inl, inr, length-set, length-append, arith}
+use Rattle.std.proofs.Common.{◌≡◌, ◌≢◌, ℕ, zero, suc, ◌+◌, ◌<◌, ◌⊎◌, Bool, true, false, ◌&&◌, List, [], ◌∷◌, ◌++◌, length, set, Option, Some, None, sum_by, refl, sym, ap, subst, ◌∙◌, inl, inr, length-set, length-append, arith}
 use Rattle.std.specs.Prelude.{◌==◌}
-use Rattle.std.proofs.lemmas.Bool.{true≢false, false≢true, cases_eq, eqb-true, eqb-false, eq-eqb, ne_eqb, cond-true, cond-false, cases_Bool}
+use Rattle.std.proofs.lemmas.Bool.{cases_eq, eq-eqb, ne_eqb, cond-false}
 use Rattle.std.proofs.lemmas.List.Sums.{sum_by-append}
 use mathlib.Core.Option.{some, none, some-injective, some-ne-none}
 use lib.ListN.{get_elem?}
-use Rattle.atomic_table.specs.Table as table
-use Rattle.atomic_table.specs.Table.{Splits, Joins}
+use Rattle.atomic_table.specs.Table.{Splits}
 use Rattle.atomic_table.proofs.Lists.{set_here, set_else, at_longer}
 use Rattle.sched_core.specs.declared.parts.Stage.{Stage}
 use Rattle.sched_core.specs.declared.parts.Stage.TheVariants.{Waiting, Owed, Taken, Done}
-use Rattle.sched_core.specs.declared.event.Event.TheVariants.{Split, Join}
-use Rattle.sched_core.specs.Sums.{put}
-use Rattle.sched_core.specs.State.{State, callee, IsEdge, is_held_by, is_busy_with, is_done_by, IsThere, new_worker}
-use Rattle.sched_core.specs.Events.{step, reassign}
-use Rattle.sched_core.specs.Sound.{Sound}
+use Rattle.sched_core.specs.declared.event.Event.TheVariants.{Split}
+use Rattle.sched_core.specs.Sums.{one_if}
+use Rattle.sched_core.specs.State.{State, callee, is_held_by, IsThere, new_worker}
+use Rattle.sched_core.specs.Events.{step}
 use Rattle.sched_core.proofs.Puts.{put-here, put-other}
 use Rattle.sched_core.proofs.Draws.{split-sound}
-use Rattle.sched_core.proofs.Moves.{join-sound}
 use Rattle.shared_schedule.specs.declared.plan.Plan.{Plan}
-use Rattle.shared_schedule.specs.declared.slot.Slot.{Slot}
-use Rattle.shared_schedule.specs.declared.view.Hold.{Hold}
 use Rattle.shared_schedule.specs.declared.view.Hold.TheVariants.{Due, Begun, Over}
 use Rattle.shared_schedule.specs.declared.view.Place.{Place}
-use Rattle.shared_schedule.specs.declared.view.Place.TheVariants.{Nowhere, Body, Edge}
+use Rattle.shared_schedule.specs.declared.view.Place.TheVariants.{Nowhere}
 use Rattle.shared_schedule.specs.declared.view.View.{View}
-use Rattle.shared_schedule.specs.Views.{callees_in, last_move, hold_of, is_held, is_over, has_edge, Tells, ToldBy, new_view, spent_view, both_views}
-use Rattle.shared_schedule.specs.Rule.{edge_slot, handles_edge, handles_body, Lies, home, out, BodyFits, EdgeFits, Shows, Rule}
+use Rattle.shared_schedule.specs.Views.{hold_of, is_held, is_over, Tells, ToldBy, new_view}
+use Rattle.shared_schedule.specs.Rule.{handles_edge, handles_body, Lies, home, out, BodyFits, EdgeFits, Rule}
 use Rattle.shared_schedule.specs.Plays.{split_view}
-use Rattle.shared_schedule.specs.Seats.{IsFinished}
 use Rattle.shared_schedule.proofs.Lookups.{place-lt, sum-changed}
-use Rattle.shared_schedule.proofs.Staying.{Quiet, tells_of, told_by, told_still, lies_still}
-use Rattle.shared_schedule.proofs.Stages.{over-stage}
+use Rattle.shared_schedule.proofs.Staying.{told_by, told_still, lies_still}
 use Rattle.shared_schedule.proofs.Drawing.{nowhere-body, nowhere-edge, tells-now, there-now}
 
 -- what stands at a place of a list with one more element stood there before, or is that element
@@ -113,6 +106,7 @@ module _ {P B : Type 0} (first finished : P → ℕ → B → Type 0) (copied : 
               let is : split_view v ≡ x = some-injective (split_view v) x (sym (set_here t.views 0 (split_view v) (place-lt t.views 0 v at)) ∙ ap (get_elem? (set t.views 0 (split_view v))) (sym e) ∙ here) in
               subst (λ n. ToldBy plan (step s Split) n x x.plan) (sym e) (subst (λ z. ToldBy plan (step s Split) 0 z z.plan) is (told_by plan plan (step s Split) 0 (split_view v) v.plan mine refl (record {
                 moves = tells.moves;
+                once = tells.once;
                 emptied = tells.emptied;
                 told = tells.told;
                 passed = tells.passed ∙ ap (λ y. y.passed) (sym (put-other s.workers new_worker s.worker 0 first-apart));
@@ -130,6 +124,7 @@ module _ {P B : Type 0} (first finished : P → ℕ → B → Type 0) (copied : 
           let number : u ≡ s.workers = last ∙ length-set t.views 0 (split_view v) ∙ shows.come in
           subst (λ n. ToldBy plan (step s Split) n x x.plan) (sym number) (subst (λ z. ToldBy plan (step s Split) s.workers z z.plan) is (told_by plan plan (step s Split) s.workers (new_view v.plan) v.plan mine refl (record {
             moves = λ m. sym (nothing m);
+            once = λ m. ap (λ h. one_if (is_over h)) (sym (nothing m));
             emptied = λ c i edge. and-none _ _ (ap is_held (nothing c));
             told = λ c i edge. and-none _ _ (ap is_over (nothing (callee s.callees c i)));
             passed = ap (λ y. y.passed) (sym (put-here s.workers new_worker s.worker));

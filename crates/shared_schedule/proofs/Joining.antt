@@ -1,33 +1,31 @@
 -- A worker goes, and another keeps what it did: that keeps the rule.
-use Rattle.std.proofs.Common.{◌≡◌, ◌≢◌, ℕ, zero, suc, ◌+◌, ◌<◌, ◌≤◌, ◌⊎◌, Bool, true, false, cond, ◌&&◌, ◌||◌, List, [], ◌∷◌, ◌++◌, length, set, Option, Some, None, sum_by, refl, sym, ap, subst, ◌∙◌, inl, inr, length-set, arith}
+use Rattle.std.proofs.Common.{◌≡◌, ◌≢◌, ℕ, ◌+◌, ◌⊎◌, Bool, true, false, cond, ◌&&◌, ◌||◌, List, [], ◌∷◌, ◌++◌, set, Option, Some, None, sum_by, refl, sym, ap, ap₂, subst, ◌∙◌, inl, inr, length-set, arith}
 use Rattle.std.specs.Prelude.{◌==◌}
-use Rattle.std.proofs.lemmas.Bool.{true≢false, false≢true, cases_eq, eqb-true, eqb-false, eq-eqb, ne_eqb, cond-true, cond-false, cond_both}
-use mathlib.Core.Option.{some, none, some-injective}
+use Rattle.std.proofs.lemmas.Bool.{false≢true, cases_eq, eqb-true, eq-eqb, ne_eqb, cond-true, cond-false, cond_both}
+use mathlib.Core.Option.{some, some-injective}
 use lib.ListN.{get_elem?}
-use Rattle.atomic_table.specs.Table as table
 use Rattle.atomic_table.specs.Table.{Joins}
 use Rattle.atomic_table.proofs.Lists.{set_here, set_else}
 use Rattle.sched_core.specs.declared.parts.Stage.{Stage}
 use Rattle.sched_core.specs.declared.parts.Stage.TheVariants.{Waiting, Owed, Taken, Done}
 use Rattle.sched_core.specs.declared.event.Event.TheVariants.{Join}
-use Rattle.sched_core.specs.Sums.{put}
-use Rattle.sched_core.specs.State.{State, callee, IsEdge, is_emptied, is_busy_with, is_done_by, IsThere, IsFree, HasReported}
+use Rattle.sched_core.specs.Sums.{one_if}
+use Rattle.sched_core.specs.State.{State, callee, IsEdge, is_emptied, is_busy_with, is_done_by, IsFree, HasReported}
 use Rattle.sched_core.specs.Events.{step, reassign}
-use Rattle.sched_core.specs.Sound.{Sound}
 use Rattle.sched_core.proofs.Puts.{put-here, put-other}
 use Rattle.sched_core.proofs.Moves.{join-sound}
 use Rattle.shared_schedule.specs.declared.plan.Plan.{Plan}
 use Rattle.shared_schedule.specs.declared.slot.Slot.{Slot}
 use Rattle.shared_schedule.specs.declared.view.Hold.{Hold}
 use Rattle.shared_schedule.specs.declared.view.Hold.TheVariants.{Due, Begun, Over}
-use Rattle.shared_schedule.specs.declared.view.Place.TheVariants.{Nowhere, Body, Edge}
+use Rattle.shared_schedule.specs.declared.view.Place.TheVariants.{Nowhere}
 use Rattle.shared_schedule.specs.declared.view.View.{View}
-use Rattle.shared_schedule.specs.Views.{callees_in, last_move, hold_of, is_held, is_over, has_edge, Tells, ToldBy, spent_view, both_views}
-use Rattle.shared_schedule.specs.Rule.{handles_edge, handles_body, BodyFits, EdgeFits, Shows, Rule}
+use Rattle.shared_schedule.specs.Views.{callees_in, last_move, hold_of, is_held, is_over, done_times, has_edge, Tells, ToldBy, spent_view, both_views}
+use Rattle.shared_schedule.specs.Rule.{handles_edge, handles_body, BodyFits, EdgeFits, Rule}
 use Rattle.shared_schedule.specs.Seats.{IsFinished}
 use Rattle.shared_schedule.proofs.Lookups.{place-lt, sum-changed}
-use Rattle.shared_schedule.proofs.Staying.{Quiet, tells_of, told_by, told_still, lies_still}
-use Rattle.shared_schedule.proofs.Stages.{owed-other, taken-other, done-other, done-own}
+use Rattle.shared_schedule.proofs.Staying.{told_by, told_still, lies_still}
+use Rattle.shared_schedule.proofs.Stages.{done-other, done-own}
 use Rattle.shared_schedule.proofs.Drawing.{nowhere-body, nowhere-edge, tells-now, there-now}
 
 -- the first of two that there is
@@ -43,6 +41,26 @@ last_move-append (x ∷ xs) ys m = by_test (m == x.0) refl (last_move-append xs 
         → cond (m == x.0) (Some x.1) (last_move (xs ++ ys) m) ≡ first_of (cond (m == x.0) (Some x.1) (last_move xs m)) (last_move ys m)
     by_test true e rest = cond-true (m == x.0) (Some x.1) (last_move (xs ++ ys) m) e ∙ ap (λ o. first_of o (last_move ys m)) (sym (cond-true (m == x.0) (Some x.1) (last_move xs m) e))
     by_test false e rest = cond-false (m == x.0) (Some x.1) (last_move (xs ++ ys) m) e ∙ rest ∙ ap (λ o. first_of o (last_move ys m)) (sym (cond-false (m == x.0) (Some x.1) (last_move xs m) e))
+
+done_times-append : (xs ys : List (ℕ × Hold)) (m : ℕ) → done_times (xs ++ ys) m ≡ done_times xs m + done_times ys m
+done_times-append [] ys m = omega arith
+done_times-append (x ∷ xs) ys m = let rest : done_times (xs ++ ys) m ≡ done_times xs m + done_times ys m = done_times-append xs ys m in omega (arith, rest)
+
+-- two workers did not both do a module
+over-once : (h : Hold) (a b : Bool) → (a ≡ true → b ≡ true → ⊥)
+    → one_if (is_over (cond a (Some h) None)) + one_if (is_over (cond b (Some h) None)) ≡ one_if (is_over (cond a (Some h) None) || is_over (cond b (Some h) None))
+over-once h true true apart = absurd (apart refl refl)
+over-once Due true false apart = refl
+over-once Begun true false apart = refl
+over-once Over true false apart = refl
+over-once h false b apart = omega arith
+
+over-apart : (kept gone : ℕ) → kept ≢ gone → (x : Stage)
+    → one_if (is_over (hold_of kept x)) + one_if (is_over (hold_of gone x)) ≡ one_if (is_over (hold_of kept x) || is_over (hold_of gone x))
+over-apart kept gone apart Waiting = refl
+over-apart kept gone apart (Owed v) = over-once Due (kept == v) (gone == v) (λ one two. apart (eqb-true kept v one ∙ sym (eqb-true gone v two)))
+over-apart kept gone apart (Taken v) = over-once Begun (kept == v) (gone == v) (λ one two. apart (eqb-true kept v one ∙ sym (eqb-true gone v two)))
+over-apart kept gone apart (Done v) = over-once Over (kept == v) (gone == v) (λ one two. apart (eqb-true kept v one ∙ sym (eqb-true gone v two)))
 
 or-assoc : (x y z : Bool) → (x || (y || z)) ≡ ((x || y) || z)
 or-assoc true y z = refl
@@ -228,6 +246,8 @@ module _ {P B : Type 0} (first finished : P → ℕ → B → Type 0) (copied : 
           ∙ ap (get_elem? (set (set t.views kept (both_views v g)) gone spent_view)) (sym e) ∙ there) in
           subst (λ n. ToldBy plan (step s (Join kept gone)) n x x.plan) (sym e) (subst (λ z. ToldBy plan (step s (Join kept gone)) kept z z.plan) is (told_by plan plan (step s (Join kept gone)) kept (both_views v g) v.plan mine refl (record {
             moves = λ m. last_move-append v.moves g.moves m ∙ (λ j. first_of (tells.moves m j) (theirs-tell.moves m j)) ∙ kept-moves kept gone (s.stage m) (how m);
+            once = λ m. done_times-append v.moves g.moves m ∙ ap₂ (λ a b. a + b) (tells.once m) (theirs-tell.once m) ∙ over-apart kept gone apart (s.stage m)
+                ∙ ap one_if (kept-tests is_over refl kept gone (s.stage m) (how m));
             emptied = λ c i edge. has_edge-append v.emptied g.emptied c i ∙ (λ j. tells.emptied c i edge j || theirs-tell.emptied c i edge j)
                 ∙ beside-both (is_emptied (s.edge c i).fill) (is_held (hold_of kept (s.stage c))) (is_held (hold_of gone (s.stage c)))
                 ∙ ap (λ b. is_emptied (s.edge c i).fill && b) (kept-tests is_held refl kept gone (s.stage c) (how c));

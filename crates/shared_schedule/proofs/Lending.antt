@@ -1,5 +1,5 @@
 -- A slot is taken: that keeps the rule.
-use Rattle.std.proofs.Common.{◌≡◌, ◌≢◌, ℕ, zero, suc, ◌+◌, ◌<◌, ◌⊎◌, Bool, true, false, cond, ◌&&◌, List, [], ◌∷◌, length, get_or, set, Option, Some, None, slice_index, refl, sym, ap, subst, ◌∙◌, inl, inr, length-set, arith}
+use Rattle.std.proofs.Common.{◌≡◌, ◌≢◌, ℕ, ◌+◌, ◌<◌, ◌⊎◌, Bool, true, false, cond, ◌&&◌, List, ◌∷◌, length, set, Option, Some, None, slice_index, refl, sym, ap, subst, ◌∙◌, inl, inr, length-set, arith}
 use Rattle.std.specs.Prelude.{◌==◌}
 use Rattle.std.proofs.lemmas.Bool.{true≢false, false≢true, cases_eq, eqb-true}
 use mathlib.Core.Option.{some, none, some-injective}
@@ -13,11 +13,10 @@ use Rattle.sched_core.specs.declared.parts.Stage.TheVariants.{Waiting, Owed, Tak
 use Rattle.sched_core.specs.declared.parts.Fill.{Fill}
 use Rattle.sched_core.specs.declared.parts.Fill.TheVariants.{Empty, Full, Emptied}
 use Rattle.sched_core.specs.State.{State, callee, IsEdge, is_waiting, is_empty, is_emptied}
-use Rattle.sched_core.specs.Sound.{Sound}
 use Rattle.sched_core.proofs.Edges.{reported_unless_waiting}
 use Rattle.shared_schedule.specs.declared.plan.Plan.{Plan}
 use Rattle.shared_schedule.specs.declared.slot.Slot.{Slot}
-use Rattle.shared_schedule.specs.declared.slot.Slot.TheVariants.{Stored, Away, Made, Bare, Copied, Cleared}
+use Rattle.shared_schedule.specs.declared.slot.Slot.TheVariants.{Bare, Copied}
 use Rattle.shared_schedule.specs.declared.view.Hold.{Hold}
 use Rattle.shared_schedule.specs.declared.view.Hold.TheVariants.{Due, Begun, Over}
 use Rattle.shared_schedule.specs.declared.view.Place.{Place}
@@ -28,8 +27,8 @@ use Rattle.shared_schedule.specs.Rule.{edge_slot, slots_of, handles_edge, handle
 use Rattle.shared_schedule.specs.Plays.{lent_body, lent_edge, BodyIs, LendsBody, LendsCopy, LendsBare}
 use Rattle.shared_schedule.proofs.Lookups.{place-lt}
 use Rattle.shared_schedule.proofs.Staying.{Quiet, told_by, body_still, edge_still, Goes, goes}
-use Rattle.shared_schedule.proofs.Stages.{due-stage, begun-stage, over-stage, begun-stage, taken-own, done-own}
-use Rattle.shared_schedule.proofs.Drawing.{nowhere-body, nowhere-edge, Next, tells-now}
+use Rattle.shared_schedule.proofs.Stages.{due-stage, begun-stage, begun-stage}
+use Rattle.shared_schedule.proofs.Drawing.{nowhere-body, nowhere-edge, tells-now}
 use Rattle.shared_schedule.proofs.Places.{edge_slot-past, edge_slot-apart, edge_slot-lt, edge-cases, set-read}
 
 -- a test of the holder
@@ -106,7 +105,7 @@ module _ {P B : Type 0} (first finished : P → ℕ → B → Type 0) (copied : 
         pending = λ c inside. ap (λ ws. slice_index ws (c + 1)) (set-read t.words (m + 1)) ∙ shows.pending c inside;
         homes = length-set t.homes m none;
         quiet = λ u apart. quiet-same s u;
-        told = told_by plan plan s w (lent_body me.0 m) me.0.plan mine refl (record { moves = tells.moves; emptied = tells.emptied; told = tells.told; passed = tells.passed; here = tells.here; splits = tells.splits; shares = tells.shares });
+        told = told_by plan plan s w (lent_body me.0 m) me.0.plan mine refl (record { moves = tells.moves; once = tells.once; emptied = tells.emptied; told = tells.told; passed = tells.passed; here = tells.here; splits = tells.splits; shares = tells.shares });
         shares = refl;
         bodies = λ k inside. by_module k inside (cases_eq k m);
         edges = λ c i there. edge_still first finished copied plan t s s w me.0 (lent_body me.0 m) (set t.homes m none) c i shows there at (nowhere-edge me.0 c i idle) refl
@@ -160,7 +159,7 @@ module _ {P B : Type 0} (first finished : P → ℕ → B → Type 0) (copied : 
     pending = λ a inside. ap (λ ws. slice_index ws (a + 1)) words ∙ shows.pending a inside;
     homes = length-set t.homes (edge_slot s.callees c i) none;
     quiet = λ u apart. quiet-same s u;
-    told = told_by plan plan s w (lent_edge v c i) v.plan mine refl (record { moves = tells.moves; emptied = tells.emptied; told = tells.told; passed = tells.passed; here = tells.here; splits = tells.splits; shares = tells.shares });
+    told = told_by plan plan s w (lent_edge v c i) v.plan mine refl (record { moves = tells.moves; once = tells.once; emptied = tells.emptied; told = tells.told; passed = tells.passed; here = tells.here; splits = tells.splits; shares = tells.shares });
     shares = refl;
     bodies = λ k inside. body_still first finished copied plan t s s w v (lent_edge v c i) (set t.homes (edge_slot s.callees c i) none) k shows inside at (nowhere-body v k idle) (λ y fit. fit)
         (set_else t.homes (edge_slot s.callees c i) k none (λ same. edge_slot-past s.callees c i k inside (sym same))) (λ u apart. quiet-same s u);

@@ -15,3 +15,4 @@ pub mod Looking
 pub mod Working
 pub mod Exchanging
 pub mod Callers
+pub mod Copies

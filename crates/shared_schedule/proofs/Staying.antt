@@ -1,21 +1,22 @@
 -- What stays as it is at a step of another worker.
-use Rattle.std.proofs.Common.{◌≡◌, ◌≢◌, ℕ, ◌+◌, ◌<◌, ◌⊎◌, Bool, true, false, cond, ◌&&◌, List, [], ◌∷◌, length, set, Option, Some, None, slice_index, sum_by, refl, sym, ap, subst, ◌∙◌, inl, inr, length-set, arith}
+use Rattle.std.proofs.Common.{◌≡◌, ◌≢◌, ℕ, ◌+◌, ◌<◌, ◌⊎◌, Bool, true, false, cond, ◌&&◌, List, length, set, Option, Some, None, slice_index, sum_by, sym, ap, subst, ◌∙◌, inl, inr, length-set, arith}
 use Rattle.std.proofs.lemmas.Bool.{cases_eq}
 use mathlib.Core.Option.{some, none, some-injective}
 use lib.ListN.{get_elem?}
 use Rattle.atomic_table.specs.Table as table
-use Rattle.atomic_table.proofs.Lists.{at_set, set_here, set_else}
+use Rattle.atomic_table.proofs.Lists.{set_here, set_else}
 use Rattle.sched_core.specs.declared.parts.Fill.TheVariants.{Empty}
+use Rattle.sched_core.specs.Sums.{one_if}
 use Rattle.sched_core.specs.State.{State, callee, IsEdge, is_emptied}
 use Rattle.sched_core.specs.Sound.{Sound}
 use Rattle.sched_core.specs.Runs.{AreCallees}
 use Rattle.shared_schedule.specs.declared.plan.Plan.{Plan}
 use Rattle.shared_schedule.specs.declared.slot.Slot.{Slot}
 use Rattle.shared_schedule.specs.declared.view.Place.{Place}
-use Rattle.shared_schedule.specs.declared.view.Place.TheVariants.{Nowhere, Body, Edge}
+use Rattle.shared_schedule.specs.declared.view.Place.TheVariants.{Body, Edge}
 use Rattle.shared_schedule.specs.declared.view.View.{View}
-use Rattle.shared_schedule.specs.Views.{callees_in, hold_of, is_held, is_over, Tells, ToldBy}
-use Rattle.shared_schedule.specs.Rule.{edge_slot, slots_of, handles_edge, handles_body, Lies, home, out, BodyFits, EdgeFits, Shows, Rule}
+use Rattle.shared_schedule.specs.Views.{hold_of, is_held, is_over, Tells, ToldBy}
+use Rattle.shared_schedule.specs.Rule.{edge_slot, slots_of, handles_edge, handles_body, Lies, home, out, BodyFits, EdgeFits, Shows}
 use Rattle.shared_schedule.proofs.Lookups.{place-lt, sum-changed}
 
 -- what this worker knows is the same in another state
@@ -32,6 +33,7 @@ pub record Quiet (s after : State) (u : ℕ) : Type 0 where
 pub tells_still : {P : Type 0} (s after : State) (u : ℕ) (v : View P) → after.callees ≡ s.callees → Quiet s after u → Tells s u v → Tells after u v
 tells_still s after u v same quiet t = record {
   moves = λ m. t.moves m ∙ sym (quiet.holds m);
+  once = λ m. t.once m ∙ ap (λ h. one_if (is_over h)) (sym (quiet.holds m));
   emptied = λ c i at. let old : IsEdge s.callees c i = subst (λ cs. IsEdge cs c i) same at in t.emptied c i old ∙ sym (quiet.emptied c i old);
   told = λ c i at. let old : IsEdge s.callees c i = subst (λ cs. IsEdge cs c i) same at in
       t.told c i old ∙ sym (quiet.told c i old) ∙ ap (λ cs. (after.edge c i).reported && is_over (hold_of u (after.stage (callee cs c i)))) (sym same);

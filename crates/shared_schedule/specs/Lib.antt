@@ -4,3 +4,4 @@ pub mod Seats
 pub mod Plays
 pub mod Opened
 pub mod Working
+pub mod Copies

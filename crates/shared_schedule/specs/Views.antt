@@ -1,12 +1,12 @@
 -- What a worker's view says of the state of a schedule.
-use Rattle.std.specs.Prelude.{◌≡◌, ◌≢◌, ℕ, ◌+◌, ◌≤◌, Bool, true, false, cond, ◌&&◌, ◌||◌, ◌==◌, List, [], ◌∷◌, ◌++◌, Option, Some, None, map}
+use Rattle.std.specs.Prelude.{◌≡◌, ℕ, ◌+◌, ◌≤◌, Bool, true, false, cond, ◌&&◌, ◌||◌, ◌==◌, List, [], ◌∷◌, ◌++◌, Option, Some, None, map}
 use Rattle.sched_core.specs.declared.parts.Stage.{Stage}
 use Rattle.sched_core.specs.declared.parts.Stage.TheVariants.{Waiting, Owed, Taken, Done}
+use Rattle.sched_core.specs.Sums.{one_if}
 use Rattle.sched_core.specs.State.{State, callee, IsEdge, is_emptied}
 use Rattle.shared_schedule.specs.declared.plan.Plan.{Plan}
 use Rattle.shared_schedule.specs.declared.view.Hold.{Hold}
 use Rattle.shared_schedule.specs.declared.view.Hold.TheVariants.{Due, Begun, Over}
-use Rattle.shared_schedule.specs.declared.view.Place.{Place}
 use Rattle.shared_schedule.specs.declared.view.Place.TheVariants.{Nowhere}
 use Rattle.shared_schedule.specs.declared.view.View.{View}
 
@@ -38,6 +38,11 @@ is_over (Some Due) = false
 is_over (Some Begun) = false
 is_over (Some Over) = true
 
+-- how often the list says that the module is over
+abbrev pub done_times : List (ℕ × Hold) → ℕ → ℕ
+done_times [] m = 0
+done_times (x ∷ xs) m = one_if ((m == x.0) && is_over (Some x.1)) + done_times xs m
+
 -- the edge stands in the list
 abbrev pub has_edge : List (ℕ × ℕ) → ℕ → ℕ → Bool
 has_edge [] c i = false
@@ -47,6 +52,8 @@ has_edge (x ∷ xs) c i = ((c == x.0) && (i == x.1)) || has_edge xs c i
 pub record Tells {P : Type 0} (s : State) (w : ℕ) (v : View P) : Type 0 where
   -- the newest entries say what it has to do with each module
   pub moves : (m : ℕ) → last_move v.moves m ≡ hold_of w (s.stage m)
+  -- each module that it did is over once
+  pub once : (m : ℕ) → done_times v.moves m ≡ one_if (is_over (hold_of w (s.stage m)))
   -- the emptied edges of the modules that it owes, has taken or did
   pub emptied : (c i : ℕ) → IsEdge s.callees c i → has_edge v.emptied c i ≡ (is_emptied (s.edge c i).fill && is_held (hold_of w (s.stage c)))
   -- the reported edges of the modules that it did

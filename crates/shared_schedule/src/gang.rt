@@ -1,6 +1,6 @@
 //! Workers in threads, and the whole run.
 
-ghost use Rattle.std.specs.Prelude.{◌≡◌, ℕ, ◌+◌, ◌-◌, ◌<◌, ◌≤◌, true, false, [], Some, None, length, map, slice_get, IfOk};
+ghost use Rattle.std.specs.Prelude.{◌≡◌, ℕ, ◌+◌, ◌-◌, ◌<◌, ◌≤◌, true, false, [], Some, length, map, slice_get, IfOk};
 ghost use Rattle.std.specs.Thread.{IsSync};
 ghost use Rattle.sched_core.specs.Runs.{AreCallees};
 ghost use Rattle.shared_schedule.specs.Views.{callees_in};
@@ -32,7 +32,7 @@ where
     requires first { seat.id ≡ 0 }
     requires some { 1 ≤ workers }
     requires few { seat.me.0.splits + workers ≤ 64 }
-    requires none { (k : ℕ) → P.copied shared.now.plan.pieces k None }
+    requires lists { P.lists shared.now.plan.pieces (callees_in shared.now.plan) }
     ensures { IfOk result (λ s. IsDone shared.now.table.shared.table_id shared.now.plan seat s (workers - 1)) }
 {
     let queue = Vec::with_capacity(alloc, shared.plan.callees.len())?;
@@ -43,11 +43,11 @@ where
     let (mine, theirs) = join(
         rt,
         move || -> Result<Seat<Slot<P::Body>, View<P>>, AllocError>
-            requires { IsSync R.row × IsReady shared.now.table.shared.table_id shared.now.plan seat × (seat.id ≡ 0) × (1 ≤ workers - 1) × (seat.me.0.splits + (workers - 1) ≤ 64) × ((k : ℕ) → P.copied shared.now.plan.pieces k None) }
+            requires { IsSync R.row × IsReady shared.now.table.shared.table_id shared.now.plan seat × (seat.id ≡ 0) × (1 ≤ workers - 1) × (seat.me.0.splits + (workers - 1) ≤ 64) × P.lists shared.now.plan.pieces (callees_in shared.now.plan) }
             ensures { IfOk result (λ s. IsDone shared.entry.now.table.shared.table_id shared.entry.now.plan seat s (workers - 2)) }
         { gang(rt, alloc, shared, seat, work, workers - 1) },
         move || -> Result<Seat<Slot<P::Body>, View<P>>, AllocError>
-            requires { IsReady shared.now.table.shared.table_id shared.now.plan other × (queue.items ≡ []) × ((k : ℕ) → P.copied shared.now.plan.pieces k None) }
+            requires { IsReady shared.now.table.shared.table_id shared.now.plan other × (queue.items ≡ []) × P.lists shared.now.plan.pieces (callees_in shared.now.plan) }
             ensures { IfOk result (λ s. IsDone shared.entry.now.table.shared.table_id shared.entry.now.plan other s 0) }
         { worker(shared, alloc, other, work, queue) },
     );
@@ -94,7 +94,7 @@ where
     requires callees { AreCallees (map (λ row. row.items) callees.items) }
     requires bodies { length bodies.items ≡ length callees.items }
     requires first { (m : ℕ) (b : P.Body) → slice_get bodies.items m ≡ Some b → P.first pieces m b }
-    requires none { (m : ℕ) → P.copied pieces m None }
+    requires lists { P.lists pieces (map (λ row. row.items) callees.items) }
     requires workers { (1 ≤ workers) × (workers ≤ 64) }
     ensures len { IfOk result (λ v. length v.items ≡ length callees.items) }
     ensures finished { IfOk result (λ v. (m : ℕ) (b : P.Body) → slice_get v.items m ≡ Some b → P.finished pieces m b) }

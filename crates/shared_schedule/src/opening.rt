@@ -8,7 +8,7 @@ ghost use Rattle.std.specs.Slots.Ownership.{Filled};
 ghost use Rattle.sched_core.specs.State.{leaves};
 ghost use Rattle.sched_core.specs.Runs.{AreCallees};
 ghost use Rattle.shared_schedule.specs.declared.slot.Slot.TheVariants.{Made};
-ghost use Rattle.shared_schedule.specs.Views.{callees_in, new_view};
+ghost use Rattle.shared_schedule.specs.Views.{callees_in, new_view, done_times};
 ghost use Rattle.shared_schedule.specs.Seats.{IsIdle, IsFinished};
 ghost use Rattle.shared_schedule.specs.Opened.{AreFirstWords, AreFirstSlots};
 
@@ -63,7 +63,8 @@ where
         }
     }
 
-    /// The finished bodies, where one worker has gathered all others, has finished and drawn past the leaves.
+    /// The finished bodies, where one worker has gathered all others, has finished and drawn past the leaves. Each module was
+    /// then over once, with one of them.
     pub fn into_bodies(
         self,
         alloc: Global,
@@ -75,6 +76,7 @@ where
         requires passed { seat.me.0.passed ≡ true }
         requires finished { IsFinished (callees_in self.plan) seat.me.0 }
         ensures len { IfOk result (λ v. length v.items ≡ length (callees_in self.plan)) }
+        ensures once { IfOk result (λ _. (m : ℕ) → m < length (callees_in self.plan) → done_times seat.me.0.moves m ≡ 1) }
         ensures finished { IfOk result (λ v. (m : ℕ) (b : P.Body) → slice_get v.items m ≡ Some b → P.finished self.plan.pieces m b) }
     {
         let modules = self.plan.callees.len();

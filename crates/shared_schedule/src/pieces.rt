@@ -1,13 +1,15 @@
 //! What a schedule carries.
 
-ghost use Rattle.std.specs.Prelude.{ℕ, Option};
+ghost use Rattle.std.specs.Prelude.{ℕ, List, Option};
 
-/// The bodies that a schedule carries. The members say, for a value of the type and the number of a module, which bodies
-/// may be given to the worker that comes to the module, which ones are finished, and which copies of a finished body
-/// (or none) stand on the edges to the module's callers.
+/// The bodies that a schedule carries. The members say, for a value of the type, what the lists of callees are, and, for
+/// the number of a module, which bodies may be given to the worker that comes to the module, which ones are finished, and
+/// which copies of a finished body (or none) stand on the edges to the module's callers.
 pub trait Pieces {
     /// The body of a module.
     type Body;
+
+    ghost lists: { Self → List (List ℕ) → Type 0 };
 
     ghost first: { Self → ℕ → Self.Body → Type 0 };
 

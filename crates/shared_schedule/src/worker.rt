@@ -1,10 +1,11 @@
 //! A worker's loop.
 
-ghost use Rattle.std.specs.Prelude.{◌≡◌, ℕ, ◌+◌, ◌<◌, true, false, cond, [], ◌∷◌, ◌++◌, List, Option, Some, None, length, map, slice_index_or, IfOk, OnOk};
-ghost use Rattle.sched_core.specs.State.{IsEdge};
+ghost use Rattle.std.specs.Prelude.{◌≡◌, ℕ, ◌+◌, ◌<◌, true, false, cond, [], ◌∷◌, ◌++◌, List, Some, length, map, slice_index_or, IfOk, OnOk};
+ghost use Rattle.sched_core.specs.State.{IsEdge, callees_of};
 ghost use Rattle.shared_schedule.specs.declared.view.Hold.TheVariants.{Begun};
 ghost use Rattle.shared_schedule.specs.Views.{callees_in, last_move, has_edge};
 ghost use Rattle.shared_schedule.specs.Seats.{IsIdle, IsFinished};
+ghost use Rattle.shared_schedule.specs.Copies.{AreReceived, AreCopies};
 ghost use Rattle.shared_schedule.specs.Working.{IsBetween, IsTelling, GoesOn, IsEmptied, IsReady, IsDone, open_modules};
 
 use crate::pieces::Pieces;
@@ -16,21 +17,51 @@ use atomic_table::Seat;
 use std::alloc::{AllocError, Global};
 
 // takes what stands on the edges of a module that the worker has taken
-fn take_edges<P: Pieces>(shared: &Shared<P>, seat: &mut Seat<Slot<P::Body>, View<P>>, m: u32)
+fn take_edges<P: Pieces>(
+    shared: &Shared<P>,
+    alloc: Global,
+    seat: &mut Seat<Slot<P::Body>, View<P>>,
+    m: u32,
+) -> Result<Vec<Option<P::Body>>, AllocError>
 where
     P::Body: Drop,
     requires idle { IsIdle shared.now.table.shared.table_id shared.now.plan seat.old }
     requires within { m < length (callees_in shared.now.plan) }
     requires begun { last_move seat.old.me.0.moves m ≡ Some Begun }
     requires full { (i : ℕ) → IsEdge (callees_in shared.now.plan) m i → has_edge seat.old.me.0.emptied m i ≡ false }
-    ensures idle { IsIdle shared.now.table.shared.table_id shared.now.plan seat.new }
-    ensures id { seat.new.id ≡ seat.old.id }
-    ensures emptied { IsEmptied (callees_in shared.now.plan) m seat.old.me.0 seat.new.me.0 }
+    ensures idle { OnOk result (IsIdle shared.now.table.shared.table_id shared.now.plan seat.new) }
+    ensures id { OnOk result (seat.new.id ≡ seat.old.id) }
+    ensures emptied { OnOk result (IsEmptied (callees_in shared.now.plan) m seat.old.me.0 seat.new.me.0) }
+    ensures received { IfOk result (λ v. AreReceived (P.copied shared.now.plan.pieces) (callees_of (callees_in shared.now.plan) m) v.items) }
 {
+    let mut received = Vec::new(alloc);
     for i in 0..shared.edge_count(m) {
         let at = i as u32;
-        drop(shared.take_edge(seat, m, at));
+        received.push(shared.take_edge(seat, m, at))?;
     }
+    Ok(received)
+}
+
+// what goes to the callers of a module
+fn copies_of<P: Pieces, W: Work<P>>(
+    shared: &Shared<P>,
+    alloc: Global,
+    work: &W,
+    m: u32,
+    body: &P::Body,
+) -> Result<Vec<Option<P::Body>>, AllocError>
+where
+    P::Body: Drop,
+    requires within { m < length (callees_in shared.now.plan) }
+    requires lists { P.lists shared.now.plan.pieces (callees_in shared.now.plan) }
+    requires finished { P.finished shared.now.plan.pieces m body.now }
+    ensures { IfOk result (λ v. AreCopies (P.copied shared.now.plan.pieces m) (length (slice_index_or (map (λ row. row.items) shared.now.callers.items) m [])) v.items) }
+{
+    let mut copies = Vec::new(alloc);
+    for _caller in 0..shared.caller_count(m) {
+        copies.push(work.copy(alloc, &shared.plan, m, body)?)?;
+    }
+    Ok(copies)
 }
 
 // one more number, where the test passed
@@ -49,34 +80,49 @@ fn tell<P: Pieces>(
     seat: &mut Seat<Slot<P::Body>, View<P>>,
     queue: &mut Vec<u32>,
     m: u32,
-    c: u32,
-    i: u32,
+    edge: (u32, u32),
+    copy: Option<P::Body>,
 ) -> Result<(), AllocError>
     requires idle { IsIdle shared.now.table.shared.table_id shared.now.plan seat.old }
-    requires telling { (rest : List (ℕ × ℕ)) × IsTelling (callees_in shared.now.plan) seat.old.me.0 queue.old.items m ((c, i) ∷ rest) }
-    requires none { (k : ℕ) → P.copied shared.now.plan.pieces k None }
+    requires telling { (rest : List (ℕ × ℕ)) × IsTelling (callees_in shared.now.plan) seat.old.me.0 queue.old.items m (edge ∷ rest) }
+    requires copied { P.copied shared.now.plan.pieces m copy }
     ensures idle { OnOk result (IsIdle shared.now.table.shared.table_id shared.now.plan seat.new) }
     ensures id { OnOk result (seat.new.id ≡ seat.old.id) }
-    ensures told { OnOk result ((rest : List (ℕ × ℕ)) → IsTelling (callees_in shared.now.plan) seat.old.me.0 queue.old.items m ((c, i) ∷ rest) → IsTelling (callees_in shared.now.plan) seat.new.me.0 queue.new.items m rest) }
+    ensures told { OnOk result ((rest : List (ℕ × ℕ)) → IsTelling (callees_in shared.now.plan) seat.old.me.0 queue.old.items m (edge ∷ rest) → IsTelling (callees_in shared.now.plan) seat.new.me.0 queue.new.items m rest) }
     ensures on { OnOk result (GoesOn seat.old.me.0 seat.new.me.0) }
 {
     shared.look(seat);
-    shared.put_edge(seat, c, i, None);
+    let (c, i) = edge;
+    shared.put_edge(seat, c, i, copy);
     let last = shared.report(seat, c, i);
     push_if(queue, c, last)
 }
 
-// reports all edges of a module that the worker did
+// one of the copies
+fn next_copy<B>(copies: &mut Vec<Option<B>>) -> Option<B>
+    requires { 0 < length copies.old.items }
+    ensures { copies.old.items ≡ copies.new.items ++ result ∷ [] }
+{
+    let Some(copy) = copies.pop() else {
+        unreachable!()
+    };
+    copy
+}
+
+// puts a copy on each edge of a module that the worker did, and reports it
 fn tell_callers<P: Pieces>(
     shared: &Shared<P>,
     seat: &mut Seat<Slot<P::Body>, View<P>>,
     queue: &mut Vec<u32>,
     m: u32,
+    mut copies: Vec<Option<P::Body>>,
 ) -> Result<(), AllocError>
+where
+    P::Body: Drop,
     requires idle { IsIdle shared.now.table.shared.table_id shared.now.plan seat.old }
     requires within { m < length (callees_in shared.now.plan) }
     requires telling { IsTelling (callees_in shared.now.plan) seat.old.me.0 queue.old.items m (slice_index_or (map (λ row. row.items) shared.now.callers.items) m []) }
-    requires none { (k : ℕ) → P.copied shared.now.plan.pieces k None }
+    requires copies { AreCopies (P.copied shared.now.plan.pieces m) (length (slice_index_or (map (λ row. row.items) shared.now.callers.items) m [])) copies.items }
     ensures idle { OnOk result (IsIdle shared.now.table.shared.table_id shared.now.plan seat.new) }
     ensures id { OnOk result (seat.new.id ≡ seat.old.id) }
     ensures between { OnOk result (IsBetween (callees_in shared.now.plan) seat.new.me.0 queue.new.items) }
@@ -84,7 +130,8 @@ fn tell_callers<P: Pieces>(
 {
     for k in 0..shared.caller_count(m) {
         let edge = shared.caller(m, k);
-        tell(shared, seat, queue, m, edge.0, edge.1)?;
+        let copy = next_copy(&mut copies);
+        tell(shared, seat, queue, m, edge, copy)?;
     }
     Ok(())
 }
@@ -102,7 +149,7 @@ where
     P::Body: Drop,
     requires idle { IsIdle shared.now.table.shared.table_id shared.now.plan seat.old }
     requires between { IsBetween (callees_in shared.now.plan) seat.old.me.0 (queue.old.items ++ m ∷ []) }
-    requires none { (k : ℕ) → P.copied shared.now.plan.pieces k None }
+    requires lists { P.lists shared.now.plan.pieces (callees_in shared.now.plan) }
     ensures idle { OnOk result (IsIdle shared.now.table.shared.table_id shared.now.plan seat.new) }
     ensures id { OnOk result (seat.new.id ≡ seat.old.id) }
     ensures between { OnOk result (IsBetween (callees_in shared.now.plan) seat.new.me.0 queue.new.items) }
@@ -111,10 +158,11 @@ where
 {
     shared.look(seat);
     let body = shared.take_body(seat, m);
-    take_edges(shared, seat, m);
-    let body = work.work(alloc, &shared.plan.pieces, m, body)?;
+    let received = take_edges(shared, alloc, seat, m)?;
+    let body = work.work(alloc, &shared.plan, m, body, received)?;
+    let copies = copies_of(shared, alloc, work, m, &body)?;
     shared.put_done(seat, m, body);
-    tell_callers(shared, seat, queue, m)
+    tell_callers(shared, seat, queue, m, copies)
 }
 
 // works the modules of the queue, and those that come to be owed meanwhile
@@ -129,7 +177,7 @@ where
     P::Body: Drop,
     requires idle { IsIdle shared.now.table.shared.table_id shared.now.plan seat.old }
     requires between { IsBetween (callees_in shared.now.plan) seat.old.me.0 queue.old.items }
-    requires none { (k : ℕ) → P.copied shared.now.plan.pieces k None }
+    requires lists { P.lists shared.now.plan.pieces (callees_in shared.now.plan) }
     ensures idle { OnOk result (IsIdle shared.now.table.shared.table_id shared.now.plan seat.new) }
     ensures id { OnOk result (seat.new.id ≡ seat.old.id) }
     ensures between { OnOk result (IsBetween (callees_in shared.now.plan) seat.new.me.0 []) }
@@ -154,7 +202,7 @@ where
     P::Body: Drop,
     requires ready { IsReady shared.now.table.shared.table_id shared.now.plan seat }
     requires empty { queue.items ≡ [] }
-    requires none { (k : ℕ) → P.copied shared.now.plan.pieces k None }
+    requires lists { P.lists shared.now.plan.pieces (callees_in shared.now.plan) }
     ensures { IfOk result (λ s. IsDone shared.now.table.shared.table_id shared.now.plan seat s 0) }
 {
     while let Some(m) = shared.claim_leaf(&mut seat) {

@@ -1,4 +1,4 @@
-use Rattle.std.proofs.Common.{◌≡◌, ◌<◌, ◌∷◌, ◌++◌, [], map, get_or, ap, sym, subst, ◌∙◌}
+use Rattle.std.proofs.Common.{◌∷◌, ◌++◌, [], map, get_or, ap, sym, subst, ◌∙◌}
 use Rattle.shared_schedule.specs.declared.view.Hold.TheVariants.{Begun, Over}
 use Rattle.shared_schedule.specs.Views.{callees_in, last_move, is_over, has_edge}
 use Rattle.shared_schedule.specs.Working.{IsBetween, GoesOn}
@@ -22,11 +22,17 @@ take_edges-requires-clause-full g c = λ i edge.
     let due = ap (λ v. last_move v.moves c.args.m) c.look.ensures.same ∙ (between-due (callees_in c.args.shared.now.plan) c.args.seat.now.me.0 c.args.queue.now.items c.args.m c.requires.between).0 in
     ap (λ v. has_edge v.emptied c.args.m i) c.take_body-body.ensures.begun ∙ c.look.ensures.agrees.due c.args.m i edge due
 
+pub work-requires-clause-within : goal.work-requires-clause-within
+work-requires-clause-within g c = (between-due (callees_in c.args.shared.now.plan) c.args.seat.now.me.0 c.args.queue.now.items c.args.m c.requires.between).1
+
+pub copies_of-requires-clause-within : goal.copies_of-requires-clause-within
+copies_of-requires-clause-within g c = (between-due (callees_in c.args.shared.now.plan) c.args.seat.now.me.0 c.args.queue.now.items c.args.m c.requires.between).1
+
 pub put_done-requires-clause-within : goal.put_done-requires-clause-within
 put_done-requires-clause-within g c = (between-due (callees_in c.args.shared.now.plan) c.args.seat.now.me.0 c.args.queue.now.items c.args.m c.requires.between).1
 
 pub put_done-requires-clause-begun : goal.put_done-requires-clause-begun
-put_done-requires-clause-begun g c = ap (λ v. last_move v.moves c.args.m) (c.take_edges.ensures.emptied.same) ∙ ap (λ v. last_move v.moves c.args.m) c.take_body-body.ensures.begun ∙ move-here c.args.m Begun c.look.new.seat.me.0.moves
+put_done-requires-clause-begun g c = ap (λ v. last_move v.moves c.args.m) (c.in_ok-received.ensures.emptied.same) ∙ ap (λ v. last_move v.moves c.args.m) c.take_body-body.ensures.begun ∙ move-here c.args.m Begun c.look.new.seat.me.0.moves
 
 pub tell_callers-requires-clause-within : goal.tell_callers-requires-clause-within
 tell_callers-requires-clause-within g c = (between-due (callees_in c.args.shared.now.plan) c.args.seat.now.me.0 c.args.queue.now.items c.args.m c.requires.between).1
@@ -36,7 +42,7 @@ tell_callers-requires-clause-telling g c =
     let callees = callees_in c.args.shared.now.plan in
     let due = between-due callees c.args.seat.now.me.0 c.args.queue.now.items c.args.m c.requires.between in
     let worked = worked-on c.look.new.seat.me.0 c.take_body-body.new.seat.me.0 c.take_edges.new.seat.me.0 c.put_done.new.seat.me.0 c.args.m (ap (λ v. last_move v.moves c.args.m) c.look.ensures.same ∙ due.0)
-    c.take_body-body.ensures.begun c.take_edges.ensures.emptied.same c.put_done.ensures.over in
+    c.take_body-body.ensures.begun c.in_ok-received.ensures.emptied.same c.put_done.ensures.over in
     done-telling callees c.look.new.seat.me.0 c.put_done.new.seat.me.0 c.args.queue.now.items c.args.m (get_or (map (λ row. row.items) c.args.shared.now.callers.items) c.args.m [])
     (subst (λ v. IsBetween callees v (c.args.queue.now.items ++ c.args.m ∷ [])) (sym c.look.ensures.same) c.requires.between) c.look.ensures.agrees worked.1 worked.2 (c.args.shared.now.callers_are c.args.m due.1)
 
@@ -45,7 +51,7 @@ returns-clause-on g c =
     let callees = callees_in c.args.shared.now.plan in
     let due = between-due callees c.args.seat.now.me.0 c.args.queue.now.items c.args.m c.requires.between in
     let worked = worked-on c.look.new.seat.me.0 c.take_body-body.new.seat.me.0 c.take_edges.new.seat.me.0 c.put_done.new.seat.me.0 c.args.m (ap (λ v. last_move v.moves c.args.m) c.look.ensures.same ∙ due.0)
-    c.take_body-body.ensures.begun c.take_edges.ensures.emptied.same c.put_done.ensures.over in
+    c.take_body-body.ensures.begun c.in_ok-received.ensures.emptied.same c.put_done.ensures.over in
     on-ok c.tell_callers.result (λ on. goes-then _ _ _ (subst (λ v. GoesOn v c.put_done.new.seat.me.0) c.look.ensures.same worked.0) on) c.tell_callers.ensures.on
 
 pub returns-clause-less : goal.returns-clause-less
@@ -53,7 +59,7 @@ returns-clause-less g c =
     let callees = callees_in c.args.shared.now.plan in
     let due = between-due callees c.args.seat.now.me.0 c.args.queue.now.items c.args.m c.requires.between in
     let worked = worked-on c.look.new.seat.me.0 c.take_body-body.new.seat.me.0 c.take_edges.new.seat.me.0 c.put_done.new.seat.me.0 c.args.m (ap (λ v. last_move v.moves c.args.m) c.look.ensures.same ∙ due.0)
-    c.take_body-body.ensures.begun c.take_edges.ensures.emptied.same c.put_done.ensures.over in
+    c.take_body-body.ensures.begun c.in_ok-received.ensures.emptied.same c.put_done.ensures.over in
     on-ok c.tell_callers.result (λ on.
     let all = goes-then c.args.seat.now.me.0 c.put_done.new.seat.me.0 c.tell_callers.new.seat.me.0 (subst (λ v. GoesOn v c.put_done.new.seat.me.0) c.look.ensures.same worked.0) on in
     less-open callees c.args.seat.now.me.0 c.tell_callers.new.seat.me.0 c.args.m all.over due.1 (ap is_over due.0)
