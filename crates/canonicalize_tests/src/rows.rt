@@ -30,17 +30,17 @@ fn file_of(alloc: Global, ports: &str, body: &str) -> Result<String, AllocError>
     Ok(text)
 }
 
-// What `opt` with a flag prints of a text, where it ends well.
+// What `opt` with some flags prints of a text, where it ends well.
 fn printed(
     rt: &(impl Threads + Sync + AllocGlobal),
-    flag: &str,
+    flags: &[&str],
     input: &str,
 ) -> Result<Option<MemorySink>, AllocError> {
     let alloc = rt.alloc();
-    let words = vec![in alloc;
-        String::from_str(alloc, "opt")?,
-        String::from_str(alloc, flag)?,
-    ]?;
+    let mut words = vec![in alloc; String::from_str(alloc, "opt")?]?;
+    for flag in flags {
+        words.push(String::from_str(alloc, flag)?)?;
+    }
     let files = vec![in alloc; MemoryFile::of(alloc, "-", input.as_bytes())?]?;
     let mut files = MemoryFiles::new(alloc, files);
     let mut out = MemorySink::new(alloc, 16384)?;
@@ -60,7 +60,7 @@ fn printed(
 // Whether the text of a row is printed as it is to be.
 fn is_folded(
     rt: &(impl Threads + Sync + AllocGlobal),
-    flag: &str,
+    flags: &[&str],
     row: &Row,
 ) -> Result<bool, AllocError> {
     let folded = if row.folded.is_empty() {
@@ -70,7 +70,7 @@ fn is_folded(
     };
     let input = file_of(rt.alloc(), row.ports, row.text)?;
     let expected = file_of(rt.alloc(), row.ports, folded)?;
-    Ok(match printed(rt, flag, input.as_str())? {
+    Ok(match printed(rt, flags, input.as_str())? {
         Some(out) => out.contents() == expected.as_bytes(),
         None => false,
     })
@@ -83,8 +83,17 @@ pub fn first_other(
     flag: &str,
     rows: &[Row],
 ) -> Result<Option<usize>, AllocError> {
+    first_other_with(rt, &[flag], rows)
+}
+
+/// The same with several flags.
+pub fn first_other_with(
+    rt: &(impl Threads + Sync + AllocGlobal),
+    flags: &[&str],
+    rows: &[Row],
+) -> Result<Option<usize>, AllocError> {
     for (number, row) in rows.iter().enumerate() {
-        if !is_folded(rt, flag, row)? {
+        if !is_folded(rt, flags, row)? {
             return Ok(Some(number));
         }
     }

@@ -61,6 +61,7 @@ fn two_meet(rt: &(impl Threads + Sync + AllocGlobal), line: &str) -> Result<bool
 #[test]
 fn two_workers_are_at_work_at_once(rt: HostRuntime) -> Result<(), Fail> {
     assert!(rt; two_meet(&rt, "opt --cse --workers 2")?);
+    assert!(rt; two_meet(&rt, "opt --hw-flatten-modules --workers 2")?);
     Ok(())
 }
 

@@ -9,6 +9,7 @@ use Rattle.hw_model.specs.Hierarchy.{callee_symbols}
 use Rattle.hw_model.specs.Sound.{body_of}
 use Rattle.hw_edits.specs.Laws.{with_body}
 use Rattle.hw_edits.proofs.Follows.{set_each}
+use Rattle.hw_edits.proofs.ResetsKept.{find_symbol}
 use Rattle.accepted_edits.specs.Keeps.{IsFit}
 use Rattle.ir_store.specs.declared.body.Body.{Body}
 use Rattle.ir_store.specs.BodyOps.{BodyOp}
@@ -17,11 +18,12 @@ use Rattle.ir_store.specs.Designs.{StoredModule, numbered_module, with_ops}
 use Rattle.ir_store.specs.Numbered.{ops_by_position}
 use Rattle.ir_store.proofs.StoredModules.{stored_at}
 use Rattle.body_edits.specs.Views.{body_ops}
-use Rattle.inline_pass.specs.Flattening.{inline_all, private_callee}
+use Rattle.inline_pass.specs.Flattening.{if_private, private_found, by_symbol, inline_all, private_callee}
 use Rattle.inline_pass.specs.FlatBodies.{HasInlinedAt}
 use Rattle.inline_pass.specs.Inlinable.{IsInlinable}
+use Rattle.inline_pass.proofs.InliningSteps.{private_is}
 use Rattle.inline_pass.proofs.FlatteningWork.{work_alike}
-use Rattle.inline_pass.proofs.FlatteningDepth.{if_private, private_found, private_by_symbol}
+use Rattle.inline_pass.proofs.FlatteningDepth.{private_by_symbol}
 
 -- ---- modules in code
 
@@ -73,6 +75,14 @@ module _ (d : Design) (fit : IsFit d) (k : ℕ) (m : Module) (at : slice_get d k
       ∙ work_alike (private_found (with_body d k m [])) (private_found d) (length m.body) 0 m.body (λ s here. ap (λ x. bind x if_private) (found_without s here))
       ∙ sym (ap (λ f. inline_all f m.body) (private_by_symbol d))
 
+-- another module is found as it was
+other_found : (d : Design) (k : ℕ) (m : Module) → slice_get d k ≡ Some m → (s : Name) (c : Module) → (s ≡ m.symbol → ⊥) → private_found (with_body d k m []) s ≡ Some c → find_module d s ≡ Some c
+other_found d k m at s c apart is =
+    sym
+    (set_each (λ old new. (old ≡ Some m → ⊥) → new ≡ old) (λ old away. refl) d k m (record m { body = [] }) at refl (λ away. absurd (away refl)) s
+    (λ itself. apart (sym (find_symbol d s m itself))))
+    ∙ private_is (find_module (with_body d k m []) s) c is
+
 -- ---- the body of a module
 
 module _ (ms left : List StoredModule) (k : ℕ) (b : Body) (fit : IsFit (map numbered_module ms)) (at : Some (ops_of b) ≡ slice_get (map (λ (one : StoredModule). one.ops) ms) k)
@@ -91,14 +101,15 @@ module _ (ms left : List StoredModule) (k : ℕ) (b : Body) (fit : IsFit (map nu
   body_is = ap ops_by_position from.is
 
   -- instances in it can be inlined
-  pub taken_inlinable : IsInlinable b (map numbered_module left)
+  pub taken_inlinable : IsInlinable b (private_found (map numbered_module left))
   taken_inlinable = record {
     of = record { design = map numbered_module ms; fit = fit; number = k; owner = numbered_module from.one; there = there; is_body = body_is };
-    taken = left_is;
+    found = λ s c apart is.
+        other_found (map numbered_module ms) k (numbered_module from.one) there s c apart (ap (λ d. private_found d s) (sym left_is) ∙ is);
   }
 
   -- the design once it is put back
-  pub has_inlined : (after : Body) (new : List StoredModule) → body_ops after ≡ inline_all (private_callee (map numbered_module left)) (body_ops b)
+  pub has_inlined : (after : Body) (new : List StoredModule) → body_ops after ≡ inline_all (by_symbol (private_found (map numbered_module left))) (body_ops b)
       → new ≡ with_ops k (ops_of after) left → HasInlinedAt k (map numbered_module ms) (map numbered_module new)
   unfolding body_ops
   has_inlined after new made put = record {
@@ -112,6 +123,7 @@ module _ (ms left : List StoredModule) (k : ℕ) (b : Body) (fit : IsFit (map nu
     where
       now : ops_by_position (ops_of after) ≡ inline_all (private_callee (map numbered_module ms)) (numbered_module from.one).body
       now =
-          made ∙ ap (λ e. inline_all (private_callee e) (body_ops b)) left_is
+          made ∙ ap (λ f. inline_all f (body_ops b)) (sym (private_by_symbol (map numbered_module left)))
+          ∙ ap (λ e. inline_all (private_callee e) (body_ops b)) left_is
           ∙ ap (inline_all (private_callee (with_body (map numbered_module ms) k (numbered_module from.one) []))) (sym body_is)
           ∙ inlined_without (map numbered_module ms) fit k (numbered_module from.one) there

@@ -13,15 +13,8 @@ use Rattle.hw_model.specs.Hierarchy.{callee_symbols, calls, HasNoRecursion}
 use Rattle.hw_model.specs.Sound.{body_of}
 use Rattle.hw_model.proofs.Content.{call_heights}
 use Rattle.hw_model.proofs.Finite.{calls_within}
-use Rattle.inline_pass.specs.Flattening.{inline_all, private_callee, flat_body}
-use Rattle.inline_pass.proofs.FlatteningWork.{by_symbol, work_alike, work_idle, work_calls}
-
--- the private module of a symbol
-abbrev pub if_private : Module → Option Module
-if_private c = cond c.is_private (Some c) None
-
-abbrev pub private_found : Design → Name → Option Module
-private_found d s = bind (find_module d s) if_private
+use Rattle.inline_pass.specs.Flattening.{inline_all, private_callee, if_private, private_found, by_symbol, flat_body}
+use Rattle.inline_pass.proofs.FlatteningWork.{work_alike, work_idle, work_calls}
 
 -- with a body that is flat down to a depth
 abbrev pub flat_to : ℕ → Design → Module → Module

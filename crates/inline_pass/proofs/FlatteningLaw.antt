@@ -21,12 +21,12 @@ use Rattle.pass_laws.specs.Remaining.{symbols, IsPublic, IsReached, AreThose}
 use Rattle.pass_laws.specs.PassLaw.{InstancesStay, IsModuleAfter, PassLaw}
 use Rattle.pass_laws.proofs.Remaining.{symbol_found, reached_more, public_reached}
 use Rattle.pass_laws.proofs.Those.{all_those, those_were, those_meet, those_then}
-use Rattle.inline_pass.specs.Flattening.{flat_design, IsFlattened}
+use Rattle.inline_pass.specs.Flattening.{if_private, private_found, flat_design, IsFlattened}
 use Rattle.inline_pass.proofs.ReachedLists.{reached_found, reached_symbols}
 use Rattle.inline_pass.proofs.OneByOne.{IsReduced}
 use Rattle.inline_pass.proofs.RegistersKept.{registers_kept}
 use Rattle.inline_pass.proofs.DeadModulesGone.{last_step, without_dead_once, without_dead_fit, without_dead_reduced}
-use Rattle.inline_pass.proofs.FlatteningDepth.{if_private, private_found, flat_module, flat_calls}
+use Rattle.inline_pass.proofs.FlatteningDepth.{flat_module, flat_calls}
 use Rattle.inline_pass.proofs.FlatteningSteps.{Inlines}
 use Rattle.inline_pass.proofs.FlatteningProgress.{flat_inlines}
 

@@ -23,9 +23,9 @@ use Rattle.design_cycles.specs.Calls.{symbols_in}
 use Rattle.design_cycles.proofs.Callees.{place_found, number_found, found_at}
 use Rattle.op_verifier.proofs.Distinct.{distinct_symbols}
 use Rattle.accepted_edits.specs.Keeps.{IsFit}
-use Rattle.inline_pass.specs.Flattening.{inline_all, private_callee, flat_design}
+use Rattle.inline_pass.specs.Flattening.{if_private, private_found, inline_all, private_callee, flat_design}
 use Rattle.inline_pass.proofs.FlatteningWork.{work_idle}
-use Rattle.inline_pass.proofs.FlatteningDepth.{flat_calls, if_private, private_found, flat_module, private_by_symbol, flat_from_flat}
+use Rattle.inline_pass.proofs.FlatteningDepth.{flat_calls, flat_module, private_by_symbol, flat_from_flat}
 use Rattle.inline_pass.proofs.FlatteningSteps.{Inlines, inlines_self, inlines_then, inlines_body}
 
 -- ---- modules at their places
@@ -93,7 +93,7 @@ module _ (d e : Design) (marks : List Bool) (fit : IsFit d) (so_far : IsFlatteni
     still_there = so_far.each k m at ∙ ap (λ b. Some (cond b (flat_module d m) m)) unset
 
     -- those that it instances are flat
-    private_flat : (t : Name) → In t (callee_symbols m.body) → private_found e t ≡ omap (flat_module d) (private_found d t)
+    pub private_flat : (t : Name) → In t (callee_symbols m.body) → private_found e t ≡ omap (flat_module d) (private_found d t)
     private_flat t named = go (found_both (flat_if d marks) (λ j c. flat_symbol (has_mark marks j) c) d e so_far.size so_far.each t)
       where
         by_mark : (c : Module) (b : Bool) → cond b (Some (flat_module d c)) None ≡ omap (flat_module d) (cond b (Some c) None)
@@ -279,6 +279,58 @@ all_or_ready d marks fit = go (ready_before d marks (distinct_symbols d fit.unre
         → ((k : ℕ) (m : Module) → slice_get d k ≡ Some m → has_mark marks k ≡ true) ⊎ HasReady d marks
     go (inl all) = inl (λ k m at. all k m at (slice_get_within d k m at))
     go (inr ready) = inr ready
+
+-- ---- up to one module
+
+-- a design in which a module has its own body still, and those that it instances have their flat ones
+pub record IsUpTo (d : Design) (k : ℕ) (m : Module) : Type 0 where
+  pub design : Design
+  pub marks : List Bool
+  pub so_far : IsFlattening d design marks
+  pub unset : has_mark marks k ≡ false
+  pub callees : AreCalleesMarked d marks m
+
+module _ (d : Design) (fit : IsFit d) (k : ℕ) (m : Module) (at : slice_get d k ≡ Some m) where
+  not_all : (marks : List Bool) → has_mark marks k ≡ false → ((j : ℕ) (c : Module) → slice_get d j ≡ Some c → has_mark marks j ≡ true) → ⊥
+  not_all marks unset all = let clash : true ≡ false = sym (all k m at) ∙ unset in cc
+
+  here : (e : Design) (marks : List Bool) → IsFlattening d e marks → has_mark marks k ≡ false → (j : ℕ) (c : Module) → slice_get d j ≡ Some c → AreCalleesMarked d marks c → j ≡ k → IsUpTo d k m
+  here e marks so_far unset j c there callees same =
+      let both : Some c ≡ Some m = sym there ∙ ap (slice_get d) same ∙ at in
+      let one : c ≡ m = cc in
+      record { design = e; marks = marks; so_far = so_far; unset = unset; callees = subst (AreCalleesMarked d marks) one callees }
+
+  up_to : (n : ℕ) (e : Design) (marks : List Bool) → open_count marks ≤ n → IsFlattening d e marks → has_mark marks k ≡ false → IsUpTo d k m
+  up_to zero e marks few so_far unset = go (all_or_ready d marks fit)
+    where
+      go : ((j : ℕ) (c : Module) → slice_get d j ≡ Some c → has_mark marks j ≡ true) ⊎ HasReady d marks → IsUpTo d k m
+      go (inl all) = absurd (not_all marks unset all)
+      go (inr (j, c, there, clear, callees)) =
+          let fewer : suc (open_count (set marks j true)) ≡ open_count marks = open_fewer marks j (subst (λ s. j < s) (sym so_far.count) (slice_get_within d j c there)) clear in
+          absurd (omega arith)
+  up_to (suc n) e marks few so_far unset = go (all_or_ready d marks fit) (λ x more smaller next left. up_to n x more smaller next left)
+    where
+      go : ((j : ℕ) (c : Module) → slice_get d j ≡ Some c → has_mark marks j ≡ true) ⊎ HasReady d marks
+          → ((x : Design) (more : List Bool) → open_count more ≤ n → IsFlattening d x more → has_mark more k ≡ false → IsUpTo d k m) → IsUpTo d k m
+      go (inl all) again = absurd (not_all marks unset all)
+      go (inr (j, c, there, clear, callees)) again = by_place (eqb j k) refl
+        where
+          fewer : suc (open_count (set marks j true)) ≡ open_count marks
+          fewer = open_fewer marks j (subst (λ s. j < s) (sym so_far.count) (slice_get_within d j c there)) clear
+
+          by_place : (b : Bool) → eqb j k ≡ b → IsUpTo d k m
+          by_place true test = here e marks so_far unset j c there callees (eqb-true j k test)
+          by_place false test =
+              let apart : j ≢ k = eqb-false j k test in
+              again (with_body e j c (inline_all (private_callee e) c.body)) (set marks j true) (omega (arith, fewer, few)) (flattening_goes_on d e marks fit so_far j c there clear callees)
+              (marked_other marks j k (λ same. apart (sym same)) ∙ unset)
+
+  pub is_up_to : IsUpTo d k m
+  is_up_to =
+      up_to (open_count marks) d marks (omega arith) (flattening_begins d marks fit (length-replicate (length d) false) (λ j. none_marked (length d) j)) (none_marked (length d) k)
+    where
+      marks : List Bool
+      marks = replicate (length d) false
 
 -- ---- to the end
 

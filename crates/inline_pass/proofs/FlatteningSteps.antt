@@ -24,11 +24,10 @@ use Rattle.inline_laws.proofs.Instances.{called_before, called_after}
 use Rattle.inline_laws.proofs.Weights.{inlining_is_lighter}
 use Rattle.inline_laws.proofs.WithoutWires.{FollowsAlike, inlined_alike, set_twice}
 use Rattle.inline_pass.specs.Renaming.{renamed}
-use Rattle.inline_pass.specs.Flattening.{instance_name, inlined_at, inline_from}
+use Rattle.inline_pass.specs.Flattening.{if_private, private_found, by_symbol, instance_name, inlined_at, inline_from}
 use Rattle.inline_pass.proofs.Renaming.{renamed_only}
 use Rattle.inline_pass.proofs.InlinedFit.{fit_inlined, is_inlined}
-use Rattle.inline_pass.proofs.FlatteningWork.{by_symbol, named_some, called_whole, step_past, step_over, step_into}
-use Rattle.inline_pass.proofs.FlatteningDepth.{if_private, private_found}
+use Rattle.inline_pass.proofs.FlatteningWork.{named_some, called_whole, step_past, step_over, step_into}
 
 -- ---- instances that stand in order
 

@@ -11,7 +11,7 @@ use Rattle.hw_model.specs.Design.{Op, Module, instance_in}
 use Rattle.hw_model.specs.Hierarchy.{callee_symbols, called_by}
 use Rattle.inline_laws.specs.Inline.{moved_count, before_output}
 use Rattle.inline_laws.proofs.Inlining.{called_append}
-use Rattle.inline_pass.specs.Flattening.{inlined_at, inline_at, inline_from}
+use Rattle.inline_pass.specs.Flattening.{by_symbol, inlined_at, inline_at, inline_from}
 use Rattle.inline_pass.proofs.FlatteningParts.{called_inside, called_so_far, called_rest, length_rest}
 
 -- ---- one step
@@ -25,10 +25,6 @@ module _ (inner : Op → Option Module) (rest : ℕ → List Op → List Op) (i 
 
   pub step_into : (o : Op) (c : Module) → slice_get os i ≡ Some o → inner o ≡ Some c → inline_at inner rest i os ≡ rest (i + moved_count c) (inlined_at i o c os)
   step_into o c there some = rw (there, some) refl
-
--- the module that `look` gives for the symbol of which an operation is an instance
-abbrev pub by_symbol : (Name → Option Module) → Op → Option Module
-by_symbol look o = bind (instance_in o.kind) (λ (x : Instance). look x.symbol)
 
 -- ---- symbols of a body's parts
 

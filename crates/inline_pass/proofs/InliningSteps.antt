@@ -12,6 +12,9 @@ use Rattle.hw_model.specs.Sound.{body_of}
 use Rattle.hw_model.proofs.Gone.{called_In}
 use Rattle.hw_edits.specs.Laws.{with_body}
 use Rattle.hw_edits.proofs.Follows.{set_each}
+use Rattle.hw_edits.proofs.ResetsKept.{find_symbol}
+use Rattle.design_cycles.proofs.Callees.{found_at}
+use Rattle.op_verifier.proofs.Distinct.{distinct_symbols}
 use Rattle.linked_lists.specs.Ids.{times}
 use Rattle.linked_lists.proofs.IdLemmas.{contained_times, times_contained, times-append}
 use Rattle.ir_store.specs.declared.body.Body.{Body}
@@ -24,11 +27,10 @@ use Rattle.ir_store.proofs.BodyLemmas.{ids_once, index_ids}
 use Rattle.accepted_edits.specs.Keeps.{IsFit}
 use Rattle.pass_laws.proofs.Steps.{module_there}
 use Rattle.inline_laws.specs.Inline.{moved_count}
-use Rattle.inline_laws.proofs.WithoutWires.{set_twice}
 use Rattle.body_edits.specs.Views.{HasOp, body_ops, position_in}
 use Rattle.body_edits.proofs.Positions.{op_at_position}
-use Rattle.inline_pass.specs.Flattening.{inlined_at, inline_at, inline_from, inline_all, private_callee}
-use Rattle.inline_pass.specs.Inlinable.{IsInlinable, IsStep, IsStepAt, private_module}
+use Rattle.inline_pass.specs.Flattening.{inlined_at, inline_at, inline_from, inline_all, if_private, by_kind, by_symbol}
+use Rattle.inline_pass.specs.Inlinable.{IsInlinable, IsStep, IsStepAt}
 use Rattle.inline_pass.proofs.IdLists.{once_before, times_self, position_back, position_self, parted, middle_found}
 use Rattle.inline_pass.proofs.InliningValues.{numbers}
 use Rattle.inline_pass.proofs.InliningOps.{take_front, drop_front}
@@ -36,15 +38,7 @@ use Rattle.inline_pass.proofs.InlinedFit.{is_inlined, fit_inlined}
 
 -- ---- the module of an instance
 
-pub private_by_kind : (d : Design) (o : Op) → private_callee d o ≡ private_module d o.kind
-private_by_kind d o = go (instance_in o.kind)
-  where
-    go : (z : Option Instance) → bind (bind z (λ (i : Instance). find_module d i.symbol)) (λ (c : Module). cond c.is_private (Some c) None)
-        ≡ bind z (λ (i : Instance). bind (find_module d i.symbol) (λ (c : Module). cond c.is_private (Some c) None))
-    go None = refl
-    go (Some i) = refl
-
-private_is : (x : Option Module) (c : Module) → bind x (λ (y : Module). cond y.is_private (Some y) None) ≡ Some c → x ≡ Some c
+pub private_is : (x : Option Module) (c : Module) → bind x if_private ≡ Some c → x ≡ Some c
 private_is None c is = cc
 private_is (Some y) c is = go y.is_private is
   where
@@ -52,29 +46,36 @@ private_is (Some y) c is = go y.is_private is
     go true e = e
     go false e = cc
 
--- a module that an operation of a body instances does not depend on that body
-callee_there : (d : Design) → IsFit d → (k : ℕ) (m : Module) (at : slice_get d k ≡ Some m) (o : Op) (c : Module) → In o m.body → private_module (with_body d k m []) o.kind ≡ Some c → callee d o ≡ Some c
-callee_there d fit k m at o c among is = go (instance_in o.kind) refl is
-  where
-    found : (s : Name) → In s (callee_symbols m.body) → find_module (with_body d k m []) s ≡ find_module d s
-    found s here =
-        set_each (λ old new. (old ≡ Some m → ⊥) → new ≡ old) (λ old apart. refl) d k m (record m { body = [] }) at refl (λ apart. absurd (apart refl)) s
-        (λ itself. fit.valid.finite s (0, (s, subst (λ z. In s (callee_symbols (body_of z))) (sym itself) here, refl)))
+module _ (d : Design) (fit : IsFit d) (k : ℕ) (m : Module) (at : slice_get d k ≡ Some m) where
+  -- no body instances its own module
+  not_itself : (s : Name) → In s (callee_symbols m.body) → s ≡ m.symbol → ⊥
+  not_itself s here same =
+      let own : find_module d m.symbol ≡ Some m = (found_at d (distinct_symbols d fit.unrefused) k m at).1 in
+      let itself : find_module d s ≡ Some m = ap (find_module d) same ∙ own in
+      fit.valid.finite s (0, (s, subst (λ z. In s (callee_symbols (body_of z))) (sym itself) here, refl))
 
-    go : (z : Option Instance) → instance_in o.kind ≡ z → bind z (λ (i : Instance). bind (find_module (with_body d k m []) i.symbol) (λ (y : Module). cond y.is_private (Some y) None)) ≡ Some c
-        → bind z (λ (i : Instance). find_module d i.symbol) ≡ Some c
-    go None own e = cc
-    go (Some i) own e = sym (found i.symbol (called_In m.body o i among own)) ∙ private_is (find_module (with_body d k m []) i.symbol) c e
+  callee_there : (look : Name → Option Module) → ((s : Name) (c : Module) → (s ≡ m.symbol → ⊥) → look s ≡ Some c → find_module d s ≡ Some c) → (o : Op) (c : Module) → In o m.body → by_symbol look o ≡ Some c → callee d o ≡ Some c
+  callee_there look found o c among is = go (instance_in o.kind) refl is
+    where
+      go : (z : Option Instance) → instance_in o.kind ≡ z → bind z (λ (i : Instance). look i.symbol) ≡ Some c → bind z (λ (i : Instance). find_module d i.symbol) ≡ Some c
+      go None own e = cc
+      go (Some i) own e = found i.symbol c (not_itself i.symbol (called_In m.body o i among own)) e
+
+  -- another module is found where the body is another one
+  other_there : (os : List Op) (s : Name) → (s ≡ m.symbol → ⊥) → find_module (with_body d k m os) s ≡ find_module d s
+  other_there os s apart =
+      set_each (λ old new. (old ≡ Some m → ⊥) → new ≡ old) (λ old away. refl) d k m (record m { body = os }) at refl (λ away. absurd (away refl)) s
+      (λ itself. apart (sym (find_symbol d s m itself)))
 
 -- ---- one step
 
 -- the body can be worked on still
-pub still_inlinable : (b b' : Body) (d : Design) (i : ℕ) (o : Op) (c : Module) → IsInlinable b d → slice_get (body_ops b) i ≡ Some o → private_module d o.kind ≡ Some c
-    → body_ops b' ≡ inlined_at i o c (body_ops b) → IsInlinable b' d
-still_inlinable b b' d i o c can there is ops =
+pub still_inlinable : (b b' : Body) (look : Name → Option Module) (i : ℕ) (o : Op) (c : Module) → IsInlinable b look → slice_get (body_ops b) i ≡ Some o → by_symbol look o ≡ Some c
+    → body_ops b' ≡ inlined_at i o c (body_ops b) → IsInlinable b' look
+still_inlinable b b' look i o c can there is ops =
     let of = can.of in
     let at : slice_get of.owner.body i ≡ Some o = ap (λ os. slice_get os i) of.is_body ∙ there in
-    let leads = callee_there of.design of.fit of.number of.owner of.there o c (In-slice_get o of.owner.body i at) (ap (λ e. private_module e o.kind) (sym can.taken) ∙ is) in
+    let leads = callee_there of.design of.fit of.number of.owner of.there look can.found o c (In-slice_get o of.owner.body i at) is in
     let fit = fit_inlined of.design of.number of.owner i o c of.fit of.there (is_inlined of.design of.number of.owner i o c of.fit of.there at leads) in
     let now : inlined_at i o c of.owner.body ≡ body_ops b' = ap (inlined_at i o c) of.is_body ∙ sym ops in
     record {
@@ -86,7 +87,7 @@ still_inlinable b b' d i o c can there is ops =
         there = module_there of.design of.number of.owner (body_ops b') of.there;
         is_body = refl;
       };
-      taken = can.taken ∙ sym (set_twice of.design of.number (record of.owner { body = body_ops b' }) (record of.owner { body = [] }));
+      found = λ s y apart got. other_there of.design of.fit of.number of.owner of.there (body_ops b') s apart ∙ can.found s y apart got;
     }
 
 -- ---- one step after another
@@ -160,9 +161,9 @@ unfolding body_ops position_in
 seen_there b op x found = op_at_position (op_by (position_of (ids_of b))) op.index (ops_of b) x found
 
 -- what its module is by its kind
-pub module_is : (b : Body) (op : OpId) (x : BodyOp) (d : Design) (y : Option Module) → op_at (ops_of b) op.index ≡ Some x → y ≡ private_module d x.parts.kind → (o : Op)
-    → slice_get (body_ops b) (position_in b op) ≡ Some o → private_callee d o ≡ y
-module_is b op x d y found is o there =
+pub module_is : (b : Body) (op : OpId) (x : BodyOp) (look : Name → Option Module) (y : Option Module) → op_at (ops_of b) op.index ≡ Some x → y ≡ by_kind look x.parts.kind → (o : Op)
+    → slice_get (body_ops b) (position_in b op) ≡ Some o → by_symbol look o ≡ y
+module_is b op x look y found is o there =
     let both : Some (op_by (position_of (ids_of b)) x) ≡ Some o = sym (seen_there b op x found) ∙ there in
     let same : op_by (position_of (ids_of b)) x ≡ o = cc in
-    private_by_kind d o ∙ ap (λ (z : Op). private_module d z.kind) (sym same) ∙ sym is
+    ap (λ (z : Op). by_kind look z.kind) (sym same) ∙ sym is

@@ -37,3 +37,5 @@ pub mod FlatteningProgress
 pub mod FlatteningLaw
 pub mod FlatteningOrder
 pub mod FlatteningBodies
+pub mod FlatteningOne
+pub mod Receiving

@@ -2,8 +2,8 @@
 use Rattle.std.specs.Prelude.{ℕ, zero, suc, ◌+◌, cond, List, [], map, length, Option, Some, None, slice_get}
 use Rattle.wiring.specs.Options.{bind, omap}
 use Rattle.hw_model.specs.Types.{Name}
-use Rattle.hw_model.specs.Kinds.{Instance}
-use Rattle.hw_model.specs.Design.{Op, Module, Design, instance_in, callee}
+use Rattle.hw_model.specs.Kinds.{Kind, Instance}
+use Rattle.hw_model.specs.Design.{Op, Module, Design, instance_in, find_module, callee}
 use Rattle.hw_model.specs.Flat.{depth}
 use Rattle.inline_laws.specs.Inline.{moved_count}
 use Rattle.inline_laws.specs.Unwire.{inline_without_wires}
@@ -46,6 +46,22 @@ inline_all inner os = inline_from inner (length os) 0 os
 -- the private module of which an operation is an instance
 abbrev pub private_callee : Design → Op → Option Module
 private_callee d o = bind (callee d o) (λ (c : Module). cond c.is_private (Some c) None)
+
+-- a module, if it is private
+abbrev pub if_private : Module → Option Module
+if_private c = cond c.is_private (Some c) None
+
+-- the private module of a symbol
+abbrev pub private_found : Design → Name → Option Module
+private_found d s = bind (find_module d s) if_private
+
+-- the module that `look` gives for the symbol of which an operation of a kind is an instance
+abbrev pub by_kind : (Name → Option Module) → Kind → Option Module
+by_kind look k = bind (instance_in k) (λ (i : Instance). look i.symbol)
+
+-- so for an operation
+abbrev pub by_symbol : (Name → Option Module) → Op → Option Module
+by_symbol look o = by_kind look o.kind
 
 -- a body in which no private module is instanced, down to a depth of instances
 abbrev pub flat_body : ℕ → Design → List Op → List Op

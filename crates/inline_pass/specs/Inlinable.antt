@@ -1,11 +1,9 @@
 -- Bodies of modules in which instances of private modules are inlined (CIRCT, HW dialect: `hw-flatten-modules`).
-use Rattle.std.specs.Prelude.{◌≡◌, ℕ, suc, cond, List, [], ◌++◌, length, take, drop, Option, Some, None, slice_get}
-use Rattle.wiring.specs.Options.{bind}
+use Rattle.std.specs.Prelude.{◌≡◌, ℕ, suc, List, [], ◌++◌, length, take, drop, Option, Some, None, slice_get}
 use Rattle.hw_model.specs.Types.{Name}
-use Rattle.hw_model.specs.Kinds.{Kind, Instance}
+use Rattle.hw_model.specs.Kinds.{Kind}
 use Rattle.hw_model.specs.Kinds.Kind.{instance}
-use Rattle.hw_model.specs.Design.{Op, Module, Design, instance_in, find_module}
-use Rattle.hw_edits.specs.Laws.{with_body}
+use Rattle.hw_model.specs.Design.{Op, Module, find_module}
 use Rattle.ir_store.specs.declared.body.Body.{Body}
 use Rattle.ir_store.specs.Bodies.{ids_of}
 use Rattle.inline_laws.specs.Inline.{moved_count}
@@ -13,14 +11,10 @@ use Rattle.body_edits.specs.FitBodies.{IsOfFit}
 use Rattle.body_edits.specs.Views.{body_ops}
 use Rattle.inline_pass.specs.Flattening.{inlined_at}
 
--- the body is that of a module of a fit design, out of which it was taken, so that the module has an empty one there
-pub record IsInlinable (b : Body) (d : Design) : Type 0 where
+-- the body is that of a module of a fit design, in which the modules that `look` gives for other symbols are found
+pub record IsInlinable (b : Body) (look : Name → Option Module) : Type 0 where
   pub of : IsOfFit b
-  pub taken : d ≡ with_body of.design of.number of.owner []
-
--- the private module of which an operation of a kind is an instance
-abbrev pub private_module : Design → Kind → Option Module
-private_module d k = bind (instance_in k) (λ (i : Instance). bind (find_module d i.symbol) (λ (c : Module). cond c.is_private (Some c) None))
+  pub found : (s : Name) (c : Module) → (s ≡ of.owner.symbol → ⊥) → look s ≡ Some c → find_module of.design s ≡ Some c
 
 -- the instance o of the module c at position i of the body before is inlined in the body after
 pub record IsInlinedAt (before after : Body) (i : ℕ) (o : Op) (c : Module) : Type 0 where

@@ -1,9 +1,12 @@
+pub mod Callees
 pub mod DeadModules
 pub mod FlatBodies
 pub mod Flattening
 pub mod Inlinable
 pub mod Marks
 pub mod MovedOps
+pub mod OneBody
 pub mod Places
+pub mod Received
 pub mod Renaming
 pub mod WiresOut

@@ -42,7 +42,7 @@ fn flatten_body(alloc: Global, design: &mut Design, number: u32) -> Result<(), A
     ensures { OnOk result (HasInlinedAt number (design_of design.old) (design_of design.new)) }
 {
     let mut body = design.take_body(number);
-    inline_into(alloc, &mut body, design)?;
+    inline_into(alloc, &mut body, &*design)?;
     design.put_body(number, body);
     Ok(())
 }

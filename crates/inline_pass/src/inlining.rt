@@ -2,60 +2,68 @@
 ghost use Rattle.std.specs.Prelude.{◌≡◌, option_map, OnOk, IfOk, IfSome};
 ghost use Rattle.hw_model.specs.KindViews.{kind_of};
 ghost use Rattle.ir_store.specs.Bodies.{ops_of};
-ghost use Rattle.ir_store.specs.Designs.{design_of, module_of, numbered_module, ports_in};
+ghost use Rattle.ir_store.specs.Designs.{ports_in};
 ghost use Rattle.ir_store.specs.BodyOps.{op_at};
 ghost use Rattle.body_edits.specs.FitBodies.{IsOfFit};
 ghost use Rattle.body_edits.specs.Views.{HasOp, body_ops, position_in};
-ghost use Rattle.inline_pass.specs.Flattening.{inline_all, private_callee};
-ghost use Rattle.inline_pass.specs.Inlinable.{IsInlinable, IsStepAt, AreInlined, private_module, own_name};
+ghost use Rattle.inline_pass.specs.Callees.{callee_seen};
+ghost use Rattle.inline_pass.specs.Flattening.{inline_all, by_kind, by_symbol};
+ghost use Rattle.inline_pass.specs.Inlinable.{IsInlinable, IsStepAt, AreInlined, own_name};
 ghost use Rattle.inline_pass.specs.MovedOps.{ArePutBefore};
 
 use crate::body_changes::{move_operands, put_all_before, replace_results, take_wires_out};
+use crate::callees::{Callee, Callees};
 use crate::moved_ops::{Places, moved_ops, values_joined, wires_for};
 use hw_model::kinds::OpKind;
 use ir_store::body::Body;
-use ir_store::design::{Design, Module};
 use ir_store::operation::OpId;
 use ir_store::position_table::{ids_in, positions_of};
 use std::alloc::{AllocError, Global};
 
-/// Has each instance in a body of a private module of the design become that module's body, in its place, with the names
-/// of what has one after the instance's own (CIRCT, HW dialect: `hw-flatten-modules`). The body is that of a module of the
-/// design, which has an empty one meanwhile. On an error, which comes when out of memory, the body is as it then was. Linear in
-/// the body, in what is put in, and in the uses of the results of the instances.
-pub fn inline_into(alloc: Global, body: &mut Body, design: &Design) -> Result<(), AllocError>
-    requires { IsInlinable body.old (design_of design.now) }
-    ensures { OnOk result (body_ops body.new ≡ inline_all (private_callee (design_of design.now)) (body_ops body.old)) }
+/// Has each instance in a body of a module that is found among the callees become that module's body, in its place, with the
+/// names of what has one after the instance's own (CIRCT, HW dialect: `hw-flatten-modules`). On an error, which comes when out
+/// of memory, the body is as it then was. Linear in the body, in what is put in, and in the uses of the results of the instances.
+pub fn inline_into<C: Callees>(
+    alloc: Global,
+    body: &mut Body,
+    callees: &C,
+) -> Result<(), AllocError>
+    requires { IsInlinable body.old (C.look callees.now) }
+    ensures { OnOk result (body_ops body.new ≡ inline_all (by_symbol (C.look callees.now)) (body_ops body.old)) }
 {
     let ids = ids_in(alloc, body)?;
     for id in ids.as_slice() {
-        inline_op(alloc, body, *id, design)?;
+        inline_op(alloc, body, *id, callees)?;
     }
     Ok(())
 }
 
-/// Inlines an operation of the body if it is an instance of a private module.
-fn inline_op(alloc: Global, body: &mut Body, op: OpId, design: &Design) -> Result<(), AllocError>
-    requires inlinable { IsInlinable body.old (design_of design.now) }
+/// Inlines an operation of the body if it is an instance of a callee.
+fn inline_op<C: Callees>(
+    alloc: Global,
+    body: &mut Body,
+    op: OpId,
+    callees: &C,
+) -> Result<(), AllocError>
+    requires inlinable { IsInlinable body.old (C.look callees.now) }
     requires live { HasOp body.old op }
-    ensures inlinable { OnOk result (IsInlinable body.new (design_of design.now)) }
-    ensures step { OnOk result (IsStepAt (private_callee (design_of design.now)) body.old body.new (position_in body.old op)) }
+    ensures inlinable { OnOk result (IsInlinable body.new (C.look callees.now)) }
+    ensures step { OnOk result (IsStepAt (by_symbol (C.look callees.now)) body.old body.new (position_in body.old op)) }
 {
-    match private_callee(design, body.op(op).kind) {
+    match callee_of(callees, body.op(op).kind) {
         Some(callee) => inline_instance(alloc, body, op, callee),
         None => Ok(()),
     }
 }
 
-/// The private module of which an operation of a kind is an instance.
-fn private_callee<'d>(design: &'d Design, kind: &OpKind) -> Option<&'d Module>
-    ensures { option_map (λ m. numbered_module (module_of m.now)) result ≡ private_module (design_of design.now) (kind_of kind.now) }
+/// The callee of which an operation of a kind is an instance.
+fn callee_of<'c, C: Callees>(callees: &'c C, kind: &OpKind) -> Option<Callee<'c>>
+    ensures { option_map callee_seen result ≡ by_kind (C.look callees.now) (kind_of kind.now) }
 {
     let OpKind::Instance(instance) = kind else {
         return None;
     };
-    let callee = design.module(design.find(instance.symbol.as_bytes())?);
-    if callee.private { Some(callee) } else { None }
+    callees.callee(instance.symbol.as_bytes())
 }
 
 /// Inlines an instance of a module.
@@ -63,11 +71,11 @@ fn inline_instance(
     alloc: Global,
     body: &mut Body,
     op: OpId,
-    callee: &Module,
+    callee: Callee<'_>,
 ) -> Result<(), AllocError>
     requires fit { IsOfFit body.old }
     requires live { HasOp body.old op }
-    ensures { OnOk result (AreInlined (numbered_module (module_of callee.now)) body.old body.new (position_in body.old op)) }
+    ensures { OnOk result (AreInlined (callee_seen callee.entry) body.old body.new (position_in body.old op)) }
 {
     let wires = put_inlined(alloc, body, op, callee)?;
     replace_results(body, op, wires.as_slice());
@@ -82,14 +90,14 @@ fn put_inlined(
     alloc: Global,
     body: &mut Body,
     op: OpId,
-    callee: &Module,
+    callee: Callee<'_>,
 ) -> Result<Vec<OpId>, AllocError>
     requires { HasOp body.old op }
-    ensures { IfOk result (λ wires. IfSome (op_at (ops_of body.old) op.index) (λ o. ArePutBefore (own_name o.parts.kind) (ports_in callee.now.ports) (ops_of callee.now.body) o (ops_of body.old) (ops_of body.new) wires.items)) }
+    ensures { IfOk result (λ wires. IfSome (op_at (ops_of body.old) op.index) (λ o. ArePutBefore (own_name o.parts.kind) (ports_in callee.entry.header.now.ports) (ops_of callee.entry.body.now) o (ops_of body.old) (ops_of body.new) wires.items)) }
 {
     let instance = body.op(op);
-    let moved = moved_ops(alloc, own_name(instance.kind), &callee.body)?;
-    let joined = values_joined(alloc, &callee.ports, instance.operands)?;
+    let moved = moved_ops(alloc, own_name(instance.kind), callee.body)?;
+    let joined = values_joined(alloc, &callee.header.ports, instance.operands)?;
     let given = moved.given.as_slice();
     let wires = wires_for(alloc, instance.results, given, instance.place)?;
     let positions = positions_of(alloc, moved.ids.as_slice())?;

@@ -1,5 +1,6 @@
 pub mod ChangedBodies
 pub mod AllBodies
 pub mod CalleeLists
+pub mod FlatBodies
 pub mod Results
 pub mod CanonicalAgain

@@ -1,9 +1,11 @@
 //! The work of a pass on the bodies of a design.
+ghost use Rattle.std.specs.Prelude.{◌≡◌, None, IfOk};
+ghost use Rattle.pass_manager.specs.Works.{IsFirst, IsMade};
 
 use crate::body_pass::BodyPass;
 use crate::gate::Gate;
 use ir_store::body::Body;
-use shared_schedule::{Pieces, Work};
+use shared_schedule::{Pieces, Plan, Work};
 use std::alloc::{AllocError, Global};
 use std::marker::PhantomData;
 use std::snapshot::Snapshot;
@@ -17,10 +19,12 @@ pub(crate) struct Bodies<P> {
 }
 
 impl<P: BodyPass> Pieces for Bodies<P> {
-    ghost use Rattle.std.specs.Prelude.{◌≡◌, None};
+    ghost use Rattle.std.specs.Prelude.{◌≡◌, None, ⊤};
     ghost use Rattle.pass_manager.specs.Works.{IsFirst, IsMade};
 
     type Body = Body;
+
+    ghost lists = { λ _ _. ⊤ };
 
     ghost first = { λ pieces m body. IsFirst pieces.before.value.items m body };
 
@@ -39,13 +43,29 @@ impl<P: BodyPass, G: Gate> Work<Bodies<P>> for BodyWork<'_, G> {
     fn work(
         &self,
         alloc: Global,
-        _pieces: &Bodies<P>,
+        plan: &Plan<Bodies<P>>,
         m: u32,
         body: Body,
-    ) -> Result<Body, AllocError> {
+        _received: Vec<Option<Body>>,
+    ) -> Result<Body, AllocError>
+        requires first { IsFirst plan.now.pieces.before.value.items m body }
+        ensures { IfOk result (λ b. IsMade P.makes plan.now.pieces.before.value.items m b) }
+    {
         self.gate.enter(m);
         let mut body = body;
         P::run(alloc, &mut body)?;
         Ok(body)
+    }
+
+    fn copy(
+        &self,
+        _alloc: Global,
+        _plan: &Plan<Bodies<P>>,
+        _m: u32,
+        _body: &Body,
+    ) -> Result<Option<Body>, AllocError>
+        ensures { IfOk result (λ copy. copy ≡ None) }
+    {
+        Ok(None)
     }
 }

@@ -2,6 +2,7 @@
 ghost use Rattle.std.specs.Prelude.{◌≡◌, length, map, IfOk};
 ghost use Rattle.sched_core.specs.Runs.{AreCallees};
 ghost use Rattle.ir_store.specs.Designs.{design_of, modules_of};
+ghost use Rattle.design_cycles.specs.Calls.{call_lists};
 ghost use Rattle.accepted_edits.specs.Keeps.{IsFit};
 
 use design_cycles::call_graph;
@@ -12,6 +13,7 @@ use std::alloc::{AllocError, Global};
 pub(crate) fn callee_lists(alloc: Global, design: &Design) -> Result<Vec<Vec<u32>>, AllocError>
     requires { IsFit (design_of design.now) }
     ensures are { IfOk result (λ lists. AreCallees (map (λ row. row.items) lists.items)) }
+    ensures lists { IfOk result (λ lists. map (λ row. row.items) lists.items ≡ call_lists (design_of design.now)) }
     ensures count { IfOk result (λ lists. length lists.items ≡ length (modules_of design.now)) }
 {
     let graph = call_graph(alloc, design)?;

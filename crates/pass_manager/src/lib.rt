@@ -5,8 +5,11 @@ mod bodies;
 pub mod body_pass;
 mod body_work;
 mod callees;
+mod flat_work;
+mod flattening;
 pub mod gate;
 mod laws;
+mod owners;
 pub mod run;
 
 pub use laws::{passes_keep, result_once, results_follow};

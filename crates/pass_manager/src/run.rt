@@ -9,10 +9,10 @@ use crate::bodies::{put_bodies, take_bodies};
 use crate::body_pass::{BodyPass, CanonicalForm, CommonSubexpressions, LoweredRegisters};
 use crate::body_work::{Bodies, BodyWork};
 use crate::callees::callee_lists;
+use crate::flattening::flatten_modules;
 use crate::gate::Gate;
 use aggregate_lower::lowering::lower_aggregates;
 use inline_pass::dead_modules::symbol_dce;
-use inline_pass::flattening::flatten_modules;
 use ir_store::design::Design;
 use op_verifier::Verified;
 use pass_pipeline::pass::Pass;
@@ -25,8 +25,9 @@ use std::thread::Threads;
 
 /// What the passes of a pipeline make of a design of which nothing is refused, one pass after another, for any number of
 /// workers, 1 to 64. A pass on bodies works each module by itself after those that it instances, on whichever worker comes to
-/// it; passes on modules work on the caller alone. `gate` is told of each module before a pass works on its body. The error
-/// comes only when out of memory, and the design is dropped then.
+/// it, and `hw-flatten-modules` with the finished bodies of these; private modules go on the caller alone, and so do aggregates.
+/// `gate` is told of each module before a pass works on its body. The error comes only when out of memory, and the design is
+/// dropped then.
 pub fn run_pipeline<R: Threads + Sync, G: Gate + Sync>(
     rt: &R,
     alloc: Global,
@@ -78,7 +79,7 @@ fn run_pass<R: Threads + Sync, G: Gate + Sync>(
         Pass::SeqLowerRegs => change_bodies::<R, LoweredRegisters, G>(
             rt, alloc, design, workers, gate,
         ),
-        Pass::HwFlattenModules => flatten_modules(alloc, design),
+        Pass::HwFlattenModules => flatten_modules(rt, alloc, design, workers, gate),
         Pass::SymbolDce => symbol_dce(alloc, design),
         Pass::HwLowerAggregates => lower_aggregates(alloc, design),
     }

@@ -1,5 +1,5 @@
 //! Private modules that become parts of those that instance them.
-use canonicalize_tests::rows::{Row, UNCHANGED, first_other};
+use canonicalize_tests::rows::{Row, UNCHANGED, first_other, first_other_with};
 use std::test::Fail;
 
 const INSTANCES: [Row; 10] = [
@@ -191,5 +191,14 @@ fn what_is_flat_stays(rt: HostRuntime) -> Result<(), Fail> {
     let pipeline =
         "--pass-pipeline=builtin.module(hw-flatten-modules,symbol-dce,hw-flatten-modules)";
     assert_eq!(rt; first_other(&rt, pipeline, &INSTANCES)?, None);
+    Ok(())
+}
+
+#[test]
+fn any_number_of_workers_makes_the_same(rt: HostRuntime) -> Result<(), Fail> {
+    for workers in ["--workers=1", "--workers=2", "--workers=8", "--workers=64"] {
+        let flags = ["--hw-flatten-modules", workers];
+        assert_eq!(rt; first_other_with(&rt, &flags, &INSTANCES)?, None);
+    }
     Ok(())
 }

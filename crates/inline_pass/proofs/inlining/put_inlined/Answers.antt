@@ -19,16 +19,16 @@ use Rattle.inline_pass.proofs.inlining.put_inlined.Goals as goal
 pub positions_of-requires : goal.positions_of-requires
 positions_of-requires c =
     subst AreDistinct (ap (map (λ (i : OpId). i.index)) (sym c.as_slice.ensures.value))
-    (moved_distinct c.own_name.result.now (ops_of c.args.callee.now.body) c.in_ok-moved.moved.ids.items c.in_ok-moved.moved.copies.items c.in_ok-moved.moved.given.items c.in_ok-moved.ensures
-    (ids_once c.args.callee.now.body))
+    (moved_distinct c.own_name.result.now (ops_of c.args.callee.body.now) c.in_ok-moved.moved.ids.items c.in_ok-moved.moved.copies.items c.in_ok-moved.moved.given.items c.in_ok-moved.ensures
+    (ids_once c.args.callee.body.now))
 
 pub put_all_before-requires-2 : goal.put_all_before-requires-2
 put_all_before-requires-2 c = put_stays c.args.op.index c.args.op.index _ (ops_of c.args.body.now) (ops_of c.put_all_before.new.body) c.in_ok-wires-2.ensures.put c.requires
 
 pub move_operands-requires-clause-places : goal.move_operands-requires-clause-places
 move_operands-requires-clause-places c =
-    places_told (record { joined = c.as_slice-2.result; ids = c.as_slice-3.result; positions = c.as_slice-4.result; copies = c.as_slice-5.result }) c.own_name.result.now (ops_of c.args.callee.now.body) c.in_ok-moved.moved.ids.items c.in_ok-copies.copies.items c.in_ok-moved.moved.copies.items
-    c.in_ok-moved.moved.given.items c.in_ok-positions.positions.items c.in_ok-moved.ensures (ids_once c.args.callee.now.body)
+    places_told (record { joined = c.as_slice-2.result; ids = c.as_slice-3.result; positions = c.as_slice-4.result; copies = c.as_slice-5.result }) c.own_name.result.now (ops_of c.args.callee.body.now) c.in_ok-moved.moved.ids.items c.in_ok-copies.copies.items c.in_ok-moved.moved.copies.items
+    c.in_ok-moved.moved.given.items c.in_ok-positions.positions.items c.in_ok-moved.ensures (ids_once c.args.callee.body.now)
     (subst (λ (is : List OpId). ArePositions (map (λ (i : OpId). i.index) is) c.in_ok-positions.positions.items) c.as_slice.ensures.value c.in_ok-positions.ensures) c.in_ok-copies.ensures.many
     c.as_slice-3.ensures.value c.as_slice-4.ensures.value c.as_slice-5.ensures.value
 
@@ -41,8 +41,8 @@ move_operands-requires-clause-live c =
 
 pub move_operands-requires-2-clause-places : goal.move_operands-requires-2-clause-places
 move_operands-requires-2-clause-places c =
-    places_told (record { joined = c.as_slice-2.result; ids = c.as_slice-3.result; positions = c.as_slice-4.result; copies = c.as_slice-5.result }) c.own_name.result.now (ops_of c.args.callee.now.body) c.in_ok-moved.moved.ids.items c.in_ok-copies.copies.items c.in_ok-moved.moved.copies.items
-    c.in_ok-moved.moved.given.items c.in_ok-positions.positions.items c.in_ok-moved.ensures (ids_once c.args.callee.now.body)
+    places_told (record { joined = c.as_slice-2.result; ids = c.as_slice-3.result; positions = c.as_slice-4.result; copies = c.as_slice-5.result }) c.own_name.result.now (ops_of c.args.callee.body.now) c.in_ok-moved.moved.ids.items c.in_ok-copies.copies.items c.in_ok-moved.moved.copies.items
+    c.in_ok-moved.moved.given.items c.in_ok-positions.positions.items c.in_ok-moved.ensures (ids_once c.args.callee.body.now)
     (subst (λ (is : List OpId). ArePositions (map (λ (i : OpId). i.index) is) c.in_ok-positions.positions.items) c.as_slice.ensures.value c.in_ok-positions.ensures) c.in_ok-copies.ensures.many
     c.as_slice-3.ensures.value c.as_slice-4.ensures.value c.as_slice-5.ensures.value
 
@@ -64,14 +64,14 @@ returns c =
     let there : value_there places ≡ moved_value joined numbers c.in_ok-copies.copies.items =
     ap (λ (vs : List Value). moved_value vs (map (λ (i : OpId). i.index) c.as_slice-3.result.now) c.as_slice-5.result.now) c.as_slice-2.ensures.value
     ∙ ap₂ (λ (is js : List OpId). moved_value joined (map (λ (i : OpId). i.index) is) js) c.as_slice-3.ensures.value c.as_slice-5.ensures.value in
-    let put = are_put_before c.own_name.result.now (ports_in c.args.callee.now.ports) (ops_of c.args.callee.now.body) o (ops_of c.args.body.now) (ops_of c.put_all_before.new.body)
+    let put = are_put_before c.own_name.result.now (ports_in c.args.callee.header.now.ports) (ops_of c.args.callee.body.now) o (ops_of c.args.body.now) (ops_of c.put_all_before.new.body)
     (ops_of c.put_all_before-2.new.body) (ops_of c.move_operands.new.body) (ops_of c.move_operands-2.new.body) c.in_ok-wires-2.wires.items c.in_ok-copies.copies.items
     c.in_ok-moved.moved.ids.items c.in_ok-moved.moved.copies.items c.in_ok-wires.wires.items c.in_ok-moved.moved.given.items joined (value_there places) c.in_ok-moved.ensures
     (c.in_ok-wires.ensures ∙ ap (wires_of o.parts.place o.parts.results) c.as_slice-given.ensures.value) c.in_ok-wires-2.ensures.many c.in_ok-wires-2.ensures.few c.in_ok-copies.ensures.many
     c.in_ok-wires-2.ensures.put c.in_ok-copies.ensures.put there c.in_ok-joined.ensures
     (c.in_ok-move_operands.ensures ∙ ap (λ (ids : List OpId). operands_moved (value_there places) ids (ops_of c.put_all_before-2.new.body)) c.as_slice-6.ensures.value)
     (c.in_ok-move_operands-2.ensures ∙ ap (λ (ids : List OpId). operands_moved (value_there places) ids (ops_of c.move_operands.new.body)) c.as_slice-7.ensures.value) in
-    subst (λ (x : Option BodyOp). IfSome x (λ (y : BodyOp). ArePutBefore (own_name y.parts.kind) (ports_in c.args.callee.now.ports) (ops_of c.args.callee.now.body) y (ops_of c.args.body.now)
+    subst (λ (x : Option BodyOp). IfSome x (λ (y : BodyOp). ArePutBefore (own_name y.parts.kind) (ports_in c.args.callee.header.now.ports) (ops_of c.args.callee.body.now) y (ops_of c.args.body.now)
     (ops_of c.move_operands-2.new.body) c.in_ok-wires-2.wires.items)) (sym c.op-instance.ensures)
-    (subst (λ u. ArePutBefore u (ports_in c.args.callee.now.ports) (ops_of c.args.callee.now.body) o (ops_of c.args.body.now) (ops_of c.move_operands-2.new.body) c.in_ok-wires-2.wires.items)
+    (subst (λ u. ArePutBefore u (ports_in c.args.callee.header.now.ports) (ops_of c.args.callee.body.now) o (ops_of c.args.body.now) (ops_of c.move_operands-2.new.body) c.in_ok-wires-2.wires.items)
     c.own_name.ensures put)

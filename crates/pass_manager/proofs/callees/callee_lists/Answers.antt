@@ -37,3 +37,9 @@ returns-clause-count c =
     (sym (append-nil (map (λ row. row.items) c.loop-list.lists.items))
     ∙ ap (λ xs. map (λ row. row.items) c.loop-list.lists.items ++ lists_of xs) (sym (nil_from_length c.loop-list.list-iterator.rest.items (sym c.loop-list.invariant.left ∙ c.in-None.ensures.steps.0)))
     ∙ c.loop-list.invariant.passed)
+
+pub returns-clause-lists : goal.returns-clause-lists
+returns-clause-lists c =
+    sym (append-nil (map (λ row. row.items) c.loop-list.lists.items))
+    ∙ ap (λ xs. map (λ row. row.items) c.loop-list.lists.items ++ lists_of xs) (sym (nil_from_length c.loop-list.list-iterator.rest.items (sym c.loop-list.invariant.left ∙ c.in-None.ensures.steps.0)))
+    ∙ c.loop-list.invariant.passed

@@ -1,5 +1,4 @@
 use Rattle.std.proofs.Common.{◌≡◌, map, sym, ap, subst, ◌∙◌}
-use Rattle.hw_model.specs.Design.{Design}
 use Rattle.ir_store.specs.Designs.{design_of, numbered_module}
 use Rattle.accepted_edits.specs.Keeps.{IsFit}
 use Rattle.accepted_edits.proofs.Accepted.{accepted_fit}
