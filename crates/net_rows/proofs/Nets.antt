@@ -3,6 +3,7 @@ use Rattle.std.proofs.Common.{◌≡◌, refl, sym, ap, subst, ◌∙◌, ℕ, �
 use Rattle.wiring.specs.Wiring.{In}
 use Rattle.bits_core.specs.Word.{Word, first}
 use Rattle.gates.specs.declared.signal.Signal.{Signal}
+use Rattle.gates.specs.Build.{Build}
 use Rattle.gates.proofs.Carrying.{Carrying, Makes, makes-done, makes_then}
 use Rattle.gate_words.proofs.Words.CarriesWord.{none}
 use Rattle.gate_words.proofs.Words.{CarriesWord, IsWord, word_later, word_same}
@@ -13,10 +14,11 @@ use Rattle.hw_model.specs.Equality.{name_self, name_from, number_self, number_fr
 use Rattle.hw_model.specs.Flat.{Net, net, Source, source}
 use Rattle.hw_model.specs.Flat.Source.{nowhere, input, held, copy, op_result}
 use Rattle.hw_model.specs.Meaning.{needs, needs_of, value_of, Settled, outputs, outputs_of}
+use Rattle.miter_rows.specs.OperationRows.{concatenation}
 use Rattle.miter_rows.proofs.WordLists.CarriesWords.{no_words, one_more}
 use Rattle.miter_rows.proofs.WordLists.{CarriesWords, word-joined}
 use Rattle.miter_rows.proofs.KindRows.{makes-row}
-use Rattle.net_rows.specs.NetRows.{variables, same_ref, same_net, with_net, source_row, nets_row, module_row}
+use Rattle.net_rows.specs.NetRows.{variables, same_ref, same_net, with_net, source_row, nets_by, nets_row, module_row}
 use Rattle.net_rows.specs.NetOrder.{NeedsComeFirst, seen_after, HasRow, HaveRows, OutputsAreAmong}
 use Rattle.net_rows.specs.NetPrices.{source_price, nets_price}
 use Rattle.net_rows.proofs.InputWords.{CarriesInputs, first_inputs, drop_inputs}
@@ -52,20 +54,55 @@ net_from a b h =
     let f : a.ref ≡ b.ref = ref_from a.ref b.ref p.1 in
     ap (λ q. net q a.ref) e ∙ ap (net b.path) f
 
-module _ {total : ℕ} (c : Carrying total) (d : Design) (top : Name) (inputs content : Word) (ρ : Net → Word)
-    (size : length (inputs ++ content) ≡ total) (settled : Settled d top inputs content ρ) (given : CarriesInputs total c (inputs ++ content)) where
-  -- the signals of each net that was seen carry its word
-  abbrev pub HaveWords : List Net → ℕ → (Net → List Signal) → Type 0
-  HaveWords seen k signals = (a : Net) → In a seen → CarriesWord c k (ρ a) (signals a)
+-- ---- what was seen
 
+-- it stays so
+pub seen_stays : (ns seen : List Net) (a : Net) → In a seen → In a (seen_after seen ns)
+seen_stays [] seen a here = here
+seen_stays (n ∷ ns) seen a here = seen_stays ns (n ∷ seen) a (inr here)
+
+pub is_seen : (ns seen : List Net) (a : Net) → In a ns → In a (seen_after seen ns)
+is_seen [] seen a here = absurd here
+is_seen (n ∷ ns) seen a (inl e) = seen_stays ns (n ∷ seen) a (inl e)
+is_seen (n ∷ ns) seen a (inr here) = is_seen ns (n ∷ seen) a here
+
+-- ---- the nets of a module
+
+-- the signals of each net that was seen carry its word
+abbrev pub HaveWords : {total : ℕ} → Carrying total → (Net → Word) → List Net → ℕ → (Net → List Signal) → Type 0
+HaveWords c ρ seen k signals = (a : Net) → In a seen → CarriesWord c k (ρ a) (signals a)
+
+module _ {total : ℕ} (c : Carrying total) (ρ : Net → Word) where
   words_of : (k : ℕ) (signals : Net → List Signal) (ns : List Net) → ((b : Net) → In b ns → CarriesWord c k (ρ b) (signals b))
       → CarriesWords c k (map ρ ns) (map signals ns)
   words_of k signals [] have = no_words
   words_of k signals (n ∷ ns) have = one_more _ _ _ _ (have n (inl refl)) (words_of k signals ns (λ b here. have b (inr here)))
 
-  makes-source : (s : Source) (k : ℕ) (signals : Net → List Signal) → total ≤ k → HasRow (length inputs) (length content) ρ s
-      → ((b : Net) → In b (needs_of s) → CarriesWord c k (ρ b) (signals b))
-      → Makes c (source_row (length inputs) s (map signals (needs_of s))) k (source_price ρ s) (IsWord c (value_of inputs content s (map ρ (needs_of s))))
+  -- the signals of one more net
+  have_more : (n : Net) (seen : List Net) (k j : ℕ) (signals : Net → List Signal) (x : List Signal) → k ≤ j → HaveWords c ρ seen k signals → CarriesWord c j (ρ n) x
+      → HaveWords c ρ (n ∷ seen) j (with_net n x signals)
+  have_more n seen k j signals x l have is a (inl e) =
+      subst (λ b. CarriesWord c j (ρ a) (cond b x (signals a))) (sym (ap (λ z. same_net z n) e ∙ net_self n)) (subst (λ z. CarriesWord c j (ρ z) x) (sym e) is)
+  have_more n seen k j signals x l have is a (inr there) = go (same_net a n) refl
+    where
+      go : (b : Bool) → same_net a n ≡ b → CarriesWord c j (ρ a) (cond b x (signals a))
+      go true e = subst (λ z. CarriesWord c j (ρ z) x) (sym (net_from a n e)) is
+      go false e = word_later c k j (ρ a) (signals a) l (have a there)
+
+  pub outputs_carried : (rs : List Ref) (k : ℕ) (signals : Net → List Signal) → ((r : Ref) → In r rs → CarriesWord c k (ρ (net [] r)) (signals (net [] r)))
+      → CarriesWords c k (map (λ r. ρ (net [] r)) rs) (map (λ r. signals (net [] r)) rs)
+  outputs_carried [] k signals have = no_words
+  outputs_carried (r ∷ rs) k signals have = one_more _ _ _ _ (have r (inl refl)) (outputs_carried rs k signals (λ s here. have s (inr here)))
+
+-- what a source builds carries its value, from so many variables on
+abbrev pub MakesSource : {total : ℕ} → Carrying total → ℕ → Word → Word → (Net → Word) → ℕ → ℕ → (Source → List (List Signal) → Build (List Signal)) → Type 0
+MakesSource c least inputs content ρ W S row =
+    (s : Source) (k : ℕ) (signals : Net → List Signal) → least ≤ k → HasRow W S ρ s → ((b : Net) → In b (needs_of s) → CarriesWord c k (ρ b) (signals b))
+    → Makes c (row s (map signals (needs_of s))) k (source_price ρ s) (IsWord c (value_of inputs content s (map ρ (needs_of s))))
+
+module _ {total : ℕ} (c : Carrying total) (inputs content : Word) (ρ : Net → Word)
+    (size : length (inputs ++ content) ≡ total) (given : CarriesInputs total c (inputs ++ content)) where
+  pub makes-source : MakesSource c total inputs content ρ (length inputs) (length content) (source_row (length inputs))
   makes-source nowhere k signals l row have = makes-done c [] k (IsWord c []) none
   makes-source (input start w) k signals l row have =
       let within : start + w ≤ length (inputs ++ content) = omega (arith, row, length-append inputs content) in
@@ -79,51 +116,36 @@ module _ {total : ℕ} (c : Carrying total) (d : Design) (top : Name) (inputs co
       (ap (first w) (drop_inputs start inputs content)) (given k (length inputs + start) w l within))
   makes-source (copy n) k signals l row have = makes-done c (signals n) k (IsWord c (ρ n)) (have n (inl refl))
   makes-source (op_result kind ts t i ns) k signals l row have =
-      makes-row c k kind ts t i (map ρ ns) (map signals ns) (words_of k signals ns have) row.0 row.1
+      makes-row c k kind ts t i (map ρ ns) (map signals ns) (words_of c ρ k signals ns have) row.0 row.1
 
-  -- the signals of one more net
-  have_more : (n : Net) (seen : List Net) (k j : ℕ) (signals : Net → List Signal) (x : List Signal) → k ≤ j → HaveWords seen k signals → CarriesWord c j (ρ n) x
-      → HaveWords (n ∷ seen) j (with_net n x signals)
-  have_more n seen k j signals x l have is a (inl e) =
-      subst (λ b. CarriesWord c j (ρ a) (cond b x (signals a))) (sym (ap (λ z. same_net z n) e ∙ net_self n)) (subst (λ z. CarriesWord c j (ρ z) x) (sym e) is)
-  have_more n seen k j signals x l have is a (inr there) = go (same_net a n) refl
-    where
-      go : (b : Bool) → same_net a n ≡ b → CarriesWord c j (ρ a) (cond b x (signals a))
-      go true e = subst (λ z. CarriesWord c j (ρ z) x) (sym (net_from a n e)) is
-      go false e = word_later c k j (ρ a) (signals a) l (have a there)
-
-  pub makes-nets : (ns seen : List Net) (k : ℕ) (signals : Net → List Signal) → total ≤ k → NeedsComeFirst d top seen ns
-      → HaveRows d top (length inputs) (length content) ρ ns → HaveWords seen k signals
-      → Makes c (nets_row (length inputs) d top ns signals) k (nets_price d top ρ ns) (HaveWords (seen_after seen ns))
-  unfolding nets_row
-  makes-nets [] seen k signals l order rows have = makes-done c signals k (HaveWords seen) have
+module _ {total : ℕ} (c : Carrying total) (d : Design) (top : Name) (inputs content : Word) (ρ : Net → Word) (settled : Settled d top inputs content ρ)
+    (least W S : ℕ) (row : Source → List (List Signal) → Build (List Signal)) (each : MakesSource c least inputs content ρ W S row) where
+  pub makes-nets : (ns seen : List Net) (k : ℕ) (signals : Net → List Signal) → least ≤ k → NeedsComeFirst d top seen ns
+      → HaveRows d top W S ρ ns → HaveWords c ρ seen k signals
+      → Makes c (nets_by row d top ns signals) k (nets_price d top ρ ns) (HaveWords c ρ (seen_after seen ns))
+  unfolding nets_by
+  makes-nets [] seen k signals l order rows have = makes-done c signals k (HaveWords c ρ seen) have
   makes-nets (n ∷ ns) seen k signals l order rows have =
       makes_then c _ _ k (source_price ρ (source d top n)) (nets_price d top ρ ns) (IsWord c (ρ n)) _
-      (subst (λ w. Makes c (source_row (length inputs) (source d top n) (map signals (needs d top n))) k (source_price ρ (source d top n)) (IsWord c w)) (sym (settled n))
-      (makes-source (source d top n) k signals l rows.0 (λ b here. have b (order.0 b here))))
-      (λ x j m is. makes-nets ns (n ∷ seen) j (with_net n x signals) (le_trans l m) order.1 rows.1 (have_more n seen k j signals x m have is))
+      (subst (λ w. Makes c (row (source d top n) (map signals (needs d top n))) k (source_price ρ (source d top n)) (IsWord c w)) (sym (settled n))
+      (each (source d top n) k signals l rows.0 (λ b here. have b (order.0 b here))))
+      (λ x j m is. makes-nets ns (n ∷ seen) j (with_net n x signals) (le_trans l m) order.1 rows.1 (have_more c ρ n seen k j signals x m have is))
 
-  -- what was seen stays so
-  seen_stays : (ns seen : List Net) (a : Net) → In a seen → In a (seen_after seen ns)
-  seen_stays [] seen a here = here
-  seen_stays (n ∷ ns) seen a here = seen_stays ns (n ∷ seen) a (inr here)
+-- the outputs carry their words, where the nets do
+pub word-outputs : {total : ℕ} (c : Carrying total) (d : Design) (top : Name) (ρ : Net → Word) (ns : List Net) (k : ℕ) (signals : Net → List Signal)
+    → OutputsAreAmong d top ns → HaveWords c ρ (seen_after [] ns) k signals
+    → CarriesWord c k (outputs d top ρ) (concatenation (map (λ r. signals (net [] r)) (outputs_of (find_module d top))))
+word-outputs c d top ρ ns k signals among have =
+    word-joined c k (map (λ r. ρ (net [] r)) (outputs_of (find_module d top))) (map (λ r. signals (net [] r)) (outputs_of (find_module d top)))
+    (outputs_carried c ρ (outputs_of (find_module d top)) k signals (λ r here. have (net [] r) (is_seen ns [] (net [] r) (among r here))))
 
-  is_seen : (ns seen : List Net) (a : Net) → In a ns → In a (seen_after seen ns)
-  is_seen [] seen a here = absurd here
-  is_seen (n ∷ ns) seen a (inl e) = seen_stays ns (n ∷ seen) a (inl e)
-  is_seen (n ∷ ns) seen a (inr here) = is_seen ns (n ∷ seen) a here
-
-  outputs_carried : (rs : List Ref) (k : ℕ) (signals : Net → List Signal) → ((r : Ref) → In r rs → CarriesWord c k (ρ (net [] r)) (signals (net [] r)))
-      → CarriesWords c k (map (λ r. ρ (net [] r)) rs) (map (λ r. signals (net [] r)) rs)
-  outputs_carried [] k signals have = no_words
-  outputs_carried (r ∷ rs) k signals have = one_more _ _ _ _ (have r (inl refl)) (outputs_carried rs k signals (λ s here. have s (inr here)))
-
-  pub makes-module : (ns : List Net) (k : ℕ) → total ≤ k → NeedsComeFirst d top [] ns → HaveRows d top (length inputs) (length content) ρ ns
-      → OutputsAreAmong d top ns → Makes c (module_row (length inputs) d top ns) k (nets_price d top ρ ns + 0) (IsWord c (outputs d top ρ))
-  unfolding module_row
-  makes-module ns k l order rows among =
-      makes_then c _ _ k (nets_price d top ρ ns) 0 (HaveWords (seen_after [] ns)) _
-      (makes-nets ns [] k (λ n. []) l order rows (λ a here. absurd here))
-      (λ signals j m have. makes-done c _ j (IsWord c (outputs d top ρ))
-      (word-joined c j (map (λ r. ρ (net [] r)) (outputs_of (find_module d top))) (map (λ r. signals (net [] r)) (outputs_of (find_module d top)))
-      (outputs_carried (outputs_of (find_module d top)) j signals (λ r here. have (net [] r) (is_seen ns [] (net [] r) (among r here))))))
+pub makes-module : {total : ℕ} (c : Carrying total) (d : Design) (top : Name) (inputs content : Word) (ρ : Net → Word)
+    → length (inputs ++ content) ≡ total → Settled d top inputs content ρ → CarriesInputs total c (inputs ++ content)
+    → (ns : List Net) (k : ℕ) → total ≤ k → NeedsComeFirst d top [] ns → HaveRows d top (length inputs) (length content) ρ ns
+    → OutputsAreAmong d top ns → Makes c (module_row (length inputs) d top ns) k (nets_price d top ρ ns + 0) (IsWord c (outputs d top ρ))
+unfolding module_row nets_row
+makes-module {total} c d top inputs content ρ size settled given ns k l order rows among =
+    makes_then c _ _ k (nets_price d top ρ ns) 0 (HaveWords c ρ (seen_after [] ns)) _
+    (makes-nets c d top inputs content ρ settled total (length inputs) (length content) (source_row (length inputs))
+    (makes-source c inputs content ρ size given) ns [] k (λ n. []) l order rows (λ a here. absurd here))
+    (λ signals j m have. makes-done c _ j (IsWord c (outputs d top ρ)) (word-outputs c d top ρ ns j signals among have))

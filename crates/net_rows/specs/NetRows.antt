@@ -47,11 +47,15 @@ source_row inputs (held start w) xs = done (variables (inputs + start) w)
 source_row inputs (copy n) xs = done (first_word xs)
 source_row inputs (op_result kind ts t k ns) xs = row_of kind (width t) xs
 
--- a list of nets, one after another
+-- a list of nets, one after another, each by what its source builds
+unfoldable pub nets_by : (Source → List (List Signal) → Build (List Signal)) → Design → Name → List Net → (Net → List Signal) → Build (Net → List Signal)
+nets_by row d top [] signals = done signals
+nets_by row d top (n ∷ ns) signals =
+    and_then (row (source d top n) (map signals (needs d top n))) (λ x. nets_by row d top ns (with_net n x signals))
+
+-- a list of nets, the content being variables
 unfoldable pub nets_row : ℕ → Design → Name → List Net → (Net → List Signal) → Build (Net → List Signal)
-nets_row inputs d top [] signals = done signals
-nets_row inputs d top (n ∷ ns) signals =
-    and_then (source_row inputs (source d top n) (map signals (needs d top n))) (λ x. nets_row inputs d top ns (with_net n x signals))
+nets_row inputs d top ns signals = nets_by (source_row inputs) d top ns signals
 
 -- the outputs of a module, in port order
 unfoldable pub module_row : ℕ → Design → Name → List Net → Build (List Signal)

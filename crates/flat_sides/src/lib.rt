@@ -1,0 +1,4 @@
+//! Flat modules with their nets in order.
+#![tactic(auto)]
+
+pub mod laws;
