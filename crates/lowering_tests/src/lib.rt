@@ -1,14 +1,11 @@
-//! Tests of aggregates that become their leaves: texts and what is made of them, and runs before and after.
+//! Tests of aggregates that become their leaves: texts and what is made of them.
 #![tactic(auto)]
 
 #[cfg(test)]
 mod bitcasts;
 #[cfg(test)]
 mod choices;
-#[cfg(test)]
-mod commands;
-#[cfg(test)]
-mod designs;
+pub mod commands;
 #[cfg(test)]
 mod exports;
 #[cfg(test)]
@@ -18,8 +15,6 @@ mod joins;
 #[cfg(test)]
 mod kept;
 #[cfg(test)]
-mod large;
-#[cfg(test)]
 mod leaf_names;
 #[cfg(test)]
 mod leafwise;
@@ -27,20 +22,6 @@ mod leafwise;
 mod registers;
 #[cfg(test)]
 mod rows;
-#[cfg(test)]
-mod run_bitcasts;
-#[cfg(test)]
-mod run_choices;
-#[cfg(test)]
-mod run_injects;
-#[cfg(test)]
-mod run_leaves;
-#[cfg(test)]
-mod run_registers;
-#[cfg(test)]
-mod run_slices;
-#[cfg(test)]
-mod runs;
 #[cfg(test)]
 mod slices;
 #[cfg(test)]

@@ -1,9 +1,9 @@
 //! Runs of a design before and after its aggregates become their leaves, and of its Verilog, step by step.
-use crate::commands::printed;
 use crate::designs::modules_of;
 use bits_core::Bits;
 use hw_interpreter::design::Setting;
 use hw_interpreter::machine;
+use lowering_tests::commands::printed;
 use operation_values::bit_string::BitString;
 use std::alloc::{AllocError, AllocGlobal, Global};
 use std::thread::Threads;

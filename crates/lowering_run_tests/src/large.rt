@@ -1,10 +1,10 @@
 //! Values at the limits: an array of 1,024 elements, and 4,096 bits as an array of the widest integers. The expected texts are put together
 //! leaf by leaf.
-use crate::commands::printed_within;
 use crate::designs::modules_of;
 use bits_core::Bits;
 use hw_interpreter::design::Setting;
 use hw_interpreter::machine;
+use lowering_tests::commands::printed_within;
 use operation_values::bit_string::BitString;
 use std::alloc::{AllocError, AllocGlobal, Global};
 use std::test::Fail;
