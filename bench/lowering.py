@@ -29,9 +29,9 @@ MODULE = """hw.module @M{number}(in %clk : !seq.clock, in %s : !hw.struct<x: i8,
   hw.output %1 : i8
 }}
 """
-ARRAY = """hw.module @A(in %a : !hw.array<1024xi8>, in %i : i10, out q : i8) {
-  %0 = hw.array_get %a[%i] : !hw.array<1024xi8>, i10
-  hw.output %0 : i8
+ARRAY = """hw.module @A(in %a : !hw.array<1024xi4>, in %i : i10, out q : i4) {
+  %0 = hw.array_get %a[%i] : !hw.array<1024xi4>, i10
+  hw.output %0 : i4
 }
 """
 

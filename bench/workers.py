@@ -7,8 +7,9 @@ The designs are
     modules    the 10,000 modules of reader_texts.py
     bodies     100 modules of 3,000 operations each, of which each third one folds
     line       1,000 modules of 300 such operations, each of which instances the one before it
-The commands are `opt` without passes (which no worker shares), `opt --canonicalize --cse`, and `translate --export-verilog` with these
-passes. Beside the medians stands the peak memory in MB.
+    pairs      1,000 public modules, each of which instances a private one of 300 such operations twice
+The commands are `opt` without passes (which no worker shares), `opt --canonicalize --cse`, `translate --export-verilog` with these
+passes, and on the last design `opt --hw-flatten-modules`. Beside the medians stands the peak memory in MB.
 """
 import os
 import pathlib
@@ -48,12 +49,23 @@ def line(count, write):
         body(f"M{number}", 300, last, write)
 
 
-TEXTS = {"modules": (reader_texts.many_modules, 10000), "bodies": (bodies, 100), "line": (line, 1000)}
+def pairs(count, write):
+    """So many public modules, each of which instances a private one of 300 operations twice."""
+    for number in range(count):
+        body(f"P{number}", 300, "", lambda text: write(text.replace("hw.module @", "hw.module private @")))
+        write(f"hw.module @M{number}(in %a : i32, in %b : i32, out o : i32) {{\n")
+        write(f'  %u.o = hw.instance "u" @P{number}(a: %a: i32, b: %b: i32) -> (o: i32)\n')
+        write(f'  %v.o = hw.instance "v" @P{number}(a: %u.o: i32, b: %b: i32) -> (o: i32)\n')
+        write("  hw.output %v.o : i32\n}\n")
+
+
+TEXTS = {"modules": (reader_texts.many_modules, 10000), "bodies": (bodies, 100), "line": (line, 1000), "pairs": (pairs, 1000)}
 COMMANDS = {
     "opt": ["opt"],
     "passes": ["opt", "--canonicalize", "--cse"],
     "verilog": ["translate", "--export-verilog", "--canonicalize", "--cse"],
 }
+FLATTEN = {"opt": ["opt"], "flatten": ["opt", "--hw-flatten-modules"]}
 WORKERS = [1, 2, 4]
 
 
@@ -74,7 +86,7 @@ def measure(program, name, rounds, folder):
     make, count = TEXTS[name]
     with open(text, "w") as file:
         make(count, file.write)
-    for command, words in COMMANDS.items():
+    for command, words in (FLATTEN if name == "pairs" else COMMANDS).items():
         told = [[] for _ in WORKERS]
         for _ in range(rounds):
             for number, workers in enumerate(WORKERS):
