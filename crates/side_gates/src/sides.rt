@@ -32,8 +32,8 @@ pub struct Sizes {
 
 /// The sizes of a flat module. 2^32 bits want more memory than there is.
 pub fn sizes_of(alloc: Global, module: &Module) -> Result<Sizes, AllocError>
-    ensures inputs { IfOk result (λ s. s.inputs ≡ input_width (ports_in module.now.ports)) }
-    ensures content { IfOk result (λ s. s.content ≡ content_width (ops_by_position (ops_of module.now.body))) }
+    ensures inputs { IfOk result (λ s. s.inputs ≡ input_width (ports_in «module».now.ports)) }
+    ensures content { IfOk result (λ s. s.content ≡ content_width (ops_by_position (ops_of «module».now.body))) }
 {
     let places = Places::of(alloc, &module.body)?;
     Ok(Sizes {
@@ -52,8 +52,8 @@ pub fn side_signals(
     module: &Module,
     order: &[u32],
 ) -> Result<Vec<Signal>, AllocError>
-    requires { FlatFits (input_width (ports_in module.now.ports)) (ports_in module.now.ports) (ops_by_position (ops_of module.now.body)) order.now gates.old }
-    ensures { IfOk result (λ v. Runs (flat_row (input_width (ports_in module.now.ports)) (ports_in module.now.ports) (ops_by_position (ops_of module.now.body)) order.now) gates.old gates.new v.items) }
+    requires { FlatFits (input_width (ports_in «module».now.ports)) (ports_in «module».now.ports) (ops_by_position (ops_of «module».now.body)) order.now gates.old }
+    ensures { IfOk result (λ v. Runs (flat_row (input_width (ports_in «module».now.ports)) (ports_in «module».now.ports) (ops_by_position (ops_of «module».now.body)) order.now) gates.old gates.new v.items) }
 {
     let places = Places::of(alloc, &module.body)?;
     let starts = starts_of(alloc, &places)?;
@@ -85,7 +85,7 @@ fn first_content(
     starts: &[u32],
 ) -> Result<Vec<Signal>, AllocError>
     requires { starts.now ≡ starts_from 0 (ops_by_position (ops_of places.now.body.now)) }
-    ensures { IfOk result (λ v. Runs (content_row (loaded_of (ops_by_position (ops_of places.now.body.now)) (word_at (port_words 0 (ports_in module.now.ports)) [])) (ops_by_position (ops_of places.now.body.now)) (variables (input_width (ports_in module.now.ports)) (content_width (ops_by_position (ops_of places.now.body.now))))) gates.old gates.new v.items) }
+    ensures { IfOk result (λ v. Runs (content_row (loaded_of (ops_by_position (ops_of places.now.body.now)) (word_at (port_words 0 (ports_in «module».now.ports)) [])) (ops_by_position (ops_of places.now.body.now)) (variables (input_width (ports_in «module».now.ports)) (content_width (ops_by_position (ops_of places.now.body.now))))) gates.old gates.new v.items) }
 {
     let words = Words {
         ports: port_words(alloc, &module.ports)?,
