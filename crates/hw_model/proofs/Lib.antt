@@ -19,4 +19,5 @@ pub mod Weights
 pub mod Content
 pub mod Gone
 pub mod Resets
+pub mod Agreeing
 pub mod WrittenTypes

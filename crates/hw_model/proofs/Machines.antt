@@ -1,8 +1,8 @@
 -- Machines that behave the same: from maps that carry settled maps over, and one after another.
-use Rattle.std.proofs.Common.{◌≡◌, List, [], ◌∷◌, refl, sym, ap, ap₂, subst, ◌∙◌}
+use Rattle.std.proofs.Common.{◌≡◌, ◌↔◌, List, [], ◌∷◌, refl, sym, ap, ap₂, subst, ◌∙◌}
 use mathlib.Core.Path.{fun_ext}
 use Rattle.bits_core.specs.Word.{Word}
-use Rattle.hw_model.specs.Machine.{Machine, Step, RunAfter, Run, SettlesOnce, Same, Carries}
+use Rattle.hw_model.specs.Machine.{Machine, Step, RunAfter, Run, SettlesOnce, SameSteps, Same, Carries}
 
 module _ {A : Type 0} where
   -- a machine settles once for all inputs and content
@@ -14,6 +14,45 @@ module _ {A : Type 0} where
       → (σ τ : A → Word) → m.settled inputs content σ → m.settled inputs content τ → σ ≡ τ
   settled_same m inputs content once σ τ first second = fun_ext (λ a. once.2 σ first a ∙ sym (once.2 τ second a))
 
+  -- a step has one list of outputs and leaves one content
+  pub step_unique : (m : Machine A) → AlwaysSettles m → (before inputs content outputs after others other_after : Word)
+      → Step m before inputs content outputs after → Step m before inputs content others other_after → (outputs ≡ others) × (after ≡ other_after)
+  step_unique m once before inputs content outputs after others other_after step step' =
+      let earlier : step.earlier ≡ step'.earlier =
+      settled_same m before content (once before content) step.earlier step'.earlier step.settled_earlier step'.settled_earlier in
+      let firsts : step.first_map ≡ step'.first_map =
+      settled_same m inputs content (once inputs content) step.first_map step'.first_map step.settled_first step'.settled_first in
+      let first_phase : m.rising step.earlier step.first_map content ≡ m.rising step'.earlier step'.first_map content =
+      ap₂ (λ ρ σ. m.rising ρ σ content) earlier firsts in
+      let maps : step.map_of ≡ step'.map_of =
+      settled_same m inputs (m.rising step'.earlier step'.first_map content) (once inputs (m.rising step'.earlier step'.first_map content)) step.map_of step'.map_of
+      (subst (λ c. m.settled inputs c step.map_of) first_phase step.settled) step'.settled in (
+        step.read ∙ ap m.outputs maps ∙ sym step'.read,
+        step.taken ∙ ap₂ m.next maps first_phase ∙ sym step'.taken,
+      )
+
+  -- and there is one
+  pub step_exists : (m : Machine A) → AlwaysSettles m → (before inputs content : Word)
+      → (outputs : Word) × (after : Word) × Step m before inputs content outputs after
+  step_exists m once before inputs content =
+      let earlier : A → Word = (once before content).0 in
+      let first_map : A → Word = (once inputs content).0 in
+      let first_phase : Word = m.rising earlier first_map content in
+      let map_of : A → Word = (once inputs first_phase).0 in (
+        m.outputs map_of,
+        m.next map_of first_phase,
+        record {
+          earlier = earlier;
+          first_map = first_map;
+          map_of = map_of;
+          settled_earlier = (once before content).1;
+          settled_first = (once inputs content).1;
+          settled = (once inputs first_phase).1;
+          read = refl;
+          taken = refl;
+        },
+      )
+
   -- a run has one list of outputs for each content and list of steps
   run_after_unique : (m : Machine A) → AlwaysSettles m → (before content : Word) (steps outputs others : List Word)
       → RunAfter m before content steps outputs → RunAfter m before content steps others → outputs ≡ others
@@ -23,19 +62,9 @@ module _ {A : Type 0} where
   run_after_unique m once before content (s ∷ steps) [] others first second = absurd first
   run_after_unique m once before content (s ∷ steps) (o ∷ outputs) [] first second = absurd second
   run_after_unique m once before content (s ∷ steps) (o ∷ outputs) (o' ∷ others) (after, step, rest) (after', step', rest') =
-      let earlier : step.earlier ≡ step'.earlier =
-      settled_same m before content (once before content) step.earlier step'.earlier step.settled_earlier step'.settled_earlier in
-      let firsts : step.first_map ≡ step'.first_map =
-      settled_same m s content (once s content) step.first_map step'.first_map step.settled_first step'.settled_first in
-      let first_phase : m.rising step.earlier step.first_map content ≡ m.rising step'.earlier step'.first_map content =
-      ap₂ (λ ρ σ. m.rising ρ σ content) earlier firsts in
-      let maps : step.map_of ≡ step'.map_of =
-      settled_same m s (m.rising step'.earlier step'.first_map content) (once s (m.rising step'.earlier step'.first_map content)) step.map_of step'.map_of
-      (subst (λ c. m.settled s c step.map_of) first_phase step.settled) step'.settled in
-      let heads : o ≡ o' = step.read ∙ ap m.outputs maps ∙ sym step'.read in
-      let nexts : after ≡ after' = step.taken ∙ ap₂ m.next maps first_phase ∙ sym step'.taken in
-      let also : RunAfter m s after' steps outputs = subst (λ c. RunAfter m s c steps outputs) nexts rest in
-      ap₂ (λ x xs. x ∷ xs) heads (run_after_unique m once s after' steps outputs others also rest')
+      let one : (o ≡ o') × (after ≡ after') = step_unique m once before s content o after o' after' step step' in
+      let also : RunAfter m s after' steps outputs = subst (λ c. RunAfter m s c steps outputs) one.1 rest in
+      ap₂ (λ x xs. x ∷ xs) one.0 (run_after_unique m once s after' steps outputs others also rest')
 
   pub run_outputs_unique : (m : Machine A) → AlwaysSettles m → (content : Word) (steps outputs others : List Word)
       → Run m content steps outputs → Run m content steps others → outputs ≡ others
@@ -46,27 +75,9 @@ module _ {A : Type 0} where
       → (outputs : List Word) × RunAfter m before content steps outputs
   run_after_exists m once before content [] = ([], tt)
   run_after_exists m once before content (s ∷ steps) =
-      let earlier : A → Word = (once before content).0 in
-      let first_map : A → Word = (once s content).0 in
-      let first_phase : Word = m.rising earlier first_map content in
-      let map_of : A → Word = (once s first_phase).0 in
-      let rest : (outputs : List Word) × RunAfter m s (m.next map_of first_phase) steps outputs = run_after_exists m once s (m.next map_of first_phase) steps in (
-        m.outputs map_of ∷ rest.0,
-        (
-          m.next map_of first_phase,
-          record {
-            earlier = earlier;
-            first_map = first_map;
-            map_of = map_of;
-            settled_earlier = (once before content).1;
-            settled_first = (once s content).1;
-            settled = (once s first_phase).1;
-            read = refl;
-            taken = refl;
-          },
-          rest.1,
-        ),
-      )
+      let one : (outputs : Word) × (after : Word) × Step m before s content outputs after = step_exists m once before s content in
+      let rest : (outputs : List Word) × RunAfter m s one.1 steps outputs = run_after_exists m once s one.1 steps in
+      (one.0 ∷ rest.0, (one.1, one.2, rest.1))
 
   pub run_exists : (m : Machine A) → AlwaysSettles m → (content : Word) (steps : List Word) → (outputs : List Word) × Run m content steps outputs
   run_exists m once content steps = run_after_exists m once [] content steps
@@ -91,72 +102,69 @@ module _ {A B : Type 0} where
             ∙ ap (n.next (to step.map_of)) first_phase;
       }
 
-  -- so do runs
-  run_after_carried : (m : Machine A) (n : Machine B) (to : (A → Word) → B → Word) → Carries m n to
-      → (before content : Word) (steps outputs : List Word) → RunAfter m before content steps outputs → RunAfter n before content steps outputs
-  run_after_carried m n to carries before content [] [] run = run
-  run_after_carried m n to carries before content [] (o ∷ outputs) run = run
-  run_after_carried m n to carries before content (s ∷ steps) [] run = run
-  run_after_carried m n to carries before content (s ∷ steps) (o ∷ outputs) (after, step, rest) =
-      (after, step_carried m n to carries before s content o after step, run_after_carried m n to carries s after steps outputs rest)
+module _ {A B : Type 0} where
+  -- each step of the one machine is a step of the other
+  abbrev pub HasSteps : Machine A → Machine B → Type 0
+  HasSteps m n = (before inputs content outputs after : Word) → Step m before inputs content outputs after → Step n before inputs content outputs after
 
-  pub run_carried : (m : Machine A) (n : Machine B) (to : (A → Word) → B → Word) → Carries m n to
+  -- so is each run then
+  run_after_stepped : (m : Machine A) (n : Machine B) → HasSteps m n
+      → (before content : Word) (steps outputs : List Word) → RunAfter m before content steps outputs → RunAfter n before content steps outputs
+  run_after_stepped m n stepped before content [] [] run = run
+  run_after_stepped m n stepped before content [] (o ∷ outputs) run = run
+  run_after_stepped m n stepped before content (s ∷ steps) [] run = run
+  run_after_stepped m n stepped before content (s ∷ steps) (o ∷ outputs) (after, step, rest) =
+      (after, stepped before s content o after step, run_after_stepped m n stepped s after steps outputs rest)
+
+  pub run_stepped : (m : Machine A) (n : Machine B) → HasSteps m n
       → (content : Word) (steps outputs : List Word) → Run m content steps outputs → Run n content steps outputs
-  run_carried m n to carries content steps outputs = run_after_carried m n to carries [] content steps outputs
+  run_stepped m n stepped content steps outputs = run_after_stepped m n stepped [] content steps outputs
+
+  -- where both machines settle once, steps go back as well
+  pub steps_back : (m : Machine A) (n : Machine B) → AlwaysSettles m → AlwaysSettles n → HasSteps m n
+      → (before inputs content outputs after : Word) → Step n before inputs content outputs after → Step m before inputs content outputs after
+  steps_back m n once once' stepped before inputs content outputs after step =
+      let mine : (others : Word) × (other_after : Word) × Step m before inputs content others other_after = step_exists m once before inputs content in
+      let over : Step n before inputs content mine.0 mine.1 = stepped before inputs content mine.0 mine.1 mine.2 in
+      let one : (mine.0 ≡ outputs) × (mine.1 ≡ after) = step_unique n once' before inputs content mine.0 mine.1 outputs after over step in
+      subst (λ a. Step m before inputs content outputs a) one.1 (subst (λ os. Step m before inputs content os mine.1) one.0 mine.2)
 
 module _ {A B : Type 0} where
-  -- where a machine settles once, its runs are those of a machine whose settled maps it carries over, and back
-  same_runs_back : (m : Machine A) (n : Machine B) (to : (A → Word) → B → Word) → AlwaysSettles m → AlwaysSettles n → Carries m n to
-      → (content : Word) (steps outputs : List Word) → Run n content steps outputs → Run m content steps outputs
-  same_runs_back m n to once once' carries content steps outputs run =
-      let mine : (others : List Word) × Run m content steps others = run_exists m once content steps in
-      let over : Run n content steps mine.0 = run_carried m n to carries content steps mine.0 mine.1 in
-      let same : mine.0 ≡ outputs = run_outputs_unique n once' content steps mine.0 outputs over run in
-      subst (λ xs. Run m content steps xs) same mine.1
+  -- machines with the same steps behave the same
+  pub same_steps : (m : Machine A) (n : Machine B) → m.size ≡ n.size → AlwaysSettles n → HasSteps m n → HasSteps n m → Same m n
+  unfolding SameSteps
+  same_steps m n size once there here = record {
+    size = size;
+    once = once;
+    steps = λ before inputs content outputs after. (there before inputs content outputs after, here before inputs content outputs after);
+    runs = λ content steps outputs. (run_stepped m n there content steps outputs, run_stepped n m here content steps outputs);
+  }
 
-  -- where both machines settle once, one direction is enough: forth
+  -- and the other way round
+  pub steps_of_same : (m : Machine A) (n : Machine B) → Same m n
+      → (before inputs content outputs after : Word) → Step m before inputs content outputs after ↔ Step n before inputs content outputs after
+  unfolding SameSteps
+  steps_of_same m n same = same.steps
+
+module _ {A B : Type 0} where
+  -- where a way carries the settled maps of one machine over to another, and both machines settle once, one direction is
+  -- enough: forth
   pub same_forth : (m : Machine A) (n : Machine B) (to : (A → Word) → B → Word) → m.size ≡ n.size
       → AlwaysSettles m → AlwaysSettles n → Carries m n to → Same m n
-  same_forth m n to size once once' carries = record {
-    size = size;
-    once = once';
-    runs = λ content steps outputs. (
-      run_carried m n to carries content steps outputs,
-      same_runs_back m n to once once' carries content steps outputs,
-    );
-  }
+  same_forth m n to size once once' carries =
+      same_steps m n size once' (step_carried m n to carries) (steps_back m n once once' (step_carried m n to carries))
 
   -- or back
   pub same_back : (m : Machine A) (n : Machine B) (back : (B → Word) → A → Word) → m.size ≡ n.size
       → AlwaysSettles m → AlwaysSettles n → Carries n m back → Same m n
-  same_back m n back size once once' carries = record {
-    size = size;
-    once = once';
-    runs = λ content steps outputs. (
-      run_back content steps outputs,
-      run_carried n m back carries content steps outputs,
-    );
-  }
-    where
-      run_back : (content : Word) (steps outputs : List Word) → Run m content steps outputs → Run n content steps outputs
-      run_back content steps outputs run =
-          let theirs : (others : List Word) × Run n content steps others = run_exists n once' content steps in
-          let over : Run m content steps theirs.0 = run_carried n m back carries content steps theirs.0 theirs.1 in
-          let same : theirs.0 ≡ outputs = run_outputs_unique m once content steps theirs.0 outputs over run in
-          subst (λ xs. Run n content steps xs) same theirs.1
+  same_back m n back size once once' carries =
+      same_steps m n size once' (steps_back n m once' once (step_carried n m back carries)) (step_carried n m back carries)
 
   -- maps both ways, with nothing asked of the second machine but that its maps come from the first's
   pub same_by : (m : Machine A) (n : Machine B) (to : (A → Word) → B → Word) (back : (B → Word) → A → Word) → m.size ≡ n.size
       → AlwaysSettles m → Carries m n to → Carries n m back
       → ((inputs content : Word) (σ : B → Word) → n.settled inputs content σ → (b : B) → to (back σ) b ≡ σ b) → Same m n
-  same_by m n to back size once there here round = record {
-    size = size;
-    once = once_there;
-    runs = λ content steps outputs. (
-      run_carried m n to there content steps outputs,
-      run_carried n m back here content steps outputs,
-    );
-  }
+  same_by m n to back size once there here round = same_steps m n size once_there (step_carried m n to there) (step_carried n m back here)
     where
       once_there : (inputs content : Word) → SettlesOnce n inputs content
       once_there inputs content =
@@ -170,23 +178,20 @@ module _ {A B : Type 0} where
 
   -- the other way round, where the first machine settles once
   pub same_sym : (m : Machine A) (n : Machine B) → AlwaysSettles m → Same m n → Same n m
-  same_sym m n once same = record {
-    size = sym same.size;
-    once = once;
-    runs = λ content steps outputs. ((same.runs content steps outputs).1, (same.runs content steps outputs).0);
-  }
+  same_sym m n once same =
+      same_steps n m (sym same.size) once
+      (λ before inputs content outputs after. (steps_of_same m n same before inputs content outputs after).1)
+      (λ before inputs content outputs after. (steps_of_same m n same before inputs content outputs after).0)
 
 -- a machine behaves as itself, where it settles once
 pub same_self : {A : Type 0} (m : Machine A) → AlwaysSettles m → Same m m
-same_self m once = record { size = refl; once = once; runs = λ content steps outputs. (λ run. run, λ run. run) }
+same_self m once = same_steps m m refl once (λ before inputs content outputs after step. step) (λ before inputs content outputs after step. step)
 
 -- one after another
 pub same_then : {A B C : Type 0} (l : Machine A) (m : Machine B) (n : Machine C) → Same l m → Same m n → Same l n
-same_then l m n first second = record {
-  size = first.size ∙ second.size;
-  once = second.once;
-  runs = λ content steps outputs. (
-    λ run. (second.runs content steps outputs).0 ((first.runs content steps outputs).0 run),
-    λ run. (first.runs content steps outputs).1 ((second.runs content steps outputs).1 run),
-  );
-}
+same_then l m n first second =
+    same_steps l n (first.size ∙ second.size) second.once
+    (λ before inputs content outputs after step.
+    (steps_of_same m n second before inputs content outputs after).0 ((steps_of_same l m first before inputs content outputs after).0 step))
+    (λ before inputs content outputs after step.
+    (steps_of_same l m first before inputs content outputs after).1 ((steps_of_same m n second before inputs content outputs after).1 step))

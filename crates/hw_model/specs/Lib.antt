@@ -6,6 +6,7 @@ pub mod Flat
 pub mod Machine
 pub mod Meaning
 pub mod Resets
+pub mod Agreement
 pub mod Weight
 pub mod Sound
 pub mod Hierarchy

@@ -1,5 +1,5 @@
 -- What a synchronous circuit does: the cycle reading of a design. A module of a design and a module of a Verilog text
--- both mean a machine, and two machines behave the same where every run of one is a run of the other.
+-- both mean a machine, and two machines behave the same where every step and every run of one is one of the other.
 use Rattle.std.specs.Prelude.{◌≡◌, ℕ, List, [], ◌∷◌, ◌↔◌}
 use Rattle.bits_core.specs.Word.{Word}
 
@@ -43,11 +43,16 @@ module _ {A : Type 0} where
   SettlesOnce m inputs content =
       (ρ : A → Word) × m.settled inputs content ρ × ((σ : A → Word) → m.settled inputs content σ → (a : A) → σ a ≡ ρ a)
 
+-- two machines have the same steps, with the same outputs and leaving the same content
+unfoldable pub SameSteps : {A B : Type 0} → Machine A → Machine B → Type 0
+SameSteps m n = (before inputs content outputs after : Word) → Step m before inputs content outputs after ↔ Step n before inputs content outputs after
+
 -- two machines behave the same: as many bits of content, exactly one settled map of the second for all inputs and
--- content, and the same runs
+-- content, the same steps and the same runs
 pub record Same {A B : Type 0} (m : Machine A) (n : Machine B) : Type 0 where
   pub size : m.size ≡ n.size
   pub once : (inputs content : Word) → SettlesOnce n inputs content
+  pub steps : SameSteps m n
   pub runs : (content : Word) (steps outputs : List Word) → Run m content steps outputs ↔ Run n content steps outputs
 
 module _ {A B : Type 0} where

@@ -1,6 +1,6 @@
 //! The laws on what a design means, each a clause of a function that does nothing.
 
-ghost use Rattle.std.specs.Prelude.{◌≡◌, ◌⊎◌, ℕ, Bool, List, [], Option, Some, None, length, ◌≤◌};
+ghost use Rattle.std.specs.Prelude.{◌≡◌, ◌⊎◌, ◌↔◌, ℕ, Bool, List, [], Option, Some, None, length, ◌≤◌};
 ghost use Rattle.wiring.specs.Wiring.{In};
 ghost use Rattle.bits_core.specs.Word.{Word};
 ghost use Rattle.hw_model.specs.Types.{Name, HwType, width};
@@ -10,9 +10,10 @@ ghost use Rattle.hw_model.specs.Opcodes.{opcode_of, kind_named_by};
 ghost use Rattle.hw_model.specs.Design.{Ref, Module, Design, IsSameDesign, find_module, instance_in, register_form};
 ghost use Rattle.hw_model.specs.Value.{op_value};
 ghost use Rattle.hw_model.specs.Flat.{Path, Net, net, module_at, state, Slot, ResetBy, async_reset_in, registers};
-ghost use Rattle.hw_model.specs.Machine.{SettlesOnce, Run, Same, Carries};
+ghost use Rattle.hw_model.specs.Machine.{SettlesOnce, Step, Run, Same, Carries};
 ghost use Rattle.hw_model.specs.Meaning.{Settled, HasNoCycle, HasHeights, machine};
 ghost use Rattle.hw_model.specs.Resets.{ResetsFromPorts, ComesFromInput, IsFixed, StepsAreReset};
+ghost use Rattle.hw_model.specs.Agreement.{LevelStep, Agree};
 ghost use Rattle.hw_model.specs.Weight.{weight_of, weight};
 ghost use Rattle.hw_model.specs.Hierarchy.{HasNoRecursion};
 ghost use Rattle.hw_model.specs.Sound.{HaveWidths, type_in, Fits, Sound};
@@ -44,8 +45,8 @@ pub fn widths_fit_types()
 {}
 
 /// Does nothing. Its clauses say that behaving the same is an equivalence among modules whose nets have heights, that it
-/// follows from a way to carry settled maps forth or back, and that a run has one list of outputs for each content and
-/// list of steps.
+/// follows from a way to carry settled maps forth or back, that each step of the one is then a step of the other, with the
+/// same outputs and leaving the same content, and that a run has one list of outputs for each content and list of steps.
 pub fn same_behaviour()
     ensures itself { (d : Design) (top : Name) → HasHeights d top → Same (machine d top) (machine d top) }
     ensures symmetric { (d e : Design) (a b : Name) → HasHeights d a → Same (machine d a) (machine e b) → Same (machine e b) (machine d a) }
@@ -59,6 +60,8 @@ pub fn same_behaviour()
         → Carries (machine d a) (machine e b) to → Carries (machine e b) (machine d a) back
         → ((inputs content : Word) (map_of : Net → Word) → Settled e b inputs content map_of → (n : Net) → to (back map_of) n ≡ map_of n)
         → Same (machine d a) (machine e b) }
+    ensures steps { (d e : Design) (a b : Name) → Same (machine d a) (machine e b) → (before inputs content outputs after : Word)
+        → Step (machine d a) before inputs content outputs after ↔ Step (machine e b) before inputs content outputs after }
     ensures runs_once { (d : Design) (top : Name) → HasHeights d top → (content : Word) (steps : List Word)
         → (outputs : List Word) × Run (machine d top) content steps outputs
         × ((others : List Word) → Run (machine d top) content steps others → others ≡ outputs) }
@@ -97,4 +100,16 @@ pub fn resets_follow_inputs()
     ensures runs { (d : Design) (top : Name) (marked : Module → ℕ → Bool) → ResetsFromPorts d marked
         → (content : Word) (steps outputs : List Word) (run : Run (machine d top) content steps outputs)
         → StepsAreReset d top [] content steps outputs run }
+{}
+
+/// Does nothing. Its clauses speak of designs in which asynchronous resets come from input ports and reset to constants: two
+/// modules that agree in each step by the levels of their resets have the same runs from every content, and a step by
+/// levels is the first step of a run.
+pub fn agreeing_modules_run_alike()
+    ensures runs { (d : Design) (a : Name) (e : Design) (b : Name) (marked marked_too : Module → ℕ → Bool) → Agree d a e b
+        → ResetsFromPorts d marked → ResetsFromPorts e marked_too → HasHeights d a → HasHeights e b
+        → (content : Word) (steps outputs : List Word) → length content ≡ state d a
+        → Run (machine d a) content steps outputs ↔ Run (machine e b) content steps outputs }
+    ensures steps { (d : Design) (top : Name) (marked : Module → ℕ → Bool) → ResetsFromPorts d marked → HasHeights d top
+        → (inputs content outputs after : Word) → LevelStep d top inputs content outputs after ↔ Step (machine d top) [] inputs content outputs after }
 {}

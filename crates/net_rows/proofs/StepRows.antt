@@ -70,7 +70,7 @@ module _ {total : ℕ} (c : Carrying total) (s : Side) (x q : Word) (fits : HasS
       let known = constant_is s.design s.top x q step.before step.before_settled (net t.path v.value) (held_width t.op) ((fits.slots t here).value v is) in
       ap length known.0 ∙ known.1) eo
 
-  makes-content : (k : ℕ) → total ≤ k
+  pub makes-content : (k : ℕ) → total ≤ k
       → Makes c (loaded_row (length x) s.design s.top) k (slots_price load_cost (registers s.design s.top)) (IsWord c (loaded s.design s.top step.before q))
   makes-content k l =
       makes-slots c (loaded_slot s.design s.top) (loaded_in step.before) load_cost total (registers s.design s.top) loads loads_wide k l q
@@ -78,7 +78,7 @@ module _ {total : ℕ} (c : Carrying total) (s : Side) (x q : Word) (fits : HasS
 
   -- ---- nets over that content
 
-  makes-over : (content : List Signal) (j : ℕ) → total ≤ j → CarriesWord c j (loaded s.design s.top step.before q) content
+  pub makes-over : (content : List Signal) (j : ℕ) → total ≤ j → CarriesWord c j (loaded s.design s.top step.before q) content
       → MakesSource c j x (loaded s.design s.top step.before q) step.after (length x) (length q) (source_over (length x) content)
   makes-over content j m holds nowhere k signals l row have = makes-source c x q step.after size given nowhere k signals (le_trans m l) row have
   makes-over content j m holds (input start w) k signals l row have = makes-source c x q step.after size given (input start w) k signals (le_trans m l) row have

@@ -1,6 +1,6 @@
 use Rattle.std.proofs.Common.{sym}
 use Rattle.hw_model.specs.Meaning.{machine}
-use Rattle.hw_model.proofs.Machines.{same_self, same_sym, same_then, same_back, same_by, same_forth, run_exists, run_outputs_unique}
+use Rattle.hw_model.proofs.Machines.{same_self, same_sym, same_then, same_back, same_by, same_forth, steps_of_same, run_exists, run_outputs_unique}
 use Rattle.hw_model.proofs.Finite.{settles_with_heights}
 use Rattle.hw_model.proofs.laws.same_behaviour.Goals as goal
 
@@ -24,6 +24,9 @@ returns-clause-forth c = λ d e a b to size first second.
 pub returns-clause-both_ways : goal.returns-clause-both_ways
 returns-clause-both_ways c = λ d e a b to back size heights.
     same_by (machine d a) (machine e b) to back size (settles_with_heights d a heights)
+
+pub returns-clause-steps : goal.returns-clause-steps
+returns-clause-steps c = λ d e a b. steps_of_same (machine d a) (machine e b)
 
 pub returns-clause-runs_once : goal.returns-clause-runs_once
 returns-clause-runs_once c = λ d top heights content steps.
