@@ -1,10 +1,12 @@
 -- The body of a module of a fit design, by its leaves.
-use Rattle.std.proofs.Common.{◌≡◌, ℕ, suc, ◌+◌, List, [], ◌∷◌, length, refl, sym, ap, ap₂, subst, ◌∙◌, arith}
+use Rattle.std.proofs.Common.{◌≡◌, ℕ, suc, ◌+◌, ◌≤◌, Bool, List, [], ◌∷◌, length, refl, sym, ap, ap₂, subst, ◌∙◌, arith}
+use Rattle.std.specs.Prelude.{Contains}
 use Rattle.std.proofs.lemmas.List.{length-map}
 use Rattle.wiring.specs.Wiring.{In}
 use Rattle.hw_model.specs.Design.{Ref, Port, Op, Design}
 use Rattle.accepted_edits.specs.Keeps.{IsFit}
 use Rattle.ir_store.specs.declared.body.Body.{Body}
+use Rattle.ir_store.specs.declared.operation.OpId.{OpId}
 use Rattle.ir_store.specs.declared.operation.NewOp.{NewOp}
 use Rattle.ir_store.specs.Bodies.{ids_of, ops_of, op_id}
 use Rattle.ir_store.specs.BodyOps.{BodyOp, ids_in}
@@ -21,8 +23,11 @@ use Rattle.aggregate_rows.specs.Reading.{new_seen}
 use Rattle.aggregate_lower.specs.JoinsOut.{joins_out, CanJoin}
 use Rattle.aggregate_lower.specs.MadeBodies.{numbered_from, blocks_made, joined_body, HasBody}
 use Rattle.aggregate_lower.proofs.BlocksMade.{blocks_same}
-use Rattle.aggregate_lower.proofs.JoinsLeaving.{Leave, all_leave}
-use Rattle.aggregate_lower.proofs.NumberedBodies.{IsBelow, numbered_seen}
+use Rattle.aggregate_lower.specs.Chains.{flagged, join_flags, CanLeave, LeaveAlike}
+use Rattle.aggregate_lower.proofs.JoinFlags.{flags_ids, joins_same}
+use Rattle.aggregate_lower.proofs.JoinsLeaving.{how_many, join_ids, join_below, Leave, they_leave, all_stand}
+use Rattle.aggregate_lower.proofs.NumberedBodies.{IsBelow, ids_numbered, number_there, numbered_seen}
+use Rattle.aggregate_lower.proofs.WiresLeaving.{StandsFrom}
 use Rattle.aggregate_lower.proofs.OperandsTyped.{IsWellNamed, well_named}
 
 many_starts : (rules : Rules) (start : ℕ) (os : List Op) → length (starts_from rules start os) ≡ length os
@@ -65,28 +70,62 @@ module _ (d : Design) (ps : List Port) (b : Body) (t : LeafTable) (table : IsLea
     all_below : (x : Op) (r : Ref) → In x (made_in made) → In r x.operands → IsBelow (length made) r
     all_below x r there here = subst (λ n. IsBelow n r) (sym many_made) (named.below x r (subst (In x) blocks_are there) here)
 
-    leave : Leave (lowering_rules d) 0 0 (ops_by_position (ops_of b)) (numbered_from 0 made)
-    leave =
-        all_leave (lowering_rules d) (ops_by_position (ops_of b)) made
-        (subst (λ (ops : List BodyOp). AreDistinct (ids_in ops)) new_is (ids_once new))
-        all_below
-        (λ x r there here. named.first x r (subst (In x) blocks_are there) here)
-        (let size = named.size in omega (arith, many_made, size))
+    once : AreDistinct (ids_in (numbered_from 0 made))
+    once = subst (λ (ops : List BodyOp). AreDistinct (ids_in ops)) new_is (ids_once new)
 
-    pub can_join : CanJoin (ops_by_position (ops_of b)) t.starts.items t.ends.items (ops_of new)
-    can_join =
-        subst (CanJoin (ops_by_position (ops_of b)) t.starts.items t.ends.items) (sym new_is)
-        (subst (λ highs. CanJoin (ops_by_position (ops_of b)) t.starts.items highs (numbered_from 0 made)) (sym table.ends)
-        (subst (λ lows. CanJoin (ops_by_position (ops_of b)) lows (ends_from (lowering_rules d) 0 (ops_by_position (ops_of b))) (numbered_from 0 made)) (sym table.starts) leave.can))
+    room : how_many (lowering_rules d) (ops_by_position (ops_of b)) ≤ length made
+    room = let size = named.size in omega (arith, many_made, size)
+
+    stand : StandsFrom (join_ids (lowering_rules d) 0 (ops_by_position (ops_of b))) [] 0 (length made) (numbered_from 0 made)
+    stand = all_stand (lowering_rules d) (ops_by_position (ops_of b)) made once all_below (λ x r there here. named.first x r (subst (In x) blocks_are there) here)
+
+    leave : Leave (lowering_rules d) 0 0 (ops_by_position (ops_of b)) (numbered_from 0 made)
+    leave = they_leave (lowering_rules d) (ops_by_position (ops_of b)) (length made) (numbered_from 0 made) room stand
 
     by_position : ops_by_position (numbered_from 0 made) ≡ all_blocks
-    by_position =
-        numbered_seen made (subst (λ (ops : List BodyOp). AreDistinct (ids_in ops)) new_is (ids_once new)) all_below ∙ blocks_are
+    by_position = numbered_seen made once all_below ∙ blocks_are
 
-    pub body_joined : (after : List BodyOp) → after ≡ joins_out (ops_by_position (ops_of b)) t.starts.items t.ends.items (ops_of new)
-        → ops_by_position after ≡ joined_body (lowering_rules d) ps (ops_by_position (ops_of b))
-    body_joined after is =
-        ap ops_by_position
-        (is ∙ ap₂ (λ lows highs. joins_out (ops_by_position (ops_of b)) lows highs (ops_of new)) table.starts table.ends
-        ∙ ap (joins_out (ops_by_position (ops_of b)) (starts_from (lowering_rules d) 0 (ops_by_position (ops_of b))) (ends_from (lowering_rules d) 0 (ops_by_position (ops_of b)))) new_is)
-        ∙ leave.left ∙ ap (without_joins (lowering_rules d) 0 (ops_by_position (ops_of b))) by_position
+    -- where flags tell the wires of operations that only join
+    module _ (flags : List Bool) (flags_are : flags ≡ join_flags (ops_by_position (ops_of b)) t.starts.items t.ends.items) where
+      ids_are : flagged flags ≡ join_ids (lowering_rules d) 0 (ops_by_position (ops_of b))
+      ids_are =
+          ap flagged (flags_are ∙ ap₂ (join_flags (ops_by_position (ops_of b))) table.starts table.ends)
+          ∙ flags_ids (lowering_rules d) 0 (ops_by_position (ops_of b))
+
+      all_there : (w : OpId) → In w (join_ids (lowering_rules d) 0 (ops_by_position (ops_of b))) → Contains (ids_in (numbered_from 0 made)) w.index
+      all_there w here =
+          let below = join_below (lowering_rules d) 0 (ops_by_position (ops_of b)) w here in
+          subst (λ ids. Contains ids w.index) (sym (ids_numbered 0 made)) (number_there (length made) w.index (omega (arith, below, room)))
+
+      pub can_leave : CanLeave (flagged flags) (ops_of new)
+      can_leave = subst (λ (ws : List OpId). CanLeave ws (ops_of new)) (sym ids_are) (subst (CanLeave (join_ids (lowering_rules d) 0 (ops_by_position (ops_of b)))) (sym new_is) (record {
+        there = all_there;
+        live = stand.live;
+        first_only = stand.first_only;
+      }))
+
+      -- and chains of these are shortened
+      module _ (short : Body) (alike : LeaveAlike (flagged flags) (ops_of new) (ops_of short)) where
+        alike_by_ids : LeaveAlike (join_ids (lowering_rules d) 0 (ops_by_position (ops_of b))) (numbered_from 0 made) (ops_of short)
+        alike_by_ids = subst (λ (ws : List OpId). LeaveAlike ws (numbered_from 0 made) (ops_of short)) ids_are (subst (λ (ops : List BodyOp). LeaveAlike (flagged flags) ops (ops_of short)) new_is alike)
+
+        short_leave : Leave (lowering_rules d) 0 0 (ops_by_position (ops_of b)) (ops_of short)
+        short_leave = they_leave (lowering_rules d) (ops_by_position (ops_of b)) (length made) (ops_of short) room (record {
+          ids = alike_by_ids.ids ∙ stand.ids;
+          once = ids_once short;
+          live = alike_by_ids.can.live;
+          first_only = alike_by_ids.can.first_only;
+        })
+
+        pub can_join : CanJoin (ops_by_position (ops_of b)) t.starts.items t.ends.items (ops_of short)
+        can_join =
+            subst (λ highs. CanJoin (ops_by_position (ops_of b)) t.starts.items highs (ops_of short)) (sym table.ends)
+            (subst (λ lows. CanJoin (ops_by_position (ops_of b)) lows (ends_from (lowering_rules d) 0 (ops_by_position (ops_of b))) (ops_of short)) (sym table.starts) short_leave.can)
+
+        pub body_joined : (after : List BodyOp) → after ≡ joins_out (ops_by_position (ops_of b)) t.starts.items t.ends.items (ops_of short)
+            → ops_by_position after ≡ joined_body (lowering_rules d) ps (ops_by_position (ops_of b))
+        body_joined after is =
+            ap ops_by_position
+            (is ∙ ap₂ (λ lows highs. joins_out (ops_by_position (ops_of b)) lows highs (ops_of short)) table.starts table.ends
+            ∙ joins_same (lowering_rules d) (ops_by_position (ops_of b)) (numbered_from 0 made) (ops_of short) alike_by_ids.left)
+            ∙ leave.left ∙ ap (without_joins (lowering_rules d) 0 (ops_by_position (ops_of b))) by_position

@@ -1,10 +1,10 @@
 -- The wires of all operations that only join leave a body, in text order.
-use Rattle.std.proofs.Common.{◌≡◌, ℕ, suc, ◌+◌, ◌-◌, ◌<◌, ◌≤◌, Bool, true, false, cond, ◌&&◌, List, [], ◌∷◌, ◌++◌, length, map, refl, sym, ap, ap₂, subst, ◌∙◌, arith, length-append, eq-eqb, inl, inr}
+use Rattle.std.proofs.Common.{◌≡◌, ℕ, suc, ◌+◌, ◌-◌, ◌<◌, ◌≤◌, Bool, true, false, cond, ◌&&◌, List, [], ◌∷◌, ◌++◌, length, map, refl, sym, ap, ap₂, subst, ◌∙◌, arith, length-append, eq-eqb, ◌⊎◌, inl, inr}
 use Rattle.std.specs.Prelude.{All}
 use Rattle.std.proofs.lemmas.Bool.{eqb-true}
 use Rattle.wiring.specs.Lists.{total}
 use Rattle.wiring.specs.Wiring.{In}
-use Rattle.wiring.proofs.Members.{In-append_left, In-append_right, In-map, All-from_members}
+use Rattle.wiring.proofs.Members.{In-append_left, In-append_right, In-append_cases, In-map, All-from_members}
 use Rattle.hw_model.specs.Design.{Ref, Op}
 use Rattle.hw_model.specs.Design.Ref.{result}
 use Rattle.ir_store.specs.declared.operation.OpId.{OpId}
@@ -20,7 +20,7 @@ use Rattle.inline_laws.specs.Unwire.{unwire}
 use Rattle.inline_pass.specs.WiresOut.{IsFirstOf, StandTogether}
 use Rattle.aggregate_laws.specs.Leaves.{in_row}
 use Rattle.aggregate_laws.specs.Rules.{Rules, count_by}
-use Rattle.aggregate_laws.proofs.Lists.{length-in_row, In-in_row}
+use Rattle.aggregate_laws.proofs.Lists.{length-in_row, In-in_row, from_In-in_row}
 use Rattle.aggregate_accepted.specs.Joins.{only_joins, without_joins}
 use Rattle.aggregate_rows.specs.LeafTables.{starts_from, ends_from}
 use Rattle.aggregate_rows.specs.Made.{made_in}
@@ -115,6 +115,34 @@ module _ (rules : Rules) where
         go true is = goes is
         go false is = stays is
 
+  pub they_leave : (os : List Op) (all : ℕ) (ops : List BodyOp) → how_many os ≤ all → StandsFrom (join_ids 0 os) [] 0 all ops → Leave 0 0 os ops
+  they_leave os all ops room stands = joins_leave (join_ids 0 os) os [] 0 all ops (λ w here. here) room stands
+
+  -- their numbers are below that of what operations become
+  pub join_below : (start : ℕ) (os : List Op) (w : OpId) → In w (join_ids start os) → w.index < start + how_many os
+  join_below start [] w here = absurd here
+  join_below start (o ∷ os) w here = go (only_joins o.kind) here (join_below (start + count_by rules o) os w)
+    where
+      later : (In w (join_ids (start + count_by rules o) os) → w.index < (start + count_by rules o) + how_many os) → In w (join_ids (start + count_by rules o) os)
+          → w.index < start + (count_by rules o + how_many os)
+      later rest there = let h = rest there in omega (arith, h)
+
+      row : In w (in_row op_id start (count_by rules o)) → w.index < start + (count_by rules o + how_many os)
+      row there =
+          let from = from_In-in_row op_id start (count_by rules o) w there in
+          let below = from.1 in
+          let same : w.index ≡ start + from.0 = ap (λ (x : OpId). x.index) from.2 in
+          omega (arith, below, same)
+
+      go : (b : Bool) → In w (cond b (in_row op_id start (count_by rules o)) [] ++ join_ids (start + count_by rules o) os)
+          → (In w (join_ids (start + count_by rules o) os) → w.index < (start + count_by rules o) + how_many os) → w.index < start + (count_by rules o + how_many os)
+      go false there rest = later rest there
+      go true there rest = either (In-append_cases w (in_row op_id start (count_by rules o)) (join_ids (start + count_by rules o) os) there)
+        where
+          either : In w (in_row op_id start (count_by rules o)) ⊎ In w (join_ids (start + count_by rules o) os) → w.index < start + (count_by rules o + how_many os)
+          either (inl first) = row first
+          either (inr next) = later rest next
+
   -- ---- from a body whose ids are positions
 
   module _ (os : List Op) (made : List NewOp) (once : AreDistinct (ids_in (numbered_from 0 made)))
@@ -137,7 +165,7 @@ module _ (rules : Rules) where
         (All-from_members (IsFirstOf w) o.operands.items (λ v among. value_first w here v (only o v (inl refl) among)))
         (ops_first w here (suc s) news (λ p v there. only p v (inr there)))
 
-    all_stand : StandsFrom (join_ids 0 os) [] 0 (length made) (numbered_from 0 made)
+    pub all_stand : StandsFrom (join_ids 0 os) [] 0 (length made) (numbered_from 0 made)
     unfolding made_in
     all_stand = record {
       ids = ids_numbered 0 made;
@@ -145,6 +173,3 @@ module _ (rules : Rules) where
       live = numbered_live made once below;
       first_only = λ w here. ops_first w here 0 made (λ o v there among. first (new_seen o) (new_ref v) (In-map new_seen o made there) (In-map new_ref v o.operands.items among));
     }
-
-    pub all_leave : how_many os ≤ length made → Leave 0 0 os (numbered_from 0 made)
-    all_leave room = joins_leave (join_ids 0 os) os [] 0 (length made) (numbered_from 0 made) (λ w here. here) room all_stand

@@ -7,6 +7,10 @@ pub mod BareRows
 pub mod BlocksMade
 pub mod WiresLeaving
 pub mod JoinsLeaving
+pub mod StandingFor
+pub mod Shortened
+pub mod Shortening
+pub mod JoinFlags
 pub mod BlockOperands
 pub mod JoinWires
 pub mod OperandsTyped

@@ -26,7 +26,7 @@ use Rattle.aggregate_lower.proofs.NumberedBodies.{numbers}
 -- ---- what a wire carries
 
 -- what holds of nothing and of each operand holds of it
-carried_has : (P : Value → Type 0) → P Undefined → (id : ℕ) (ops : List BodyOp) → All (λ (o : BodyOp). All P o.operands) ops → P (carried_value id ops)
+pub carried_has : (P : Value → Type 0) → P Undefined → (id : ℕ) (ops : List BodyOp) → All (λ (o : BodyOp). All P o.operands) ops → P (carried_value id ops)
 carried_has P none id [] all = none
 carried_has P none id (p ∷ ops) all = go (nat_eq p.id id) (carried_has P none id ops (rest_of_all (λ (o : BodyOp). All P o.operands) p ops all))
   where
@@ -43,7 +43,7 @@ carried_has P none id (p ∷ ops) all = go (nat_eq p.id id) (carried_has P none 
     go false rest = rest
 
 -- where it stands for the wire's result, nothing names a further result that was not named before
-kept_first : (v w : OpId) (ops : List BodyOp) → All (λ (o : BodyOp). All (IsFirstOf v) o.operands) ops
+pub kept_first : (v w : OpId) (ops : List BodyOp) → All (λ (o : BodyOp). All (IsFirstOf v) o.operands) ops
     → All (λ (o : BodyOp). All (IsFirstOf v) o.operands) (taken_out w.index (all_replaced (Result w 0) (carried_value w.index ops) ops))
 kept_first v w ops all =
     all_left (λ (o : BodyOp). All (IsFirstOf v) o.operands) w.index (all_replaced (Result w 0) carried ops)

@@ -1,3 +1,4 @@
+pub mod Chains
 pub mod JoinsOut
 pub mod Lowering
 pub mod MadeBodies

@@ -4,6 +4,7 @@
 #![tactic(auto)]
 
 mod aggregates;
+mod chains;
 mod laws;
 pub mod lowering;
 

@@ -5,10 +5,8 @@ ghost use Rattle.hw_model.specs.KindViews.{kind_of};
 ghost use Rattle.ir_store.specs.Bodies.{ids_of, ops_of, op_id};
 ghost use Rattle.ir_store.specs.Numbered.{ops_by_position};
 ghost use Rattle.ir_store.specs.Designs.{design_of, module_of, numbered_module, ports_in};
-ghost use Rattle.body_edits.specs.Views.{HasOp};
 ghost use Rattle.accepted_edits.specs.Keeps.{IsFit};
-ghost use Rattle.inline_pass.specs.MovedOps.{other_value};
-ghost use Rattle.inline_pass.specs.WiresOut.{StandTogether, carried_value};
+ghost use Rattle.inline_pass.specs.WiresOut.{StandTogether};
 ghost use Rattle.aggregate_accepted.specs.Joins.{only_joins, joined_module};
 ghost use Rattle.aggregate_rows.specs.Callees.{AreCallees, module_leaves};
 ghost use Rattle.aggregate_rows.specs.LoweringRules.{lowering_rules};
@@ -18,6 +16,7 @@ ghost use Rattle.aggregate_lower.specs.JoinsOut.{ids_between, wires_out, joins_o
 ghost use Rattle.aggregate_lower.specs.MadeBodies.{numbered_from, blocks_made, joined_body, HasBody};
 
 use crate::aggregates::has_aggregates;
+use crate::chains::{carried_value, joined_wires, only_joins, shorten_chains};
 use aggregate_rows::arguments::Arguments;
 use aggregate_rows::blocks::put_block;
 use aggregate_rows::instances::Callees;
@@ -105,6 +104,8 @@ fn lowered_body(
     let table = leaf_table(alloc, ports, body)?;
     let made = all_blocks(alloc, callees, body, &table)?;
     let mut lowered = body_of(alloc, made)?;
+    let joined = joined_wires(alloc, body, &table)?;
+    shorten_chains(alloc, joined.as_slice(), &mut lowered)?;
     take_joins_out(body, &table, &mut lowered);
     Ok(lowered)
 }
@@ -178,21 +179,6 @@ fn take_join_out(kind: &OpKind, low: u32, high: u32, lowered: &mut Body)
     }
 }
 
-// Whether an operation only joins values or takes them apart.
-fn only_joins(kind: &OpKind) -> bool
-    ensures { result ≡ only_joins (kind_of kind.now) }
-{
-    matches!(
-        kind,
-        OpKind::ArrayCreate
-            | OpKind::ArrayConcat
-            | OpKind::StructCreate
-            | OpKind::StructExtract(_)
-            | OpKind::StructInject(_)
-            | OpKind::StructExplode
-    )
-}
-
 // Takes the wires between two positions out of the new body, the operand of each standing for its result.
 fn take_wires_out(lowered: &mut Body, low: u32, high: u32)
     requires { StandTogether (ids_between low high) (ops_of lowered.old) }
@@ -203,32 +189,5 @@ fn take_wires_out(lowered: &mut Body, low: u32, high: u32)
         let value = carried_value(lowered, wire);
         lowered.replace_all_uses(Value::Result(wire, 0), value);
         lowered.erase(wire);
-    }
-}
-
-// What a wire carries: its first operand, unless that is its own result.
-fn carried_value(body: &Body, wire: OpId) -> Value
-    requires { HasOp body.now wire }
-    ensures { result ≡ carried_value wire.index (ops_of body.now) }
-{
-    match body.op(wire).operands.first() {
-        Some(value) => other_than(wire, *value),
-        None => Value::Undefined,
-    }
-}
-
-// The value, unless it is a result of an operation.
-fn other_than(op: OpId, value: Value) -> Value
-    ensures { result ≡ other_value op.index value }
-{
-    match value {
-        Value::Result(id, _) => {
-            if id.number() == op.number() {
-                Value::Undefined
-            } else {
-                value
-            }
-        }
-        Value::Port(_) | Value::Undefined => value,
     }
 }

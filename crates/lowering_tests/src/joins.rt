@@ -148,6 +148,65 @@ const STRUCTS: [Row; 6] = [
     },
 ];
 
+// Each takes the result of another one: above it, below it, and of several in no order.
+const CHAINS: [Row; 3] = [
+    Row {
+        source: "
+  hw.module @T(in %s : !hw.struct<x: i8, y: i8>, in %v : i8, out o : i8, out p : !hw.struct<x: i8, y: i8>) {
+    %0 = hw.struct_inject %s[\"x\"], %v : !hw.struct<x: i8, y: i8>
+    %1 = hw.struct_inject %0[\"x\"], %v : !hw.struct<x: i8, y: i8>
+    %2 = hw.struct_inject %1[\"x\"], %v : !hw.struct<x: i8, y: i8>
+    %3 = hw.struct_inject %2[\"x\"], %v : !hw.struct<x: i8, y: i8>
+    %4 = hw.struct_extract %3[\"y\"] : !hw.struct<x: i8, y: i8>
+    %5 = hw.struct_extract %1[\"x\"] : !hw.struct<x: i8, y: i8>
+    %6 = comb.sub %4, %5 : i8
+    hw.output %6, %3 : i8, !hw.struct<x: i8, y: i8>
+  }",
+        lowered: "
+  hw.module @T(in %s_x : i8, in %s_y : i8, in %v : i8, out o : i8, out p_x : i8, out p_y : i8) {
+    %0 = comb.sub %s_y, %v : i8
+    hw.output %0, %v, %s_y : i8, i8, i8
+  }",
+    },
+    Row {
+        source: "
+  hw.module @T(in %s : !hw.struct<x: i8, y: i8>, in %v : i8, out o : i8, out p : !hw.struct<x: i8, y: i8>) {
+    %0 = comb.sub %2, %1 : i8
+    %1 = hw.struct_extract %5[\"x\"] : !hw.struct<x: i8, y: i8>
+    %2 = hw.struct_extract %3[\"y\"] : !hw.struct<x: i8, y: i8>
+    %3 = hw.struct_inject %4[\"x\"], %v : !hw.struct<x: i8, y: i8>
+    %4 = hw.struct_inject %5[\"x\"], %v : !hw.struct<x: i8, y: i8>
+    %5 = hw.struct_inject %6[\"x\"], %v : !hw.struct<x: i8, y: i8>
+    %6 = hw.struct_inject %s[\"x\"], %v : !hw.struct<x: i8, y: i8>
+    hw.output %0, %3 : i8, !hw.struct<x: i8, y: i8>
+  }",
+        lowered: "
+  hw.module @T(in %s_x : i8, in %s_y : i8, in %v : i8, out o : i8, out p_x : i8, out p_y : i8) {
+    %0 = comb.sub %s_y, %v : i8
+    hw.output %0, %v, %s_y : i8, i8, i8
+  }",
+    },
+    // what is taken in the end stands between them, and is made of what one of them takes
+    Row {
+        source: "
+  hw.module @T(in %a : i8, in %b : i8, out o : !hw.struct<x: i8, y: i8>, out q : !hw.array<2x!hw.struct<x: i8, y: i8>>) {
+    %0 = hw.array_create %5, %1 : !hw.struct<x: i8, y: i8>
+    %1 = hw.struct_inject %3[\"x\"], %4 : !hw.struct<x: i8, y: i8>
+    %2 = hw.struct_extract %3[\"y\"] : !hw.struct<x: i8, y: i8>
+    %3 = hw.struct_inject %6[\"y\"], %b : !hw.struct<x: i8, y: i8>
+    %4 = comb.sub %2, %a : i8
+    %5 = hw.struct_inject %1[\"y\"], %2 : !hw.struct<x: i8, y: i8>
+    %6 = hw.struct_create (%a, %a) : !hw.struct<x: i8, y: i8>
+    hw.output %5, %0 : !hw.struct<x: i8, y: i8>, !hw.array<2x!hw.struct<x: i8, y: i8>>
+  }",
+        lowered: "
+  hw.module @T(in %a : i8, in %b : i8, out o_x : i8, out o_y : i8, out q_1_x : i8, out q_1_y : i8, out q_0_x : i8, out q_0_y : i8) {
+    %0 = comb.sub %b, %a : i8
+    hw.output %0, %b, %0, %b, %0, %b : i8, i8, i8, i8, i8, i8
+  }",
+    },
+];
+
 #[test]
 fn arrays_are_joined_without_operations(rt: HostRuntime) -> Result<(), Fail> {
     assert_eq!(rt; first_not_lowered(&rt, &ARRAYS)?, None);
@@ -157,5 +216,11 @@ fn arrays_are_joined_without_operations(rt: HostRuntime) -> Result<(), Fail> {
 #[test]
 fn structs_are_taken_apart_without_operations(rt: HostRuntime) -> Result<(), Fail> {
     assert_eq!(rt; first_not_lowered(&rt, &STRUCTS)?, None);
+    Ok(())
+}
+
+#[test]
+fn chains_are_taken_apart_in_every_order(rt: HostRuntime) -> Result<(), Fail> {
+    assert_eq!(rt; first_not_lowered(&rt, &CHAINS)?, None);
     Ok(())
 }
