@@ -23,3 +23,4 @@ pub mod LoweredShapes
 pub mod PieceWeights
 pub mod LoweredWeights
 pub mod AcceptedLowered
+pub mod CanonicalAgain

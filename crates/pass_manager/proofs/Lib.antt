@@ -3,4 +3,3 @@ pub mod AllBodies
 pub mod CalleeLists
 pub mod FlatBodies
 pub mod Results
-pub mod CanonicalAgain
