@@ -25,7 +25,10 @@ use Rattle.aggregate_laws.specs.Scalars.{has_aggregates}
 use Rattle.pass_laws.specs.PassLaw.{leaf_types, IsAfter}
 use Rattle.pass_laws.specs.Remaining.{symbols, IsPublic}
 use Rattle.pass_laws.proofs.Composed.{after_both}
+use Rattle.inline_pass.specs.Flattening.{flat_design}
+use Rattle.inline_pass.proofs.DeadModulesGone.{without_dead_once}
 use Rattle.inline_pass.proofs.FlatteningLaw.{flattening_is_after}
+use Rattle.aggregate_lower.specs.Lowering.{lowered_aggregates}
 use Rattle.aggregate_lower.proofs.LoweringLaw.{lowering_is_after, none_left}
 use Rattle.flat_copy.specs.FlatCopy.{is_other, only_public, IsFlatCopy, KeepsFlat}
 use Rattle.flat_copy.proofs.Marks.{marked, find_marked, symbols_marked, marked_follows, marked_lighter, marked_accepted, marked_registers}
@@ -117,3 +120,8 @@ module _ (d e : Design) (n : ℕ) (m : Module) (accepted : IsAccepted d) (printa
             ((marked_follows (is_other m.symbol) d (accepted_fit d accepted printable)).same m.symbol)
             (both.same m.symbol (public_itself d m found));
       }
+
+-- there is one
+pub copies_once : (d : Design) (s : Name) (c e : Design) → IsFlatCopy d s c → IsFlatCopy d s e → c ≡ e
+copies_once d s c e (f, flat, is) (g, also, same) =
+    is ∙ ap lowered_aggregates (without_dead_once (flat_design (only_public d s)) f g flat also) ∙ sym same

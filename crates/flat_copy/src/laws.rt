@@ -22,3 +22,8 @@ pub fn privacy_decides_nothing()
 pub fn flat_copies_keep()
     ensures { (d e : Design) (n : ℕ) (m : Module) → IsAccepted d → Printable d → slice_get d n ≡ Some m → IsFlatCopy d m.symbol e → KeepsFlat d m e }
 {}
+
+/// Does nothing. Its clause says that a module has one flat copy.
+pub fn flat_copies_are_one()
+    ensures { (d : Design) (s : Name) (c e : Design) → IsFlatCopy d s c → IsFlatCopy d s e → c ≡ e }
+{}

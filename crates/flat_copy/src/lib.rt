@@ -6,4 +6,4 @@
 pub mod copies;
 mod laws;
 
-pub use laws::{flat_copies_keep, privacy_decides_nothing};
+pub use laws::{flat_copies_are_one, flat_copies_keep, privacy_decides_nothing};
