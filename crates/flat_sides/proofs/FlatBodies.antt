@@ -1,4 +1,4 @@
--- What the operations of a flat module of an accepted design have: no instance, values for operands, their causes refused.
+-- What the operations of a plain or flat module of an accepted design have: no instance, values for operands, their causes refused.
 use Rattle.std.proofs.Common.{◌≡◌, refl, sym, ap, ◌∙◌, ℕ, zero, suc, true, false, cond, is_some, List, [], ◌∷◌, map, slice_get, Option, Some, None, inl, inr}
 use Rattle.wiring.specs.Wiring.{In}
 use Rattle.hw_model.specs.Types.{Name, HwType}
@@ -15,7 +15,7 @@ use Rattle.op_verifier.proofs.AcceptedDesigns.{no_fault, accepted_finite, accept
 use Rattle.op_verifier.proofs.NoCauseAlone.{NoCauseAlone, no_cause_alone}
 use Rattle.op_verifier.proofs.SoundDesigns.{sound_design}
 use Rattle.op_verifier.proofs.Unrefused.{NoOpCause, no_op_cause, IsUnrefused, ops_unrefused, module_unrefused}
-use Rattle.flat_sides.specs.Sides.{IsFlat}
+use Rattle.flat_sides.specs.Sides.{IsPlain, IsFlat}
 use Rattle.flat_sides.proofs.ScalarValues.{value_scalar}
 use Rattle.flat_sides.proofs.PlainKinds.{AreScalar}
 
@@ -64,46 +64,74 @@ typed_there ports os (y ∷ rs) (t ∷ ts) same r (inl is) = let first : type_in
 typed_there ports os (y ∷ rs) (t ∷ ts) same r (inr here) =
     typed_there ports os rs ts (let rest : map (type_in ports os) rs ≡ map (λ (u : HwType). Some u) ts = cc in rest) r here
 
--- ---- a flat module
+-- ---- a plain module
 
-module _ (d : Design) (top : Name) (m : Module) (order : List ℕ) (flat : IsFlat d top m order) where
-  pub flat_sound : Sound d
-  flat_sound = sound_design d (no_fault d flat.accepted)
+module _ (d : Design) (top : Name) (m : Module) (plain : IsPlain d top m) where
+  pub plain_sound : Sound d
+  plain_sound = sound_design d (no_fault d plain.accepted)
 
-  pub flat_body : SoundBody d m.ports m.body
-  flat_body = flat_sound top m flat.found
+  pub plain_body : SoundBody d m.ports m.body
+  plain_body = plain_sound top m plain.found
 
-  pub flat_heights : HasHeights d top
-  flat_heights = heights_from_no_cycle d top (accepted_finite d flat.accepted) (accepted_acyclic d flat.accepted top)
-
-  pub no_callee : (s : Name) → In s (callee_symbols m.body) → ⊥
-  no_callee = none_called m.body flat.alone
+  pub plain_heights : HasHeights d top
+  plain_heights = heights_from_no_cycle d top (accepted_finite d plain.accepted) (accepted_acyclic d plain.accepted top)
 
   module _ (j : ℕ) (o : Op) (at : slice_get m.body j ≡ Some o) where
-    pub no_instance : instance_in o.kind ≡ None
-    no_instance = none_before m.body flat.alone j o at
+    pub plain_no_instance : instance_in o.kind ≡ None
+    plain_no_instance = none_before m.body plain.alone j o at
 
     unrefused : IsUnrefused d m.ports m.body o
-    unrefused = ops_unrefused d m.ports m.body m.body (module_unrefused d (no_fault d flat.accepted) top m flat.found).body j o at
+    unrefused = ops_unrefused d m.ports m.body m.body (module_unrefused d (no_fault d plain.accepted) top m plain.found).body j o at
 
     causes : NoOpCause d m.ports m.body unrefused.last o
     causes = no_op_cause d m.ports m.body unrefused.last o unrefused.none
 
-    pub no_own_cause : NoCauseAlone m.ports m.body o
-    no_own_cause = no_cause_alone m.ports m.body o causes.alone
+    pub plain_no_cause : NoCauseAlone m.ports m.body o
+    plain_no_cause = no_cause_alone m.ports m.body o causes.alone
 
-    pub operand_there : (r : Ref) → In r o.operands → IsThere m.ports m.body r
-    operand_there = defined_there m.ports m.body o.operands causes.defined
+    pub plain_operand_there : (r : Ref) → In r o.operands → IsThere m.ports m.body r
+    plain_operand_there = defined_there m.ports m.body o.operands causes.defined
 
     -- an asynchronous reset is an input, resets to a constant
+    pub plain_reset_known : has_other_reset m.ports m.body (async_reset_in o) ≡ false
+    plain_reset_known = causes.reset
+
+  -- the types of values have no parts
+  pub plain_scalar : (rs : List Ref) → AreScalar (map (type_in m.ports m.body) rs)
+  plain_scalar [] t here = absurd here
+  plain_scalar (r ∷ rs) t (inl same) = value_scalar m plain.scalar r t (sym same)
+  plain_scalar (r ∷ rs) t (inr here) = plain_scalar rs t here
+
+-- ---- a flat module
+
+module _ (d : Design) (top : Name) (m : Module) (order : List ℕ) (flat : IsFlat d top m order) where
+  pub flat_sound : Sound d
+  flat_sound = plain_sound d top m flat.plain
+
+  pub flat_body : SoundBody d m.ports m.body
+  flat_body = plain_body d top m flat.plain
+
+  pub flat_heights : HasHeights d top
+  flat_heights = plain_heights d top m flat.plain
+
+  pub no_callee : (s : Name) → In s (callee_symbols m.body) → ⊥
+  no_callee = none_called m.body flat.plain.alone
+
+  module _ (j : ℕ) (o : Op) (at : slice_get m.body j ≡ Some o) where
+    pub no_instance : instance_in o.kind ≡ None
+    no_instance = plain_no_instance d top m flat.plain j o at
+
+    pub no_own_cause : NoCauseAlone m.ports m.body o
+    no_own_cause = plain_no_cause d top m flat.plain j o at
+
+    pub operand_there : (r : Ref) → In r o.operands → IsThere m.ports m.body r
+    operand_there = plain_operand_there d top m flat.plain j o at
+
     pub reset_known : has_other_reset m.ports m.body (async_reset_in o) ≡ false
-    reset_known = causes.reset
+    reset_known = plain_reset_known d top m flat.plain j o at
 
   pub output_there : (r : Ref) → In r (output_refs m.body) → IsThere m.ports m.body r
   output_there = typed_there m.ports m.body (output_refs m.body) (output_types m.ports) flat_body.outputs
 
-  -- the types of values have no parts
   pub values_scalar : (rs : List Ref) → AreScalar (map (type_in m.ports m.body) rs)
-  values_scalar [] t here = absurd here
-  values_scalar (r ∷ rs) t (inl same) = value_scalar m flat.scalar r t (sym same)
-  values_scalar (r ∷ rs) t (inr here) = values_scalar rs t here
+  values_scalar = plain_scalar d top m flat.plain

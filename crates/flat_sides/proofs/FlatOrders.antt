@@ -156,4 +156,4 @@ module _ (d : Design) (top : Name) (m : Module) (order : List ℕ) (flat : IsFla
   value_among undefined (t, typed) = cc
 
   pub outputs_among : OutputsAreAmong d top (flat_nets m.ports m.body order)
-  outputs_among r here = value_among r (output_there d top m order flat r (subst (λ y. In r (outputs_of y)) flat.found here))
+  outputs_among r here = value_among r (output_there d top m order flat r (subst (λ y. In r (outputs_of y)) flat.plain.found here))

@@ -65,7 +65,7 @@ module _ (d : Design) (top : Name) (m : Module) (order : List ℕ) (flat : IsFla
   pub slot_of : (t : Slot) → In t (registers d top) → OfBody m.body t
   slot_of t here =
       of_body (module_registers (length d) d) m.body 0 (no_instance d top m order flat) t
-      (subst (λ o. In t (registers_of (module_registers (length d) d) [] o)) flat.found here)
+      (subst (λ o. In t (registers_of (module_registers (length d) d) [] o)) flat.plain.found here)
 
   module _ (i : ℕ) (o : Op) (at : slice_get m.body i ≡ Some o) (f : RegisterForm) (is : register_form o.kind ≡ Some f) where
     type_of : (t : HwType) × (result_type o 0 ≡ Some t)

@@ -33,12 +33,12 @@ module _ (d : Design) (top : Name) (m : Module) (order : List ℕ) (flat : IsFla
   -- the operation makes its result of its operands: it is of a plain kind, and short where it shifts
   pub plain_kind : IsPlain o.kind
   plain_kind =
-      made_plain _ _ _ _ o.types (map (λ (y : OpResult). y.type) o.results) (map (type_in m.ports m.body) o.operands) t k listed (made_scalar m flat.scalar i k o t at typed)
+      made_plain _ _ _ _ o.types (map (λ (y : OpResult). y.type) o.results) (map (type_in m.ports m.body) o.operands) t k listed (made_scalar m flat.plain.scalar i k o t at typed)
       (values_scalar d top m order flat o.operands) o.kind r n u (no_own_cause d top m order flat i o at) own_fits
 
   short_kind : IsShort o.kind (width t)
   short_kind =
-      made_short _ _ _ _ o.types (map (λ (y : OpResult). y.type) o.results) (map (type_in m.ports m.body) o.operands) t k listed (made_scalar m flat.scalar i k o t at typed)
+      made_short _ _ _ _ o.types (map (λ (y : OpResult). y.type) o.results) (map (type_in m.ports m.body) o.operands) t k listed (made_scalar m flat.plain.scalar i k o t at typed)
       (values_scalar d top m order flat o.operands) o.kind (no_own_cause d top m order flat i o at)
 
 module _ (d : Design) (top : Name) (m : Module) (order : List ℕ) (flat : IsFlat d top m order)

@@ -18,7 +18,7 @@ use Rattle.hw_model.proofs.Sorts.{Sort, sort_of}
 use Rattle.hw_model.proofs.Sorts.Sort.{a_register, an_instance, an_output, a_made}
 use Rattle.ir_store.specs.ResultTypes.{result_count}
 use Rattle.op_verifier.proofs.NoCauseAlone.{result_number}
-use Rattle.flat_sides.specs.Sides.{flat_nets, side_of, IsFlat}
+use Rattle.flat_sides.specs.Sides.{flat_nets, side_of, IsPlain, IsFlat}
 use Rattle.flat_sides.proofs.FlatBodies.{no_callee, no_instance, no_own_cause}
 
 -- ---- inputs
@@ -56,23 +56,28 @@ module _ (inner : Name → ℕ) (os : List Op) (i : ℕ) (o : Op) (at : slice_ge
 
 -- ---- nets
 
+-- a result of a plain module
+pub plain_result : (d : Design) (top : Name) (m : Module) → IsPlain d top m → (i k : ℕ)
+    → source d top (net [] (result i k)) ≡ result_in d top [] m.body i k (slice_get m.body i)
+plain_result d top m plain i k = result_here d top [] i k ∙ ap (λ o. result_in d top [] (body_of o) i k (slice_get (body_of o) i)) plain.found
+
 module _ (d : Design) (top : Name) (m : Module) (order : List ℕ) (flat : IsFlat d top m order) where
   -- what holds of the nets by ports and body holds of the side's
   pub of_side : (P : List Net → Type 0) → P (flat_nets m.ports m.body order) → P (side_of d top order).nets
-  of_side P have = subst (λ o. P (flat_nets (ports_of o) (body_of o) order)) (sym flat.found) have
+  of_side P have = subst (λ o. P (flat_nets (ports_of o) (body_of o) order)) (sym flat.plain.found) have
 
   pub port_from : (j : ℕ) → source d top (net [] (port j)) ≡ input_of (slice_get m.ports j) (input_width (take j m.ports))
   port_from j =
       input_ports j (find_module d top)
-      ∙ ap (λ o. input_of (slice_get (ports_of o) j) (input_width (take j (ports_of o)))) flat.found
+      ∙ ap (λ o. input_of (slice_get (ports_of o) j) (input_width (take j (ports_of o)))) flat.plain.found
 
   pub result_from : (i k : ℕ) → source d top (net [] (result i k)) ≡ result_in d top [] m.body i k (slice_get m.body i)
-  result_from i k = result_here d top [] i k ∙ ap (λ o. result_in d top [] (body_of o) i k (slice_get (body_of o) i)) flat.found
+  result_from = plain_result d top m flat.plain
 
   -- the content of the module, by its body
   state_is : state d top ≡ body_state (state d) m.body
   state_is =
-      ap (state_of (module_state (length d) d)) flat.found
+      ap (state_of (module_state (length d) d)) flat.plain.found
       ∙ body_state_same (module_state (length d) d) (state d) m.body (λ s here. absurd (no_callee d top m order flat s here))
 
   module _ (i : ℕ) (o : Op) (at : slice_get m.body i ≡ Some o) where

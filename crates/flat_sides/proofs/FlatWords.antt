@@ -19,7 +19,7 @@ module _ (d : Design) (top : Name) (m : Module) (order : List ℕ) (flat : IsFla
     (x q : Word) (ρ : Net → Word) (settled : Settled d top x q ρ) where
   word_has : (r : Ref) → HasWidth (type_in m.ports m.body r) (ρ (net [] r))
   word_has r =
-      subst (λ o. HasWidth (type_in (ports_of o) (body_of o) r) (ρ (net [] r))) flat.found
+      subst (λ o. HasWidth (type_in (ports_of o) (body_of o) r) (ρ (net [] r))) flat.plain.found
       (net_widths d top (flat_sound d top m order flat) x q ρ (flat_heights d top m order flat) settled (net [] r))
 
   pub words_have : (rs : List Ref) → HaveWidths (map (type_in m.ports m.body) rs) (map ρ (map (net []) rs))
@@ -46,7 +46,7 @@ module _ (d : Design) (top : Name) (m : Module) (order : List ℕ) (flat : IsFla
 
   pub outputs_width : length (outputs d top ρ) ≡ output_bits m
   outputs_width =
-      ap (λ o. length (outputs_in o)) flat.found
+      ap (λ o. length (outputs_in o)) flat.plain.found
       ∙ joined_length (map (λ r. ρ (net [] r)) (output_refs m.body))
       ∙ outputs_total (output_refs m.body) (output_types m.ports) (flat_body d top m order flat).outputs
     where

@@ -11,7 +11,7 @@ use Rattle.hw_model.specs.Kinds.Literal.{parts as literal_parts}
 use Rattle.hw_model.specs.Kinds.ArrayOp.{array_create, array_concat, array_get, array_slice, array_inject}
 use Rattle.hw_model.specs.Kinds.StructOp.{struct_create, struct_extract, struct_inject, struct_explode}
 use Rattle.hw_model.specs.Kinds.Kind.{shift, aggregate_constant, on_array, on_struct, instance, output, register, async_firreg}
-use Rattle.hw_model.specs.Design.{instance_in, register_form, is_output_kind}
+use Rattle.hw_model.specs.Design.{RegisterForm, instance_in, register_form, is_output_kind}
 use Rattle.hw_model.specs.Sound.{Fits}
 use Rattle.aggregate_laws.specs.Aggregates.{is_scalar}
 use Rattle.ir_store.specs.ResultTypes.{first_type, result_type, result_types}
@@ -51,6 +51,15 @@ short (int w) scalar inside =
 short clock scalar inside = omega arith
 short (array n t) scalar inside = cc
 short (struct fs) scalar inside = cc
+
+-- a type without parts is of a word of 1 to 128 bits
+pub word : (t : HwType) → is_scalar t ≡ true → is_outside t ≡ false → (1 ≤ width t) × (width t ≤ 128)
+unfolding is_outside
+word (int zero) scalar inside = cc
+word (int (suc w)) scalar inside = (omega arith, short (int (suc w)) scalar inside)
+word clock scalar inside = (omega arith, omega arith)
+word (array n t) scalar inside = cc
+word (struct fs) scalar inside = cc
 
 no_literal : {A : Type 0} (ls : Literals) (t : HwType) → is_scalar t ≡ true → literal_differs (literal_parts ls) t ≡ false → A
 no_literal ls (int w) scalar same = cc
@@ -96,3 +105,10 @@ module _ (named n : ℕ) (ys : List (Option HwType)) (is_known : Bool) (ts rs : 
       let first : first_type ts ≡ Some t = first_written (first_type ts) rs k t (settles (shift s) ts rs own) there in
       short t scalar (first_inside ts t first own.written)
   made_short kind own = tt
+
+  -- what a register holds is a word
+  pub made_held : (kind : Kind) (f : RegisterForm) → register_form kind ≡ Some f → NoOwnCause kind ts rs named n ys is_known → (1 ≤ width t) × (width t ≤ 128)
+  unfolding result_types result_type
+  made_held (register g x) f is own = word t scalar (first_inside ts t (first_written (first_type ts) rs k t (settles (register g x) ts rs own) there) own.written)
+  made_held async_firreg f is own = word t scalar (first_inside ts t (first_written (first_type ts) rs k t (settles async_firreg ts rs own) there) own.written)
+  made_held kind f is own = cc

@@ -35,13 +35,16 @@ side_of d top order = record {
   nets = flat_nets (ports_of (find_module d top)) (body_of (find_module d top)) order;
 }
 
--- the module of a symbol of an accepted design has no instances and no value of an aggregate type, and its operations stand
--- in that order
-pub record IsFlat (d : Design) (top : Name) (m : Module) (order : List ℕ) : Type 0 where
+-- the module of a symbol of an accepted design has no instances and no value of an aggregate type
+pub record IsPlain (d : Design) (top : Name) (m : Module) : Type 0 where
   pub accepted : IsAccepted d
   pub found : find_module d top ≡ Some m
   pub alone : instances m.body ≡ []
   pub scalar : has_aggregate_value m ≡ false
+
+-- so it is, and its operations stand in that order
+pub record IsFlat (d : Design) (top : Name) (m : Module) (order : List ℕ) : Type 0 where
+  pub plain : IsPlain d top m
   pub stands : IsOrder m.body order
 
 -- two modules have as many bits of inputs and of content, and outputs of the same types

@@ -35,6 +35,18 @@ part_none os n size = record {
 
 -- ---- at last
 
+number_within : (n start v : ℕ) → In v (numbers_from start n) → v < start + n
+number_within zero start v here = absurd here
+number_within (suc n) start v (inl same) = omega (arith, same)
+number_within (suc n) start v (inr here) = let rest = number_within n (suc start) v here in omega (arith, rest)
+
+-- an order has positions alone
+pub within_order : (n : ℕ) (order : List ℕ) → IsPermutation (numbers_from 0 n) order → (v : ℕ) → In v order → v < n
+within_order n order all v here =
+    let at : v < 0 + n = number_within n 0 v
+    (In-from_Contains v (numbers_from 0 n) (Contains-permutation order (numbers_from 0 n) v (IsPermutation-sym _ _ all) (Contains-from_In v order here))) in
+    omega (arith, at)
+
 module _ (os : List Op) (placed : List Bool) (count : length placed ≡ length os) (wait : (v : ℕ) → v < length os → MustWait os placed v) where
   ready_of : (rs : List Ref) (seen : List ℕ) → ((v : ℕ) → In v seen → has_mark placed v ≡ true) → ((r : Ref) → In r rs → IsSeen seen r) → list_all (is_placed placed) rs ≡ true
   ready_of [] seen marked each = refl
@@ -80,20 +92,9 @@ module _ (os : List Op) (placed : List Bool) (count : length placed ≡ length o
       go (inl same) rest = ap (has_mark placed) same ∙ first
       go (inr there) rest = rest v there
 
-  number_within : (n start v : ℕ) → In v (numbers_from start n) → v < start + n
-  number_within zero start v here = absurd here
-  number_within (suc n) start v (inl same) = omega (arith, same)
-  number_within (suc n) start v (inr here) = let rest = number_within n (suc start) v here in omega (arith, rest)
-
   pub all_placed : HasOrder os → (v : ℕ) → v < length os → has_mark placed v ≡ true
   all_placed (order, is) v below =
-      all_placed_of order [] (λ w here. let at : w < 0 + length os = number_within (length os) 0 w (back w here) in omega (arith, at)) (λ w here. absurd here) is.stand v
-      (is_in_order (length os) order is.all v below)
-    where
-      back : (w : ℕ) → In w order → In w (numbers_from 0 (length os))
-      back w here =
-          In-from_Contains w (numbers_from 0 (length os))
-          (Contains-permutation order (numbers_from 0 (length os)) w (IsPermutation-sym _ _ is.all) (Contains-from_In w order here))
+      all_placed_of order [] (within_order (length os) order is.all) (λ w here. absurd here) is.stand v (is_in_order (length os) order is.all v below)
 
 all_open : (ms : List Bool) (start : ℕ) → ((v : ℕ) → v < length ms → has_mark ms v ≡ true) → open_from start ms ≡ []
 all_open [] start marked = refl

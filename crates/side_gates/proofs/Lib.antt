@@ -5,3 +5,11 @@ pub mod Building
 pub mod Loading
 pub mod Linking
 pub mod LinkedRegisters
+pub mod RankedOrders
+pub mod SingleResults
+pub mod PlainOrders
+pub mod SameBuildings
+pub mod LinkedResets
+pub mod LinkedSteps
+pub mod FittingRows
+pub mod StepMade

@@ -22,11 +22,11 @@ slots_are inner u (o ∷ os) none = go (is_register o) refl (slots_are inner u o
 module _ (d : Design) (top : Name) (m : Module) (order : List ℕ) (flat : IsFlat d top m order) where
   pub registers_are : registers d top ≡ slots_of m.body
   registers_are =
-      ap (registers_of (module_registers (length d) d) []) flat.found
+      ap (registers_of (module_registers (length d) d) []) flat.plain.found
       ∙ slots_are (module_registers (length d) d) 0 m.body (λ i o at. no_instance d top m order flat i o at)
 
   -- and they hold so many bits
   pub state_is_content : state d top ≡ content_width m.body
   state_is_content =
-      ap (state_of (module_state (length d) d)) flat.found
+      ap (state_of (module_state (length d) d)) flat.plain.found
       ∙ content_is (module_state (length d) d) m.body (λ i o at. no_instance d top m order flat i o at)

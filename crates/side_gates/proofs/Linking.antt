@@ -216,7 +216,7 @@ abbrev pub word_of_port : ℕ → Option Port → List Signal
 word_of_port start None = []
 word_of_port start (Some p) = port_word start p
 
-port_words_at : (ps : List Port) (start k : ℕ) → slice_index_or (port_words start ps) k [] ≡ word_of_port (start + input_width (take k ps)) (slice_get ps k)
+pub port_words_at : (ps : List Port) (start k : ℕ) → slice_index_or (port_words start ps) k [] ≡ word_of_port (start + input_width (take k ps)) (slice_get ps k)
 port_words_at [] start k = refl
 port_words_at (p ∷ ps) start zero = let same : start ≡ start + 0 = omega arith in ap (λ (n : ℕ). port_word n p) same
 port_words_at (p ∷ ps) start (suc k) = port_words_at ps (after_port start p) k ∙ ap (λ (n : ℕ). word_of_port n (slice_get ps k)) (go p.is_output)

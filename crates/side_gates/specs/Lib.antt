@@ -1,3 +1,4 @@
 pub mod Placing
 pub mod FlatRows
 pub mod FlatSteps
+pub mod Stepped

@@ -6,5 +6,6 @@ pub mod order;
 pub mod places;
 pub mod registers;
 pub mod sides;
+pub mod stepped;
 pub mod values;
 pub mod widths;
