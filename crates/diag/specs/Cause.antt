@@ -1,7 +1,7 @@
 -- The causes of refusals: their codes and their words.
 use Rattle.std.specs.Prelude.{ℕ, List, codes}
 use Rattle.diag.specs.declared.cause.Cause.{Cause}
-use Rattle.diag.specs.declared.cause.Cause.TheVariants.{BadByte, Unexpected, UnknownOperation, OutsideProfile, NumberTooLarge, TooDeep, TooLong, Redefined, Undefined, TypeMismatch, WidthLimit, ConstantRange, ExtractRange, ReplicateMultiple, ConcatWidth, Divisor, IndexWidth, Field, BitcastWidth, ClockOperand, Arity, OutputMismatch, DuplicateSymbol, UnknownModule, InstancePorts, DuplicatePort, MissingOutput, RecursiveInstance, TooLarge, CombinationalCycle, AsyncReset, NoSuchModule, PortsDiffer, HasRegisters, TooManyGates}
+use Rattle.diag.specs.declared.cause.Cause.TheVariants.{BadByte, Unexpected, UnknownOperation, OutsideProfile, NumberTooLarge, TooDeep, TooLong, Redefined, Undefined, TypeMismatch, WidthLimit, ConstantRange, ExtractRange, ReplicateMultiple, ConcatWidth, Divisor, IndexWidth, Field, BitcastWidth, ClockOperand, Arity, OutputMismatch, DuplicateSymbol, UnknownModule, InstancePorts, DuplicatePort, MissingOutput, RecursiveInstance, TooLarge, CombinationalCycle, AsyncReset, NoSuchModule, PortsDiffer, RegistersDiffer, TooManyGates}
 
 -- the code of a cause: S for texts, V for designs, L for comparisons
 unfoldable pub code_of : Cause → List ℕ
@@ -38,7 +38,7 @@ code_of CombinationalCycle = codes "V23"
 code_of AsyncReset = codes "V24"
 code_of NoSuchModule = codes "L1"
 code_of PortsDiffer = codes "L2"
-code_of HasRegisters = codes "L3"
+code_of RegistersDiffer = codes "L3"
 code_of TooManyGates = codes "L4"
 
 -- what a cause says
@@ -76,5 +76,5 @@ text_of CombinationalCycle = codes "combinational cycle"
 text_of AsyncReset = codes "asynchronous reset needs an input port and a constant"
 text_of NoSuchModule = codes "no such module"
 text_of PortsDiffer = codes "ports differ"
-text_of HasRegisters = codes "module has registers"
+text_of RegistersDiffer = codes "registers differ"
 text_of TooManyGates = codes "too many gates"

@@ -72,8 +72,8 @@ pub enum Cause {
     NoSuchModule,
     /// The modules to compare differ in the types of their ports.
     PortsDiffer,
-    /// A module to compare has registers.
-    HasRegisters,
+    /// The modules to compare differ in the widths of their registers.
+    RegistersDiffer,
     /// The comparison is above the limit on gates.
     TooManyGates,
 }
@@ -118,7 +118,7 @@ impl Cause {
             Cause::AsyncReset => b"V24",
             Cause::NoSuchModule => b"L1",
             Cause::PortsDiffer => b"L2",
-            Cause::HasRegisters => b"L3",
+            Cause::RegistersDiffer => b"L3",
             Cause::TooManyGates => b"L4",
         }
     }
@@ -162,7 +162,7 @@ impl Cause {
             Cause::AsyncReset => b"asynchronous reset needs an input port and a constant",
             Cause::NoSuchModule => b"no such module",
             Cause::PortsDiffer => b"ports differ",
-            Cause::HasRegisters => b"module has registers",
+            Cause::RegistersDiffer => b"registers differ",
             Cause::TooManyGates => b"too many gates",
         }
     }

@@ -15,5 +15,5 @@ mod template;
 pub mod value_names;
 pub mod wires;
 
-pub use literals::{high_of, push_decimal};
+pub use literals::{high_of, push_decimal, push_literal};
 pub use nesting::hint_in;

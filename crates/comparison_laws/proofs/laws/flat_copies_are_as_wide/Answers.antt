@@ -1,0 +1,10 @@
+use Rattle.comparison_laws.proofs.CopyWidths.{kept_inputs, kept_outputs, kept_widths, kept_state}
+use Rattle.comparison_laws.proofs.laws.flat_copies_are_as_wide.Goals as goal
+
+pub returns : goal.returns
+returns c = record {
+  inputs = kept_inputs;
+  outputs = kept_outputs;
+  held = kept_widths;
+  size = kept_state;
+}

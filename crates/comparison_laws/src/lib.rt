@@ -1,0 +1,4 @@
+//! What the comparison of two modules by a formula means.
+#![tactic(auto)]
+
+pub mod laws;

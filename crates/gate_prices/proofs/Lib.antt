@@ -1,0 +1,4 @@
+pub mod Sums
+pub mod Values
+pub mod ResultPrices
+pub mod Bodies

@@ -1,0 +1,5 @@
+pub mod Unrefused
+mod CutLeaves
+mod LeafLists
+mod Deciding
+pub mod Named

@@ -1,0 +1,10 @@
+use Rattle.std.proofs.Common.{◌≡◌, ◌++◌, drop}
+use Rattle.ir_store.specs.Bodies.{ops_of}
+use Rattle.ir_store.specs.Numbered.{ops_by_position}
+use Rattle.lec_tool.specs.LeafNames.{register_names}
+use Rattle.lec_tool.proofs.names.push_register_names.Given as goal
+
+abbrev pub invariant-loop-position : goal.invariant-loop-position
+invariant-loop-position l =
+    l.names.items ++ register_names (drop l.position (ops_by_position (ops_of l.places.body.now)))
+    ≡ l.fn.names.items ++ register_names (ops_by_position (ops_of l.places.body.now))

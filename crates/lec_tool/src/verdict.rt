@@ -1,0 +1,54 @@
+//! Verdicts.
+ghost use Rattle.std.specs.Prelude.{◌≡◌, ◌≤◌, IfOk, IfErr};
+ghost use Rattle.ir_store.specs.Designs.{design_of};
+ghost use Rattle.miter_blast.specs.Comparisons.{IsRefusedComparison};
+ghost use Rattle.lec_tool.specs.Verdicts.{IsVerdict};
+
+use cdcl_proof::solve::{Answer, solve};
+use comparison_laws::laws::{formulas_are_differences, unsatisfiable_formulas_agree};
+use miter_blast::comparing::miter;
+use miter_blast::fail::MiterFail;
+use miter_blast::input::Input;
+use mlir_printer::laws::what_is_canonical_is_printable;
+use op_verifier::Verified;
+use resolution_proof::log::Log;
+use std::alloc::Global;
+
+/// What is found of two modules.
+#[derive(Debug, Drop)]
+pub enum Verdict {
+    /// They agree: this log refutes that they differ.
+    Same(Log),
+    /// They differ in a step with these inputs from this content.
+    Differ(Input),
+    /// So many clauses were learnt without an answer.
+    Unknown(Log),
+}
+
+/// The verdict on the module `a` of one design and the module `b` of another (CIRCT: `circt-lec`): whether they give the same
+/// outputs, and leave the same content, in each step from each content, where each register whose asynchronous reset is 1
+/// takes its value first. It learns at most `budget` clauses. Modules are refused as in [`miter`].
+pub fn lec(
+    alloc: Global,
+    left: &Verified,
+    a: &[u8],
+    right: &Verified,
+    b: &[u8],
+    budget: u64,
+) -> Result<Verdict, MiterFail>
+    requires { 1 ≤ budget }
+    ensures verdict { IfOk result (IsVerdict (design_of left.now.design) a.now (design_of right.now.design) b.now budget) }
+    ensures refused { IfErr result (IsRefusedComparison (design_of left.now.design) a.now (design_of right.now.design) b.now) }
+{
+    what_is_canonical_is_printable();
+    formulas_are_differences();
+    unsatisfiable_formulas_agree();
+    let comparison = miter(alloc, left, a, right, b)?;
+    match solve(alloc, comparison.cnf(), budget)? {
+        Answer::Refuted(log) => Ok(Verdict::Same(log)),
+        Answer::Satisfied(assignment) => {
+            Ok(Verdict::Differ(comparison.input_of(alloc, &assignment)?))
+        }
+        Answer::Spent(log) => Ok(Verdict::Unknown(log)),
+    }
+}

@@ -1,0 +1,10 @@
+pub mod Finding
+pub mod WordNumbers
+pub mod SamePorts
+pub mod Splits
+pub mod HeldWidths
+pub mod LeafWords
+pub mod SteppedWords
+pub mod Differences
+pub mod Formulas
+pub mod Compared

@@ -1,0 +1,7 @@
+pub mod Leaves
+pub mod Cuts
+pub mod MiterForms
+pub mod Pairs
+pub mod Building
+pub mod Comparisons
+pub mod Formulas

@@ -1,0 +1,62 @@
+//! The comparison of two modules, or why they are not compared.
+ghost use Rattle.std.specs.Prelude.{◌≡◌, IfOk, IfErr};
+ghost use Rattle.ir_store.specs.Designs.{design_of};
+ghost use Rattle.miter_blast.specs.Comparisons.{IsComparison, IsRefusedComparison};
+ghost use Rattle.miter_blast.specs.Pairs.{Tells};
+
+use crate::building::{built, price_of};
+use crate::fail::MiterFail;
+use crate::miter::Miter;
+use crate::pair::{at_module, module_in, pair_of};
+use crate::widths::register_widths;
+use diag::cause::Cause;
+use flat_copy::copies::flat_copy;
+use op_verifier::Verified;
+use std::alloc::Global;
+
+/// How many gates a comparison may take.
+const MOST_GATES: u64 = 1 << 28;
+
+/// The comparison of the module `a` of one design with the module `b` of another (CIRCT: `circt-lec`): of copies of both,
+/// flat and without aggregates. They are refused for the first of these causes: a module is not there, at the beginning of its
+/// text; types of inputs in order, or of outputs, differ, at the second module; the widths of the leaves of their registers
+/// differ, there; the comparison may take more than 2^28 gates, at the first module. The second design counts as file 1.
+/// No gate is made before that is known. Linear in the copies and their gates.
+pub fn miter(
+    alloc: Global,
+    left: &Verified,
+    a: &[u8],
+    right: &Verified,
+    b: &[u8],
+) -> Result<Miter, MiterFail>
+    ensures ok { IfOk result (IsComparison (design_of left.now.design) a.now (design_of right.now.design) b.now) }
+    ensures refused { IfErr result (IsRefusedComparison (design_of left.now.design) a.now (design_of right.now.design) b.now) }
+{
+    let pair = match pair_of(alloc, left, a, right, b) {
+        Ok(pair) => pair,
+        Err(fail) => return Err(fail),
+    };
+    let first = flat_copy(alloc, left, pair.left)?;
+    let second = flat_copy(alloc, right, pair.right)?;
+    let held = register_widths(alloc, module_in(&first, 0))?;
+    let held_too = register_widths(alloc, module_in(&second, 0))?;
+    if !are_same(held.as_slice(), held_too.as_slice()) {
+        let place = module_in(right, pair.right).place;
+        return Err(MiterFail::Refused(at_module(1, place, Cause::RegistersDiffer)));
+    }
+    if price_of(alloc, &first, &second)? > MOST_GATES {
+        let place = module_in(left, pair.left).place;
+        return Err(MiterFail::Refused(at_module(0, place, Cause::TooManyGates)));
+    }
+    match built(alloc, &first, &second, held) {
+        Ok(miter) => Ok(miter),
+        Err(_) => Err(MiterFail::NoMemory),
+    }
+}
+
+// Whether two lists of widths are the same.
+fn are_same(held: &[u32], held_too: &[u32]) -> bool
+    ensures { Tells result (held.now ≡ held_too.now) }
+{
+    held == held_too
+}
