@@ -19,3 +19,4 @@ pub mod LeafPortNames
 pub mod Unaggregated
 pub mod ScalarRows
 pub mod LoweringLaw
+pub use Rattle.aggregate_accepted.proofs.CanonicalAgain

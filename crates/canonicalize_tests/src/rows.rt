@@ -1,8 +1,8 @@
 //! Runs of `opt` with a pass on the rows of tables, each a text and the text that the pass makes of it.
+use circt_top::Open;
 use circt_top::run::run_circt;
 use io_edge::memory_files::{MemoryFile, MemoryFiles};
 use io_edge::memory_sink::MemorySink;
-use pass_manager::gate::Open;
 use std::alloc::{AllocError, AllocGlobal, Global};
 use std::thread::Threads;
 

@@ -6,11 +6,10 @@ ghost use Rattle.circt_top.specs.Ends.{end_of, IsStop};
 
 use circt_top::run::run_circt;
 use circt_top::status::Status;
-use circt_top::stop;
+use circt_top::{Open, stop};
 use command_line::usage::UsageKind;
 use io_edge::real_files::RealFiles;
 use io_edge::real_sink::RealSink;
-use pass_manager::gate::Open;
 use std::env;
 use std::io::ErrorKind;
 use std::process::ExitCode;

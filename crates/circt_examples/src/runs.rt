@@ -1,8 +1,8 @@
 //! Runs of the program on a text.
+use circt_top::Open;
 use circt_top::run::run_circt;
 use io_edge::memory_files::{MemoryFile, MemoryFiles};
 use io_edge::memory_sink::MemorySink;
-use pass_manager::gate::Open;
 use std::alloc::{AllocError, Global};
 use std::thread::Threads;
 

@@ -1,5 +1,6 @@
 -- What is known of the told inputs from what was read of them: at most one byte more than a text may have.
-use Rattle.std.proofs.Common.{◌≡◌, ℕ, ◌<◌, ◌≤◌, inl, inr, min, Bool, true, false, cond, nat_lt, List, [], ◌∷◌, length, take, Some, None, Result, Ok, Err, refl, sym, ◌∙◌, ap, subst, arith, length-take, take_all, option_map, lt-ltb, ltb-true, ltb-false}
+use Rattle.std.proofs.Common.{◌≡◌, ℕ, ◌-◌, ◌<◌, ◌≤◌, inl, inr, min, Bool, true, false, cond, nat_lt, List, [], ◌∷◌, length, take, Some, None, Result, Ok, Err, refl, sym, ◌∙◌, ap, subst, arith, length-take, take_all, option_map, lt-ltb, ltb-true, ltb-false}
+use Rattle.std.proofs.lemmas.List.{length-map}
 use Rattle.wiring.specs.Wiring.{In}
 use Rattle.hw_model.specs.Types.{Name}
 use Rattle.hw_model.specs.Design.{Design}
@@ -9,17 +10,21 @@ use Rattle.diag.specs.declared.refusal.OpName.TheVariants as op
 use Rattle.diag.specs.declared.cause.Cause.TheVariants.{TooLong}
 use Rattle.diag.specs.declared.refusal.Refusal.{Refusal}
 use Rattle.command_line.specs.Line.{Command, Work}
-use Rattle.command_line.specs.Line.Work.{mlir, mlir_pieces, verilog, generated_summary, generated_verilog}
+use Rattle.command_line.specs.Line.Work.{mlir, mlir_pieces, verilog, generated_summary, generated_verilog, comparison}
 use Rattle.mlir_syntax.specs.Stream.{stream_of, refusal}
 use Rattle.mlir_operations.specs.ModuleText.{file_text}
 use Rattle.mlir_reader.specs.Reading.{text_limit, read, design_read}
 use Rattle.pass_pipeline.specs.declared.pass.Pass.{Pass}
+use Rattle.bits_core.specs.Word.{Word}
+use Rattle.resolution_proof.specs.declared.log.Step.{Step}
 use Rattle.circt_top.specs.Accepting.{Accepted, IsRefused, IsRefusedIn, first_input, unread, unaccepted}
 use Rattle.circt_top.specs.Reprint.{IsReprint}
 use Rattle.circt_top.specs.PieceReprint.{IsReprintOfPieces, IsRefusedInPieces}
 use Rattle.circt_top.specs.Translation.{IsTranslation}
+use Rattle.circt_top.specs.Comparing.{last_input, last_number, AreTaken, in_pair, IsRefusedPair, IsSame, IsDifference, IsGivenUp}
+use Rattle.circt_top.specs.Comparing.IsRefusedPair.{first as of_first, last as of_last, pair as of_pair}
 use Rattle.circt_top.specs.Outcome.{Verdict, Answer, IsAnswer}
-use Rattle.circt_top.specs.Outcome.Verdict.{given}
+use Rattle.circt_top.specs.Outcome.Verdict.{given, different, unknown}
 use Rattle.circt_top.specs.Outcome.Answer.{prints, refuses}
 use Rattle.circt_top.specs.Inputs.{Told, read_limit, told_at, AreContents, IsMissing, IsOneMissing, AreReads, fronts}
 use Rattle.circt_top.specs.Answer.{IsMadeOf, IsRefusalOf}
@@ -120,37 +125,92 @@ refused_pieces_whole : (bytes source : List ℕ) (r : Refusal) → source ≡ ta
 refused_pieces_whole bytes source r front (inl is) = inl (long_read bytes source front is.0, is.1)
 refused_pieces_whole bytes source r front (inr is) = subst (λ s. IsRefusedInPieces s r) (whole_read bytes source front is.0) (inr is)
 
--- what is answered for fronts is answered for the whole
-answer_whole : (work : Work) (contents sources : List (List ℕ)) (x : Answer) → first_input sources ≡ take read_limit (first_input contents) → IsAnswer work sources x → IsAnswer work contents x
-answer_whole (mlir passes) contents sources (prints given text) front is =
-    reprint_whole passes (first_input contents) (first_input sources) text (read_whole (first_input contents) (first_input sources) front) is
-answer_whole (mlir passes) contents sources (refuses r) front is =
-    refused_in_again 0 (first_input contents) (first_input sources) r (read_whole (first_input contents) (first_input sources) front) is
-answer_whole (mlir_pieces passes) contents sources (prints given text) front is = pieces_whole passes (first_input contents) (first_input sources) text front is
-answer_whole (mlir_pieces passes) contents sources (refuses r) front is = refused_pieces_whole (first_input contents) (first_input sources) r front is
-answer_whole (verilog passes) contents sources (prints given text) front is =
-    translation_whole passes (first_input contents) (first_input sources) text (read_whole (first_input contents) (first_input sources) front) is
-answer_whole (verilog passes) contents sources (refuses r) front is =
-    refused_in_again 0 (first_input contents) (first_input sources) r (read_whole (first_input contents) (first_input sources) front) is
-answer_whole (generated_summary seed count) contents sources (prints given text) front is = is
-answer_whole (generated_summary seed count) contents sources (refuses r) front is = absurd is
-answer_whole (generated_verilog seed count) contents sources (prints given text) front is = is
-answer_whole (generated_verilog seed count) contents sources (refuses r) front is = absurd is
+-- ---- comparisons
 
 first_front : (contents : List (List ℕ)) → first_input (fronts contents) ≡ take read_limit (first_input contents)
 first_front [] = refl
 first_front (bytes ∷ contents) = refl
 
-inputs_front : (contents sources : List (List ℕ)) → sources ≡ fronts contents → first_input sources ≡ take read_limit (first_input contents)
-inputs_front contents sources e = ap first_input e ∙ first_front contents
+last_front : (contents : List (List ℕ)) → last_input (fronts contents) ≡ take read_limit (last_input contents)
+last_front [] = refl
+last_front (bytes ∷ []) = refl
+last_front (bytes ∷ more ∷ contents) = last_front (more ∷ contents)
+
+module _ (contents sources : List (List ℕ)) (are : sources ≡ fronts contents) where
+  inputs_front : first_input sources ≡ take read_limit (first_input contents)
+  inputs_front = ap first_input are ∙ first_front contents
+
+  -- what is read of the first input and of the last one
+  first_read : read (first_input sources) ≡ read (first_input contents)
+  first_read = read_whole (first_input contents) (first_input sources) inputs_front
+
+  last_read : read (last_input sources) ≡ read (last_input contents)
+  last_read = read_whole (last_input contents) (last_input sources) (ap last_input are ∙ last_front contents)
+
+  -- there are as many
+  as_many : last_number sources ≡ last_number contents
+  as_many = ap (λ n. n - 1) (ap length are ∙ length-map contents (take read_limit))
+
+  taken_whole : (d e : Design) → AreTaken sources d e → AreTaken contents d e
+  taken_whole d e taken = (
+    accepted_whole (first_input contents) (first_input sources) d first_read taken.0,
+    accepted_whole (last_input contents) (last_input sources) e last_read taken.1,
+  )
+
+  refused_pair_whole : (left right : Name) (r : Refusal) → IsRefusedPair left right sources r → IsRefusedPair left right contents r
+  refused_pair_whole left right r (of_first x is) = of_first x (refused_in_again 0 (first_input contents) (first_input sources) x first_read is)
+  refused_pair_whole left right r (of_last x d a is) =
+      of_last x d (accepted_whole (first_input contents) (first_input sources) d first_read a)
+      (subst (λ n. IsRefusedIn n (last_input contents) x) as_many (refused_in_again (last_number sources) (last_input contents) (last_input sources) x last_read is))
+  refused_pair_whole left right r (of_pair x y d e taken is file) =
+      of_pair x y d e (taken_whole d e taken) is (file ∙ ap (λ n. in_pair n y) as_many)
+
+  same_whole : (left right : Name) (text : List ℕ) → IsSame left right sources text → IsSame left right contents text
+  same_whole left right text is =
+      record { one = is.one; two = is.two; taken = taken_whole is.one is.two is.taken; log = is.log; agree = is.agree; is = is.is }
+
+  difference_whole : (left right : Name) (values : List Word) (text : List ℕ) → IsDifference left right sources values text → IsDifference left right contents values text
+  difference_whole left right values text is = record {
+    one = is.one;
+    two = is.two;
+    taken = taken_whole is.one is.two is.taken;
+    differ = is.differ;
+    names = is.names;
+    are_names = is.are_names;
+    is = is.is;
+  }
+
+  given_up_whole : (left right : Name) (limit : ℕ) (log : List Step) (text : List ℕ) → IsGivenUp left right limit sources log text → IsGivenUp left right limit contents log text
+  given_up_whole left right limit log text is =
+      record { one = is.one; two = is.two; taken = taken_whole is.one is.two is.taken; undecided = is.undecided; is = is.is }
+
+  -- ---- answers
+
+  -- what is answered for fronts is answered for the whole
+  answer_whole : (work : Work) (x : Answer) → IsAnswer work sources x → IsAnswer work contents x
+  answer_whole (mlir passes) (prints given text) is = reprint_whole passes (first_input contents) (first_input sources) text first_read is
+  answer_whole (mlir passes) (refuses r) is = refused_in_again 0 (first_input contents) (first_input sources) r first_read is
+  answer_whole (mlir_pieces passes) (prints given text) is = pieces_whole passes (first_input contents) (first_input sources) text inputs_front is
+  answer_whole (mlir_pieces passes) (refuses r) is = refused_pieces_whole (first_input contents) (first_input sources) r inputs_front is
+  answer_whole (verilog passes) (prints given text) is = translation_whole passes (first_input contents) (first_input sources) text first_read is
+  answer_whole (verilog passes) (refuses r) is = refused_in_again 0 (first_input contents) (first_input sources) r first_read is
+  answer_whole (generated_summary seed count) (prints given text) is = is
+  answer_whole (generated_summary seed count) (refuses r) is = absurd is
+  answer_whole (generated_verilog seed count) (prints given text) is = is
+  answer_whole (generated_verilog seed count) (refuses r) is = absurd is
+  answer_whole (comparison left right limit) (prints given text) is = same_whole left right text is
+  answer_whole (comparison left right limit) (prints (different values) text) is = difference_whole left right values text is
+  answer_whole (comparison left right limit) (prints (unknown log) text) is = given_up_whole left right limit log text is
+  answer_whole (comparison left right limit) (refuses r) is = refused_pair_whole left right r is
+  answer_whole _ (prints (different values) text) is = absurd is
+  answer_whole _ (prints (unknown log) text) is = absurd is
 
 -- what is refused of what was read is refused of the told files
 pub refused_whole : (c : Command) (told : Told) (sources : List (List ℕ)) (r : Refusal) → AreReads told c.inputs sources → IsAnswer c.work sources (refuses r) → IsRefusalOf c told r
-refused_whole c told sources r read is =
-    λ contents h. answer_whole c.work contents sources (refuses r) (inputs_front contents sources (fronts_read told c.inputs sources contents read h)) is
+refused_whole c told sources r read is = λ contents h. answer_whole contents sources (fronts_read told c.inputs sources contents read h) c.work (refuses r) is
 
 -- what is made of what was read is made of the told files
 pub made_whole : (c : Command) (told : Told) (sources : List (List ℕ)) (verdict : Verdict) (text : List ℕ) → AreReads told c.inputs sources → IsAnswer c.work sources (prints verdict text)
     → IsMadeOf c told verdict text
 made_whole c told sources verdict text read is =
-    λ contents h. answer_whole c.work contents sources (prints verdict text) (inputs_front contents sources (fronts_read told c.inputs sources contents read h)) is
+    λ contents h. answer_whole contents sources (fronts_read told c.inputs sources contents read h) c.work (prints verdict text) is

@@ -3,7 +3,7 @@ use Rattle.std.proofs.Common.{◌≡◌, ℕ, inl, inr, List, [], ◌∷◌, ari
 use Rattle.diag.specs.declared.refusal.Refusal.{Refusal}
 use Rattle.hw_model.specs.Design.{Design}
 use Rattle.command_line.specs.Line.{Work}
-use Rattle.command_line.specs.Line.Work.{mlir, mlir_pieces, verilog, generated_summary, generated_verilog}
+use Rattle.command_line.specs.Line.Work.{mlir, mlir_pieces, verilog, generated_summary, generated_verilog, comparison}
 use Rattle.mlir_reader.specs.Reading.{read}
 use Rattle.op_verifier.specs.Faults.{first_fault}
 use Rattle.op_verifier.specs.Verdict.{IsAccepted, IsRefusal, unfit, recursive, too_large, cyclic}
@@ -11,8 +11,15 @@ use Rattle.circt_top.specs.Accepting.{Accepted, IsRefused, IsRefusedIn, first_in
 use Rattle.pass_pipeline.specs.declared.pass.Pass.{Pass}
 use Rattle.circt_top.specs.Pieces.{Piece, pieces_of}
 use Rattle.circt_top.specs.PieceReprint.{AreReprints, IsFirstRefused, IsRefusedInPieces, AreAccepted, IsAcceptedInPieces}
+use Rattle.hw_model.specs.Types.{Name}
+use Rattle.lec_tool.specs.Comparison.{AreComparable}
+use Rattle.lec_tool.specs.Comparisons.{IsComparisonRefusal}
+use Rattle.lec_tool.specs.Verdicts.{IsAffordable}
+use Rattle.lec_tool.proofs.Unrefused.{compared_unrefused}
+use Rattle.circt_top.specs.Comparing.{last_input, last_number, AreTaken, IsRefusedPair, CanBeCompared}
+use Rattle.circt_top.specs.Comparing.IsRefusedPair.{first as of_first, last as of_last, pair as of_pair}
 use Rattle.circt_top.specs.Outcome.{Verdict, IsAnswer, IsAnswered}
-use Rattle.circt_top.specs.Outcome.Verdict.{given}
+use Rattle.circt_top.specs.Outcome.Verdict.{given, different, unknown}
 use Rattle.circt_top.specs.Outcome.Answer.{prints, refuses}
 
 -- what is accepted is not refused
@@ -50,6 +57,20 @@ printed_accepted passes [] (text ∷ texts) h = absurd h
 printed_accepted passes (p ∷ ps) [] h = absurd h
 printed_accepted passes (p ∷ ps) (text ∷ texts) h = ((h.0.design, h.0.accepted), printed_accepted passes ps texts h.1)
 
+-- modules that can be compared are not refused
+pair_unrefused : (left right : Name) (contents : List (List ℕ)) (r : Refusal) → CanBeCompared left right contents → IsRefusedPair left right contents r → ⊥
+pair_unrefused left right contents r can (of_first x is) = unrefused_in 0 (first_input contents) can.one x can.taken.0 is
+pair_unrefused left right contents r can (of_last x d a is) = unrefused_in (last_number contents) (last_input contents) can.two x can.taken.1 is
+pair_unrefused left right contents r can (of_pair y x d e taken is file) =
+    let one : d ≡ can.one = one_design (first_input contents) d can.one taken.0.says can.taken.0.says in
+    let two : e ≡ can.two = one_design (last_input contents) e can.two taken.1.says can.taken.1.says in
+    can.unrefused x (subst (λ f. IsComparisonRefusal can.one left f right x) two (subst (λ f. IsComparisonRefusal f left e right x) one is))
+
+-- modules that were compared can be
+can_be : (left right : Name) (contents : List (List ℕ)) (d e : Design) → AreTaken contents d e → AreComparable d left e right → IsAffordable d left e right → CanBeCompared left right contents
+can_be left right contents d e taken are paid =
+    record { one = d; two = e; taken = taken; unrefused = λ r is. compared_unrefused d left e right r are paid is }
+
 -- what is answered is not refused
 pub answered_unrefused : (work : Work) (contents : List (List ℕ)) (r : Refusal) → IsAnswered work contents → IsAnswer work contents (refuses r) → ⊥
 answered_unrefused (mlir passes) contents r a is = unrefused_in 0 (first_input contents) a.0 r a.1 is
@@ -57,6 +78,7 @@ answered_unrefused (mlir_pieces passes) contents r a is = pieces_unrefused (firs
 answered_unrefused (verilog passes) contents r a is = unrefused_in 0 (first_input contents) a.0 r a.1 is
 answered_unrefused (generated_summary seed count) contents r a is = is
 answered_unrefused (generated_verilog seed count) contents r a is = is
+answered_unrefused (comparison left right limit) contents r a is = pair_unrefused left right contents r a is
 
 -- what gives a text is answered
 pub made_answered : (work : Work) (contents : List (List ℕ)) (verdict : Verdict) (text : List ℕ) → IsAnswer work contents (prints verdict text) → IsAnswered work contents
@@ -66,3 +88,9 @@ made_answered (mlir_pieces passes) contents given text is =
 made_answered (verilog passes) contents given text is = (is.design, is.accepted)
 made_answered (generated_summary seed count) contents given text is = tt
 made_answered (generated_verilog seed count) contents given text is = tt
+made_answered (comparison left right limit) contents given text is = can_be left right contents is.one is.two is.taken is.agree.comparable is.agree.affordable
+made_answered (comparison left right limit) contents (different values) text is = can_be left right contents is.one is.two is.taken is.differ.comparable is.differ.affordable
+made_answered (comparison left right limit) contents (unknown log) text is =
+    can_be left right contents is.one is.two is.taken is.undecided.comparable is.undecided.affordable
+made_answered _ contents (different values) text is = absurd is
+made_answered _ contents (unknown log) text is = absurd is

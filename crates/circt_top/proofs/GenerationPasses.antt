@@ -1,5 +1,5 @@
 -- What the pipeline of generated designs is read as.
-use Rattle.std.proofs.Common.{◌≡◌, ℕ, List, [], ◌∷◌, Result, Ok, Err, refl, sym, subst, ◌∙◌, codes}
+use Rattle.std.proofs.Common.{◌≡◌, ℕ, List, [], ◌∷◌, Ok, Err, refl, sym, subst, ◌∙◌, codes}
 use Rattle.pass_pipeline.specs.Passes.{pass_name, runs_on}
 use Rattle.pass_pipeline.specs.Pipelines.{passes, passes_after, Reads}
 use Rattle.pass_pipeline.specs.Steps.{step_over, root, opening, first_item, item, pass_item, separator, closed}

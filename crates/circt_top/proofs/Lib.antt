@@ -12,3 +12,4 @@ pub mod Cuts
 pub mod PieceTexts
 pub mod GenerationPasses
 pub mod Generated
+mod Compared

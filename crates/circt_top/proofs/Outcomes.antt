@@ -1,16 +1,15 @@
 -- What is made of an accepted design.
-use Rattle.std.proofs.Common.{◌≡◌, ℕ, ◌≤◌, false, List, [], ◌∷◌, length, Ok, Err, refl, sym, ap, subst, ◌∙◌}
+use Rattle.std.proofs.Common.{◌≡◌, ℕ, ◌≤◌, false, List, length, Ok, Err, refl, sym, ap, subst, ◌∙◌}
 use Rattle.hw_model.specs.Design.{Design, IsSameDesign}
 use Rattle.hw_model.specs.Hierarchy.{HasNoRecursion}
 use Rattle.hw_model.specs.Machine.{Same}
 use Rattle.hw_model.specs.Meaning.{machine, HasNoCycle, HasHeights}
 use Rattle.hw_model.specs.Types.{Name}
 use Rattle.pass_pipeline.specs.declared.pass.Pass.{Pass}
-use Rattle.pass_pipeline.specs.declared.pass.Pass.TheVariants.{HwLowerAggregates}
 use Rattle.pass_laws.specs.PassLaw.{IsAfter}
 use Rattle.pass_manager.specs.Results.{IsResult}
 use Rattle.aggregate_laws.specs.Scalars.{has_aggregates}
-use Rattle.aggregate_lower.specs.Lowering.{lowered_aggregates}
+use Rattle.pass_manager.specs.Lowering.{lowered_aggregates}
 use Rattle.export_verilog.specs.Aggregates.{HasNoAggregates}
 use Rattle.export_verilog.specs.Behaviour.{BehavesAs}
 use Rattle.export_verilog.specs.Exportable.{IsExportable}

@@ -16,7 +16,7 @@ use Rattle.circt_top.proofs.Read.{names_more}
 use Rattle.circt_top.specs.PieceReprint.{AreReprints, ArePrinted, IsPieceRefused, IsFirstRefused}
 use Rattle.circt_top.specs.Reprint.{IsReprint}
 use Rattle.circt_top.specs.Outcomes.{IsFailOfPiece, GivesPieces}
-use Rattle.circt_top.specs.Outcome.{Gives}
+use Rattle.circt_top.specs.Outcome.{GivesText}
 use Rattle.circt_top.specs.declared.outcome.OutcomeFail.{OutcomeFail}
 use Rattle.circt_top.specs.declared.outcome.OutcomeFail.TheVariants.{Refused, NoMemory}
 
@@ -120,11 +120,11 @@ module _ {A : Type 0} (f : A → Piece) (passes : List Pass) (xs : List A) (firs
 -- ---- the whole text
 
 pub long_gives : (passes : List Pass) (contents : List (List ℕ)) (r : Refusal) → text_limit < length (first_input contents) → r ≡ refusal start_place op.File TooLong
-    → Gives (mlir_pieces passes) contents (Err (Refused r))
+    → GivesText (mlir_pieces passes) contents (Err (Refused r))
 long_gives passes contents r long is = inl (long, is)
 
 pub pieces_give : (passes : List Pass) (contents : List (List ℕ)) (r : Result (List ℕ) OutcomeFail) → length (first_input contents) ≤ text_limit → GivesPieces passes (pieces_of (first_input contents)) r
-    → Gives (mlir_pieces passes) contents r
+    → GivesText (mlir_pieces passes) contents r
 pieces_give passes contents (Ok text) short h = record { short = short; printed = h }
 pieces_give passes contents (Err (Refused r)) short h = inr (short, h)
 pieces_give passes contents (Err NoMemory) short h = tt

@@ -3,9 +3,9 @@ use Rattle.std.specs.Prelude.{◌≡◌, Option, Some, None}
 use Rattle.diag.specs.declared.refusal.Refusal.{Refusal}
 use Rattle.command_line.specs.declared.usage.UsageKind.{UsageKind}
 use Rattle.circt_top.specs.Outcome.{Verdict}
-use Rattle.circt_top.specs.Outcome.Verdict.{given}
+use Rattle.circt_top.specs.Outcome.Verdict.{given, different, unknown}
 use Rattle.circt_top.specs.declared.status.Status.{Status}
-use Rattle.circt_top.specs.declared.status.Status.TheVariants.{Done, Refused, Usage, ReadFault, WriteFault, NoMemory}
+use Rattle.circt_top.specs.declared.status.Status.TheVariants.{Done, Different, Unknown, Refused, Usage, ReadFault, WriteFault, NoMemory}
 
 -- an end: wrong words, a text that went out with its verdict, a refusal, an input that was not read, an output that was not
 -- written, or out of memory
@@ -17,6 +17,8 @@ pub data End : Type 0 where
 
 abbrev pub end_of : Status → End
 end_of Done = answered given
+end_of (Different input) = answered (different input)
+end_of (Unknown log) = answered (unknown log)
 end_of (Refused r) = refused r
 end_of (Usage kind) = usage kind
 end_of ReadFault = read_fault

@@ -5,6 +5,8 @@ pub mod Codes
 pub mod Translation
 pub mod Partners
 pub mod Words
+pub mod Comparing
+pub mod Conclusions
 pub mod Outcome
 pub mod Delivery
 pub mod Accepting

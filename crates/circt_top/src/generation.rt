@@ -4,7 +4,7 @@ ghost use Rattle.ir_store.specs.Designs.{design_of};
 ghost use Rattle.command_line.specs.Line.Work.{generated_summary, generated_verilog};
 ghost use Rattle.generator.specs.Generated.{generated};
 ghost use Rattle.circt_top.specs.Generation.{generation_passes};
-ghost use Rattle.circt_top.specs.Outcome.{Gives};
+ghost use Rattle.circt_top.specs.Outcome.{GivesText};
 
 use crate::outcome::{Means, OutcomeFail, export_made, exported_result, translate};
 use crate::summary::{Summary, counts_of, summary_text};
@@ -27,7 +27,7 @@ pub(crate) fn generate_verilog<R: Threads + Sync, G: Gate + Sync>(
     means: &Means<'_, R, G>,
     recipe: Recipe,
 ) -> Result<Text, OutcomeFail>
-    ensures { (contents : List (List ℕ)) → Gives (generated_verilog recipe.seed recipe.count) contents result }
+    ensures { (contents : List (List ℕ)) → GivesText (generated_verilog recipe.seed recipe.count) contents result }
 {
     let verified = generated(means.alloc, recipe)?;
     let passes = generation_passes(means.alloc)?;
@@ -39,7 +39,7 @@ pub(crate) fn summarise<R: Threads + Sync, G: Gate + Sync>(
     means: &Means<'_, R, G>,
     recipe: Recipe,
 ) -> Result<Text, OutcomeFail>
-    ensures { (contents : List (List ℕ)) → Gives (generated_summary recipe.seed recipe.count) contents result }
+    ensures { (contents : List (List ℕ)) → GivesText (generated_summary recipe.seed recipe.count) contents result }
 {
     let verified = generated(means.alloc, recipe)?;
     let counts = counts_of(verified.design());

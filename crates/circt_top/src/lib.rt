@@ -3,6 +3,7 @@
 //! [`run::run_circt`] is the whole program over any files and sinks.
 #![tactic(auto)]
 
+mod comparing;
 mod delivery;
 mod generation;
 mod inputs;
@@ -13,4 +14,5 @@ pub mod run;
 pub mod status;
 mod summary;
 
+pub use pass_manager::gate::{Gate, Open};
 pub use report::stop;

@@ -14,7 +14,7 @@ ghost use Rattle.circt_top.specs.Accepting.{Accepted, first_input};
 ghost use Rattle.circt_top.specs.Reprint.{IsReprint};
 ghost use Rattle.circt_top.specs.Translation.{exported_passes, IsTranslated};
 ghost use Rattle.circt_top.specs.Translates.{IsTranslatedFrom};
-ghost use Rattle.circt_top.specs.Outcome.{Gives};
+ghost use Rattle.circt_top.specs.Outcome.{Gives, GivesText};
 ghost use Rattle.circt_top.specs.Outcomes.{IsTaken, IsPrinted, read_failure, verify_failure, fail_in_file, fail_in_whole, IsFailOfPiece, GivesPieces};
 ghost use Rattle.circt_top.specs.PieceViews.{piece_of};
 ghost use Rattle.diag.specs.Place.{start_place};
@@ -22,9 +22,9 @@ ghost use Rattle.diag.specs.declared.refusal.OpName.TheVariants as op;
 ghost use Rattle.diag.specs.declared.cause.Cause.TheVariants.{TooLong};
 ghost use Rattle.mlir_syntax.specs.Stream.{refusal};
 
+use crate::comparing::compare;
 use crate::generation::{generate_verilog, summarise};
 use crate::pieces::{Piece, pieces_of};
-use aggregate_lower::lowering_keeps;
 use command_line::invocation::Work;
 use command_line::workers::Workers;
 use diag::cause::Cause;
@@ -35,6 +35,7 @@ use export_verilog::{
 };
 use hw_model::{heights_are_acyclic, places_decide_nothing};
 use io_edge::byte_text::Text;
+use lec_tool::Input;
 use mlir_printer::design_text::print_and_drop;
 use mlir_printer::laws::{what_is_canonical_is_printable, what_is_printed_is_read_again};
 use mlir_reader::laws::what_is_read_is_canonical;
@@ -44,9 +45,10 @@ use op_verifier::{
     Verified, VerifyFail, accepted_designs_are_sound, places_decide_no_verdict, verify,
 };
 use pass_manager::gate::Gate;
-use pass_manager::results_follow;
 use pass_manager::run::{run_pipeline, with_lowered_aggregates};
+use pass_manager::{lowering_keeps, results_follow};
 use pass_pipeline::pipeline::Pipeline;
+use resolution_proof::log::Log;
 use std::alloc::{AllocError, Global};
 use std::thread::Threads;
 
@@ -61,6 +63,26 @@ pub(crate) struct Means<'a, R, G> {
     pub(crate) workers: Workers,
     /// It is told of each module before a pass works on its body.
     pub(crate) gate: &'a G,
+}
+
+/// What a text that is printed says of what was asked.
+#[derive(Debug, Drop)]
+pub enum Finding {
+    /// Nothing was asked but the text itself, or modules agree.
+    Given,
+    /// Modules differ where they are given this.
+    Different(Input),
+    /// Nothing was found with so many learnt clauses.
+    Unknown(Log),
+}
+
+/// A text, and what it says.
+#[derive(Debug, Drop)]
+pub struct Made {
+    /// The text.
+    pub text: Text,
+    /// What it says.
+    pub finding: Finding,
 }
 
 /// Why no text was made.
@@ -83,21 +105,35 @@ impl From<AllocError> for OutcomeFail {
     }
 }
 
-/// What a work makes of the texts of its inputs: the text that it prints, or what is refused.
+/// What a work makes of the texts of its inputs: the text that it prints with what that says, or what is refused.
 pub(crate) fn outcome<R: Threads + Sync, G: Gate + Sync>(
     means: &Means<'_, R, G>,
     work: &Work,
     sources: &[Text],
-) -> Result<Text, OutcomeFail>
+) -> Result<Made, OutcomeFail>
     ensures { Gives (work_of work.now) sources.now result }
 {
     let source = first_input(sources);
     match work {
-        Work::Mlir(passes) => print_whole(means, source, passes),
-        Work::MlirPieces(passes) => print_pieces(means, source, passes),
-        Work::Verilog(passes) => translate_whole(means, source, passes),
-        Work::GeneratedSummary(recipe) => summarise(means, *recipe),
-        Work::GeneratedVerilog(recipe) => generate_verilog(means, *recipe),
+        Work::Mlir(passes) => without_finding(print_whole(means, source, passes)),
+        Work::MlirPieces(passes) => without_finding(print_pieces(means, source, passes)),
+        Work::Verilog(passes) => without_finding(translate_whole(means, source, passes)),
+        Work::GeneratedSummary(recipe) => without_finding(summarise(means, *recipe)),
+        Work::GeneratedVerilog(recipe) => without_finding(generate_verilog(means, *recipe)),
+        Work::Verdict(pair) => compare(means.alloc, pair, sources),
+    }
+}
+
+/// A text alone, as what is made.
+fn without_finding(text: Result<Text, OutcomeFail>) -> Result<Made, OutcomeFail>
+    ensures { (work : _) (contents : List (List ℕ)) → GivesText work contents text → Gives work contents result }
+{
+    match text {
+        Ok(text) => Ok(Made {
+            text,
+            finding: Finding::Given,
+        }),
+        Err(fail) => Err(fail),
     }
 }
 
@@ -107,7 +143,7 @@ fn print_whole<R: Threads + Sync, G: Gate + Sync>(
     source: &[u8],
     passes: &Pipeline,
 ) -> Result<Text, OutcomeFail>
-    ensures { (contents : List (List ℕ)) → first_input contents ≡ source.now → Gives (mlir passes.now) contents result }
+    ensures { (contents : List (List ℕ)) → first_input contents ≡ source.now → GivesText (mlir passes.now) contents result }
 {
     match accept(means.alloc, source) {
         Ok(verified) => Ok(reprint(means, source, verified, passes)?),
@@ -121,7 +157,7 @@ fn translate_whole<R: Threads + Sync, G: Gate + Sync>(
     source: &[u8],
     passes: &Pipeline,
 ) -> Result<Text, OutcomeFail>
-    ensures { (contents : List (List ℕ)) → first_input contents ≡ source.now → Gives (verilog passes.now) contents result }
+    ensures { (contents : List (List ℕ)) → first_input contents ≡ source.now → GivesText (verilog passes.now) contents result }
 {
     match accept(means.alloc, source) {
         Ok(verified) => Ok(translate(means, verified, passes)?),
@@ -135,7 +171,7 @@ fn print_pieces<R: Threads + Sync, G: Gate + Sync>(
     source: &[u8],
     passes: &Pipeline,
 ) -> Result<Text, OutcomeFail>
-    ensures { (contents : List (List ℕ)) → first_input contents ≡ source.now → Gives (mlir_pieces passes.now) contents result }
+    ensures { (contents : List (List ℕ)) → first_input contents ≡ source.now → GivesText (mlir_pieces passes.now) contents result }
 {
     if source.len() > MOST_BYTES {
         return Err(OutcomeFail::Refused(too_long()));
@@ -209,7 +245,7 @@ fn print_piece<R: Threads + Sync, G: Gate + Sync>(
 }
 
 /// The text of the first input.
-fn first_input(sources: &[Text]) -> &[u8]
+pub(crate) fn first_input(sources: &[Text]) -> &[u8]
     ensures { result.now ≡ first_input sources.now }
 {
     match sources {
@@ -220,7 +256,7 @@ fn first_input(sources: &[Text]) -> &[u8]
 
 impl OutcomeFail {
     /// The same of the input of this number.
-    fn in_file(self, number: u32) -> OutcomeFail
+    pub(crate) fn in_file(self, number: u32) -> OutcomeFail
         ensures { result ≡ fail_in_file number self }
     {
         match self {
@@ -244,7 +280,7 @@ impl OutcomeFail {
 }
 
 /// The design that a text says, where nothing of it is refused.
-fn accept(alloc: Global, source: &[u8]) -> Result<Verified, OutcomeFail>
+pub(crate) fn accept(alloc: Global, source: &[u8]) -> Result<Verified, OutcomeFail>
     ensures { IsTaken source.now result }
 {
     what_is_read_is_canonical();

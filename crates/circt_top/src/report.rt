@@ -55,7 +55,7 @@ fn put_line<E: Sink>(err: &mut E, subject: &Subject<'_>, status: &Status) -> Res
     ensures cause { HasCause (E.faults err.old) (E.faults err.new) result }
 {
     match status {
-        Status::Done => put_all(err, b""),
+        Status::Done | Status::Different(_) | Status::Unknown(_) => put_all(err, b""),
         Status::Refused(refusal) => {
             let shown = Refusal {
                 op: within(refusal.op, subject.source),

@@ -4,9 +4,10 @@ ghost use Rattle.io_edge.specs.Faults.{HasRisen};
 ghost use Rattle.command_line.specs.Invocations.{command_of, Says};
 ghost use Rattle.circt_top.specs.Words.{line, passes_on_offer, fault_of, ForCommand};
 ghost use Rattle.circt_top.specs.Inputs.{AreContents, IsOneMissing, IsOneRisen, ReadsThen, OnFault, unread_end, name_at, bytes_at};
-ghost use Rattle.circt_top.specs.Outcome.{Verdict, IsAnswer, IsAnswered};
+ghost use Rattle.circt_top.specs.Outcome.{Verdict, IsAnswer, IsAnswered, verdict_of};
 ghost use Rattle.circt_top.specs.Outcome.Answer.{prints, refuses};
 ghost use Rattle.circt_top.specs.Delivery.{HasOutputFault};
+ghost use Rattle.circt_top.specs.Ends.End.{answered};
 ghost use Rattle.circt_top.specs.Ends.{end_of, usage_of, OnAnswered, OnRefused, OnReadFault, OnWriteFault, Unwritten, IsUsage, IsAnsweredOrNoMemory, IsReadFaultOrNoMemory, IsRefusedOrNoMemory, IsWorked};
 ghost use Rattle.circt_top.specs.Answer.{IsMadeOf, IsRefusalOf, Delivers, DeliversFront, line_of, Reports, ReportsEnd, IsSubject};
 ghost use Rattle.circt_top.specs.Answer as answer;
@@ -14,7 +15,7 @@ ghost use Rattle.circt_top.specs.Views.{subject_of};
 
 use crate::delivery::{Delivery, deliver};
 use crate::inputs::{Unread, read_inputs};
-use crate::outcome::{Means, OutcomeFail, outcome};
+use crate::outcome::{Finding, Means, OutcomeFail, outcome};
 use crate::report::{Subject, report, stop};
 use crate::status::Status;
 use command_line::invocation::{Invocation, LineFail, read_words};
@@ -47,7 +48,10 @@ const PASSES_ON_OFFER: [Pass; 6] = [
 /// `--mlir-disable-threading`). `opt --split-input-file` does so with each
 /// piece of FILE between the lines that are `// -----`, and joins the texts by such lines.
 /// `gen SEED N [--verilog] [-o FILE]` prints a summary, or the Verilog, of a design of N modules (1 to 10,000) that is generated from
-/// a seed. All other words are answered by
+/// a seed. `lec FILE [FILE] -c1 NAME -c2 NAME [--conflict-limit N]` prints `c1 == c2` where the module of the first name, of the first
+/// FILE, and that of the second name, of the last FILE, agree; `c1 != c2` and values of inputs and registers where they differ,
+/// with [`Status::Different`]; and `unknown` where N clauses (a million where nothing is said) were learnt without an answer, with
+/// [`Status::Unknown`]. All other words are answered by
 /// [`Status::Usage`]. A fault of `err` changes no status.
 pub fn run_circt<R: Threads + Sync, F: Files, O: Sink, E: Sink, G: Gate + Sync>(
     rt: &R,
@@ -224,12 +228,26 @@ fn answer<R: Threads + Sync, F: Files, O: Sink, G: Gate + Sync>(
         gate,
     };
     match outcome(&means, &invocation.work, sources) {
-        Ok(text) => match deliver(alloc, output_name(invocation), text.as_bytes(), files, out) {
-            Delivery::Whole => Status::Done,
-            Delivery::Fault => Status::WriteFault,
-            Delivery::NoMemory => Status::NoMemory,
-        },
+        Ok(made) => {
+            let text = made.text.as_bytes();
+            match deliver(alloc, output_name(invocation), text, files, out) {
+                Delivery::Whole => status_of(made.finding),
+                Delivery::Fault => Status::WriteFault,
+                Delivery::NoMemory => Status::NoMemory,
+            }
+        }
         Err(OutcomeFail::Refused(refusal)) => Status::Refused(refusal),
         Err(OutcomeFail::NoMemory) => Status::NoMemory,
+    }
+}
+
+// The status of a run whose text went out.
+fn status_of(finding: Finding) -> Status
+    ensures { end_of result ≡ answered (verdict_of finding) }
+{
+    match finding {
+        Finding::Given => Status::Done,
+        Finding::Different(input) => Status::Different(input),
+        Finding::Unknown(log) => Status::Unknown(log),
     }
 }

@@ -1,8 +1,8 @@
 //! Runs of the whole program on files and sinks in memory.
 use circt_top::run::run_circt;
+use circt_top::{Gate, Open};
 use io_edge::memory_files::{MemoryFile, MemoryFiles};
 use io_edge::memory_sink::MemorySink;
-use pass_manager::gate::{Gate, Open};
 use std::alloc::{AllocError, AllocGlobal, Global};
 use std::thread::Threads;
 

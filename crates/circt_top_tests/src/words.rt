@@ -14,7 +14,7 @@ const BAD: [&str; 37] = [
     "--help",
     "-h",
     "--version",
-    "lec a.mlir -c1 p -c2 q",
+    "lec a.mlir -c1 p",
     "opt --help",
     "opt -h",
     "opt -help",

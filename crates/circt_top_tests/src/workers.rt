@@ -1,6 +1,6 @@
 //! Passes by several workers.
 use crate::runs::{Failing, run_gated};
-use pass_manager::gate::Gate;
+use circt_top::Gate;
 use std::alloc::{AllocError, AllocGlobal};
 use std::sync::atomic::{AtomicU64, Ordering};
 use std::test::Fail;

@@ -21,19 +21,19 @@ module _ (text : List ℕ) (is : is_numeral text ≡ true) where
   digits : all_ascii_digits text ≡ true
   digits = (and_parts (all_ascii_digits text) (length text == 1 || not (slice_index text 0 == 48)) parts.1).0
 
-  pub parsed : {E : Type 0} (least most : ℕ) (number : ℕ) (r : Result ℕ E) → ParsesUnsigned 32 10 text r → r ≡ Ok number → if_between least most number ≡ number_between least most text
-  parsed least most number r gives ok = go r (parse_digits own 32 text r gives digits) ok
+  pub parsed : {E : Type 0} (least most : ℕ) (number : ℕ) (r : Result ℕ E) → ParsesUnsigned 64 10 text r → r ≡ Ok number → if_between least most number ≡ number_between least most text
+  parsed least most number r gives ok = go r (parse_digits own 64 text r gives digits) ok
     where
-      go : {E : Type 0} (r : Result ℕ E) → OkIff r ((0 < length text) × (digits_value 10 text < 2 ^ 32)) (digits_value 10 text) → r ≡ Ok number → if_between least most number ≡ number_between least most text
+      go : {E : Type 0} (r : Result ℕ E) → OkIff r ((0 < length text) × (digits_value 10 text < 2 ^ 64)) (digits_value 10 text) → r ≡ Ok number → if_between least most number ≡ number_between least most text
       go (Ok n) h e = let same : n ≡ number = cc in ap (if_between least most) (sym same ∙ h.1) ∙ ap (λ b. cond b (if_between least most (digits_value 10 text)) None) (sym is)
       go (Err x) h e = cc
 
-  pub unparsed : {E : Type 0} (least most : ℕ) (r : Result ℕ E) {e : E} → most < 2 ^ 32 → ParsesUnsigned 32 10 text r → r ≡ Err e → None ≡ number_between least most text
+  pub unparsed : {E : Type 0} (least most : ℕ) (r : Result ℕ E) {e : E} → most < 2 ^ 64 → ParsesUnsigned 64 10 text r → r ≡ Err e → None ≡ number_between least most text
   unparsed least most r {e} small gives failed =
       out (nat_le (digits_value 10 text) most) refl ∙ ap (λ b. cond b (if_between least most (digits_value 10 text)) None) (sym is)
     where
       out : (b : Bool) → nat_le (digits_value 10 text) most ≡ b → None ≡ if_between least most (digits_value 10 text)
-      out true within = absurd (parse_digits own 32 text (Err e) (subst (ParsesUnsigned 32 10 text) failed gives) digits (some, (let low = leb-true (digits_value 10 text) most within in omega (arith, low, small))))
+      out true within = absurd (parse_digits own 64 text (Err e) (subst (ParsesUnsigned 64 10 text) failed gives) digits (some, (let low = leb-true (digits_value 10 text) most within in omega (arith, low, small))))
       out false past = go (nat_le least (digits_value 10 text)) past
         where
           go : (b : Bool) → nat_le (digits_value 10 text) most ≡ false → None ≡ cond (b && nat_le (digits_value 10 text) most) (Some (digits_value 10 text)) None

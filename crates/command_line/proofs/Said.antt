@@ -1,13 +1,16 @@
 -- What regular words say, by what `clap` finds in them.
-use Rattle.std.proofs.Common.{◌≡◌, List, [], Option, Some, None, Result, subst, sym, refl, option_map}
+use Rattle.std.proofs.Common.{◌≡◌, List, [], Option, Some, None, Result, Ok, Err, ap, ◌∷◌, subst, sym, refl, option_map}
 use Rattle.clap.specs.Words.{Kinds, Row, Text}
 use Rattle.pass_pipeline.specs.declared.pass.Pass.{Pass}
 use Rattle.command_line.specs.Line.{parse, require_subcommand, command_in, unless_faulty}
 use Rattle.command_line.specs.Commands.{circt_app}
 use Rattle.clap.specs.Words.{fault_of, subcommand_of}
-use Rattle.command_line.specs.Invocations.{Says}
+use Rattle.command_line.specs.declared.usage.UsageKind.{UsageKind}
+use Rattle.command_line.specs.Line.{Command}
+use Rattle.command_line.specs.Invocations.{Says, IsFault}
 use Rattle.command_line.specs.declared.invocation.Invocation.{Invocation}
 use Rattle.command_line.specs.declared.invocation.LineFail.{LineFail}
+use Rattle.command_line.specs.declared.invocation.LineFail.TheVariants.{Usage, NoMemory}
 
 -- a subcommand has the name and the rows that are told of it
 pub pair_found : {A B C : Type 0} (f : C → A) (g : C → B) (o : Option C) (a : A) (b : B)
@@ -30,3 +33,14 @@ pub said_by_found : (offered : List Pass) (words : List Text) (name : Text) (row
     → fault_of circt_app words ≡ [] → subcommand_of circt_app words ≡ Some (name, rows) → Says (command_in offered name rows) r → Says (parse offered words) r
 unfolding parse
 said_by_found offered words name rows r faultless is h = said_by offered (fault_of circt_app words) (subcommand_of circt_app words) name rows r faultless is h
+
+-- words with faults are wrong
+wrong_by : (kinds : Kinds) (said : Result Command UsageKind) (fail : LineFail) → IsFault kinds fail → Says (unless_faulty kinds said) (Err fail)
+wrong_by [] said (Usage kind) h = absurd (h.1 refl)
+wrong_by [] said NoMemory h = tt
+wrong_by (k ∷ ks) said (Usage kind) h = ap Err (sym h.0)
+wrong_by (k ∷ ks) said NoMemory h = tt
+
+pub wrong_by_fault : (offered : List Pass) (words : List Text) (fail : LineFail) → IsFault (fault_of circt_app words) fail → Says (parse offered words) (Err fail)
+unfolding parse
+wrong_by_fault offered words fail h = wrong_by (fault_of circt_app words) (require_subcommand offered (subcommand_of circt_app words)) fail h

@@ -47,6 +47,24 @@ count_rule = record (new_rule (codes "count")) { required = true }
 abbrev pub verilog_rule : Rule
 verilog_rule = record (new_rule (codes "verilog")) { long = Some (codes "verilog"); action = Some SetTrue }
 
+-- FILE, which is asked for, and the second FILE
+abbrev pub first_file_rule : Rule
+first_file_rule = record file_rule { required = true }
+
+abbrev pub second_file_rule : Rule
+second_file_rule = new_rule (codes "second-file")
+
+-- `--c1 NAME` and `--c2 NAME`, which are asked for
+abbrev pub left_rule : Rule
+left_rule = record (new_rule (codes "c1")) { long = Some (codes "c1"); required = true }
+
+abbrev pub right_rule : Rule
+right_rule = record (new_rule (codes "c2")) { long = Some (codes "c2"); required = true }
+
+-- `--conflict-limit N`
+abbrev pub limit_rule : Rule
+limit_rule = record (new_rule (codes "conflict-limit")) { long = Some (codes "conflict-limit") }
+
 -- with `--workers N` and `--mlir-disable-threading`
 abbrev pub with_workers : App → App
 with_workers a = with_rule (with_rule a workers_rule) threading_rule
@@ -67,6 +85,10 @@ translate_app = with_rule (with_common (new_app (codes "translate"))) export_rul
 abbrev pub gen_app : App
 gen_app = with_rule (with_rule (with_rule (with_rule (with_rule (new_app (codes "gen")) seed_rule) count_rule) verilog_rule) output_rule) workers_rule
 
+-- `lec FILE [FILE] --c1 NAME --c2 NAME [--conflict-limit N]`
+abbrev pub lec_app : App
+lec_app = with_rule (with_rule (with_rule (with_rule (with_rule (new_app (codes "lec")) first_file_rule) second_file_rule) left_rule) right_rule) limit_rule
+
 -- a command without help and version, of which a subcommand is wanted; its words are those after the program's name
 abbrev pub bare : App → App
 bare a = record a {
@@ -78,6 +100,10 @@ bare a = record a {
   };
 }
 
+-- the program without the command that compares
+abbrev pub designs_app : App
+designs_app = with_subcommand (with_subcommand (with_subcommand (bare (new_app (codes "circt"))) opt_app.top) translate_app.top) gen_app.top
+
 -- the program
 abbrev pub circt_app : App
-circt_app = with_subcommand (with_subcommand (with_subcommand (bare (new_app (codes "circt"))) opt_app.top) translate_app.top) gen_app.top
+circt_app = with_subcommand designs_app lec_app.top

@@ -1,6 +1,7 @@
 -- What the words of a command line say.
 use Rattle.std.specs.Prelude.{ℕ, ◌-◌, ◌&&◌, Bool, true, false, cond, List, [], ◌∷◌, ◌++◌, Option, Some, None, option_map, is_some, Result, Ok, Err, codes, unwrap_or}
 use Rattle.std.specs.Str.{bytes_eq}
+use Rattle.std.specs.List.{cons_option}
 use Rattle.clap.specs.Words.{Row, Text, Kinds, first_of, fault_of, subcommand_of}
 use Rattle.pass_pipeline.specs.Pipelines.{passes}
 use Rattle.pass_pipeline.specs.declared.pass.Pass.{Pass}
@@ -10,17 +11,24 @@ use Rattle.command_line.specs.Normal.{normal}
 use Rattle.command_line.specs.Commands.{circt_app}
 use Rattle.command_line.specs.Numbers.{number_between}
 use Rattle.command_line.specs.declared.usage.UsageKind.{UsageKind}
-use Rattle.command_line.specs.declared.usage.UsageKind.TheVariants.{Words, TwoPipelines, NoTranslation, Pipeline}
+use Rattle.command_line.specs.declared.usage.UsageKind.TheVariants.{Words, TwoPipelines, NoTranslation, StdinTwice, Pipeline}
 
 -- what is made of the inputs: MLIR text, or Verilog, of the design that passes make of the one that is read; or MLIR text of the
 -- designs that they make of those of the pieces of an input; or, without an input, a summary, or Verilog, of the design that is
--- generated from a seed with so many modules
+-- generated from a seed with so many modules; or a verdict on the module of a name of the first input and that of another of the last one,
+-- with so many learnt clauses at most
 pub data Work : Type 0 where
   mlir : List Pass → Work
   mlir_pieces : List Pass → Work
   verilog : List Pass → Work
   generated_summary : ℕ → ℕ → Work
   generated_verilog : ℕ → ℕ → Work
+  comparison : Text → Text → ℕ → Work
+
+-- whether a work is a verdict on modules
+abbrev pub is_comparison : Work → Bool
+is_comparison (comparison left right limit) = true
+is_comparison _ = false
 
 -- a command: the files that it reads, in order, the one that it writes, its work, and by how many workers; `-` is standard input, no file
 -- standard output
@@ -39,10 +47,15 @@ unless_dash (Some text) = cond (bytes_eq text (codes "-")) None (Some text)
 abbrev pub input_in : List Row → Text
 input_in rows = unwrap_or (first_of (codes "file") rows) (codes "-")
 
--- the files that are read for a work; what is generated is of none
+-- the second file that is read for a comparison, if one is
+abbrev pub second_in : List Row → Option Text
+second_in rows = first_of (codes "second-file") rows
+
+-- the files that are read for a work; what is generated is of none, and modules that are compared are of one or two
 abbrev pub inputs_in : List Row → Work → List Text
 inputs_in rows (generated_summary seed count) = []
 inputs_in rows (generated_verilog seed count) = []
+inputs_in rows (comparison left right limit) = input_in rows ∷ cons_option (second_in rows) []
 inputs_in rows _ = input_in rows ∷ []
 
 -- the file that is written
@@ -129,6 +142,33 @@ abbrev pub gen_work : List Row → Result Work UsageKind
 gen_work rows =
     on_numbers (is_flagged (codes "verilog") rows) (number_in 0 4294967295 (first_of (codes "seed") rows)) (number_in 1 10000 (first_of (codes "count") rows))
 
+-- how many clauses may be learnt: 1 to 2^64 - 1, and a million where nothing is said
+abbrev pub limit_in : Option Text → Option ℕ
+limit_in None = Some 1000000
+limit_in (Some text) = number_between 1 18446744073709551615 text
+
+-- the value of an argument that is asked for
+abbrev pub name_in : Option Text → Text
+name_in name = unwrap_or name []
+
+-- a name is that of standard input
+abbrev pub is_dash : Option Text → Bool
+is_dash None = false
+is_dash (Some name) = bytes_eq name (codes "-")
+
+-- standard input is named twice
+abbrev pub is_stdin_twice : List Row → Bool
+is_stdin_twice rows = bytes_eq (input_in rows) (codes "-") && is_dash (second_in rows)
+
+-- the work of `lec`: a wrong limit is wrong first
+abbrev pub by_limit : List Row → Option ℕ → Result Work UsageKind
+by_limit rows None = Err Words
+by_limit rows (Some limit) =
+    cond (is_stdin_twice rows) (Err StdinTwice) (Ok (comparison (name_in (first_of (codes "c1") rows)) (name_in (first_of (codes "c2") rows)) limit))
+
+abbrev pub lec_work : List Row → Result Work UsageKind
+lec_work rows = by_limit rows (limit_in (first_of (codes "conflict-limit") rows))
+
 -- the work of a command that takes passes: passes given in two ways are wrong first, then a missing translation, then a bad pipeline
 abbrev pub passes_work : List Pass → Text → List Row → Result Work UsageKind
 passes_work offered name rows =
@@ -138,7 +178,9 @@ passes_work offered name rows =
 
 -- the work of a command of this name
 abbrev pub work_in : List Pass → Text → List Row → Result Work UsageKind
-work_in offered name rows = cond (bytes_eq name (codes "gen")) (gen_work rows) (passes_work offered name rows)
+work_in offered name rows =
+    cond (bytes_eq name (codes "gen")) (gen_work rows)
+    (cond (bytes_eq name (codes "lec")) (lec_work rows) (passes_work offered name rows))
 
 -- a work with the files that are named, and workers
 abbrev pub with_files : List Row → ℕ → Result Work UsageKind → Result Command UsageKind

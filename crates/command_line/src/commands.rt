@@ -1,7 +1,7 @@
 //! The commands and their arguments.
 ghost use Rattle.std.specs.Prelude.{◌≡◌, IfOk, false, codes};
 ghost use Rattle.clap.specs.Words.{App, app_of, new_app, with_rule};
-ghost use Rattle.command_line.specs.Commands.{file_rule, output_rule, pipeline_rule, passes_rule, export_rule, split_rule, workers_rule, threading_rule, seed_rule, count_rule, verilog_rule, opt_app, translate_app, gen_app, circt_app, bare};
+ghost use Rattle.command_line.specs.Commands.{file_rule, output_rule, pipeline_rule, passes_rule, export_rule, split_rule, workers_rule, threading_rule, seed_rule, count_rule, verilog_rule, first_file_rule, second_file_rule, left_rule, right_rule, limit_rule, opt_app, translate_app, gen_app, lec_app, designs_app, circt_app, bare};
 ghost use Rattle.command_line.specs.Making.{Grows, GrowsCommon, GrowsWorkers, IsMade};
 
 use clap::{Arg, ArgAction, Command};
@@ -10,6 +10,15 @@ use std::alloc::{AllocError, Global};
 /// The program's command, of which a subcommand is wanted.
 pub(crate) fn circt_command<'a>(alloc: Global) -> Result<Command<'a>, AllocError>
     ensures { IfOk result (IsMade circt_app) }
+{
+    let command = designs_command(alloc)?;
+    let compare = lec_command(alloc)?;
+    command.subcommand(compare)
+}
+
+/// The command without the subcommand that compares.
+fn designs_command<'a>(alloc: Global) -> Result<Command<'a>, AllocError>
+    ensures { IfOk result (IsMade designs_app) }
 {
     let opt = opt_command(alloc)?;
     let translate = translate_command(alloc)?;
@@ -51,6 +60,16 @@ fn gen_command<'a>(alloc: Global) -> Result<Command<'a>, AllocError>
     let command = verilog(alloc, command)?;
     let command = output(alloc, command)?;
     workers(alloc, command)
+}
+
+fn lec_command<'a>(alloc: Global) -> Result<Command<'a>, AllocError>
+    ensures { IfOk result (IsMade lec_app) }
+{
+    let command = first_file(alloc, Command::new(alloc, "lec"))?;
+    let command = second_file(alloc, command)?;
+    let command = left(alloc, command)?;
+    let command = right(alloc, command)?;
+    limit(alloc, command)
 }
 
 /// The command with the arguments that both `opt` and `translate` have.
@@ -151,4 +170,41 @@ fn threading<'a>(alloc: Global, command: Command<'a>) -> Result<Command<'a>, All
 {
     let flag = Arg::new(alloc, "mlir-disable-threading").long("mlir-disable-threading");
     command.arg(flag.action(ArgAction::SetTrue))
+}
+
+/// The command with FILE, which is asked for.
+fn first_file<'a>(alloc: Global, command: Command<'a>) -> Result<Command<'a>, AllocError>
+    ensures { IfOk result (Grows command.entry first_file_rule) }
+{
+    command.arg(Arg::new(alloc, "file").required(true))
+}
+
+/// The command with a second FILE.
+fn second_file<'a>(alloc: Global, command: Command<'a>) -> Result<Command<'a>, AllocError>
+    ensures { IfOk result (Grows command.entry second_file_rule) }
+{
+    command.arg(Arg::new(alloc, "second-file"))
+}
+
+/// The command with `--c1 NAME`.
+fn left<'a>(alloc: Global, command: Command<'a>) -> Result<Command<'a>, AllocError>
+    ensures { IfOk result (Grows command.entry left_rule) }
+{
+    let name = Arg::new(alloc, "c1").long("c1");
+    command.arg(name.required(true))
+}
+
+/// The command with `--c2 NAME`.
+fn right<'a>(alloc: Global, command: Command<'a>) -> Result<Command<'a>, AllocError>
+    ensures { IfOk result (Grows command.entry right_rule) }
+{
+    let name = Arg::new(alloc, "c2").long("c2");
+    command.arg(name.required(true))
+}
+
+/// The command with `--conflict-limit N`.
+fn limit<'a>(alloc: Global, command: Command<'a>) -> Result<Command<'a>, AllocError>
+    ensures { IfOk result (Grows command.entry limit_rule) }
+{
+    command.arg(Arg::new(alloc, "conflict-limit").long("conflict-limit"))
 }

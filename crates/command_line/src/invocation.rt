@@ -1,12 +1,14 @@
 //! What the words of a command line say.
-ghost use Rattle.std.specs.Prelude.{◌≡◌, IfOk, IfSome, ◌≤◌, map, string_bytes, option_map, codes, [], Some, Ok, Err};
+ghost use Rattle.std.specs.List.{cons_option};
+ghost use Rattle.std.specs.Prelude.{◌≡◌, IfOk, IfErr, OnOk, IfSome, ◌≤◌, ◌++◌, map, string_bytes, option_map, codes, [], Some, Ok, Err};
 ghost use Rattle.clap.specs.Words.{found_of, rows_of, first_of, fault_of, subcommand_of, subcommand_rows_of, FailsBy};
 ghost use Rattle.pass_pipeline.specs.Pipelines.{passes};
 ghost use Rattle.command_line.specs.Commands.{circt_app};
-ghost use Rattle.command_line.specs.Line.{line, parse, input_in, inputs_in, output_in, items_text, in_items, in_pipeline, in_list, passes_in, is_given_twice, mlir_work, number_in, generated_work, gen_work, passes_work, work_in, is_flagged, workers_said, workers_in, command_in};
+ghost use Rattle.command_line.specs.Line.{line, parse, input_in, inputs_in, output_in, items_text, in_items, in_pipeline, in_list, passes_in, is_given_twice, mlir_work, number_in, generated_work, gen_work, limit_in, name_in, is_dash, is_stdin_twice, second_in, lec_work, passes_work, work_in, is_flagged, workers_said, workers_in, command_in};
 ghost use Rattle.command_line.specs.Invocations.{command_of, work_of, Says, SaysWork, SaysPasses, IsFault};
 
 use crate::commands::circt_command;
+use crate::comparison::Comparison;
 use crate::normalise::{WordsFail, normalise};
 use crate::numbers::number_between;
 use crate::recipe::Recipe;
@@ -19,7 +21,10 @@ use pass_pipeline::pipeline::{Pipeline, PipelineError, PipelineFail, read_pipeli
 use std::alloc::{AllocError, Global};
 
 /// How many modules are generated at most.
-const MOST_MODULES: u32 = 10_000;
+const MOST_MODULES: u64 = 10_000;
+
+/// How many clauses may be learnt where nothing is said.
+const USUAL_LIMIT: u64 = 1_000_000;
 
 /// What is made of the inputs.
 #[derive(Debug, Drop)]
@@ -34,6 +39,8 @@ pub enum Work {
     GeneratedSummary(Recipe),
     /// Verilog of the design that is generated from this recipe.
     GeneratedVerilog(Recipe),
+    /// A verdict on two modules.
+    Verdict(Comparison),
 }
 
 /// A command with its values.
@@ -73,9 +80,10 @@ impl From<AllocError> for LineFail {
 ///
 /// Words are wrong for the first of these causes: they are no command with its arguments, the
 /// number of workers is none of 1 to 64 in decimal digits without a leading zero, or the seed of `gen` none
-/// of 0 to 4294967295, or its number of modules none of 1 to 10000; passes
+/// of 0 to 4294967295, or its number of modules none of 1 to 10000, or the conflict limit of `lec` none of
+/// 1 to 18446744073709551615; passes
 /// are given both by flags and by a pipeline, no translation is named, the text of a pipeline is
-/// none.
+/// none; `lec` names standard input twice.
 pub fn read_words(alloc: Global, words: &[String], offered: &[Pass]) -> Result<Invocation, LineFail>
     ensures { Says (line offered.now (map string_bytes words.now)) result }
 {
@@ -102,7 +110,7 @@ pub fn read_line(alloc: Global, words: &[String], offered: &[Pass]) -> Result<In
 /// The matches that `clap` finds.
 fn find_matches<'a>(alloc: Global, words: &'a [String]) -> Result<ArgMatches<'a>, LineFail>
     ensures ok { IfOk result (λ m. (fault_of circt_app (map string_bytes words.entry.now) ≡ []) × (subcommand_rows_of m ≡ subcommand_of circt_app (map string_bytes words.entry.now))) }
-    ensures err { IsFault (fault_of circt_app (map string_bytes words.entry.now)) result }
+    ensures err { IfErr result (IsFault (fault_of circt_app (map string_bytes words.entry.now))) }
 {
     let command = circt_command(alloc)?;
     match command.try_get_matches_from(words) {
@@ -168,6 +176,8 @@ fn work_in(
 {
     if name == "gen" {
         gen_work(matches)
+    } else if name == "lec" {
+        lec_work(alloc, matches)
     } else {
         passes_work(alloc, name, matches, offered)
     }
@@ -177,13 +187,17 @@ fn work_in(
 fn gen_work(matches: &ArgMatches<'_>) -> Result<Work, LineFail>
     ensures { SaysWork (gen_work (rows_of (found_of matches.now))) result }
 {
-    let Some(seed) = number_in(matches, "seed", 0, u32::MAX) else {
+    let Some(seed) = number_in(matches, "seed", 0, u64::from(u32::MAX)) else {
         return Err(LineFail::Usage(UsageKind::Words));
     };
     let Some(count) = number_in(matches, "count", 1, MOST_MODULES) else {
         return Err(LineFail::Usage(UsageKind::Words));
     };
-    Ok(generated_work(is_flagged(matches, "verilog"), Recipe { seed, count }))
+    let recipe = Recipe {
+        seed: seed as u32,
+        count: count as u32,
+    };
+    Ok(generated_work(is_flagged(matches, "verilog"), recipe))
 }
 
 /// The work on the design from this recipe: Verilog, or a summary.
@@ -198,7 +212,7 @@ fn generated_work(is_verilog: bool, recipe: Recipe) -> Work
 }
 
 /// The number from `least` to `most` that an argument says.
-fn number_in(matches: &ArgMatches<'_>, id: &str, least: u32, most: u32) -> Option<u32>
+fn number_in(matches: &ArgMatches<'_>, id: &str, least: u64, most: u64) -> Option<u64>
     ensures is { result ≡ number_in least most (first_of id.now (rows_of (found_of matches.now))) }
     ensures least { IfSome result (λ n. least ≤ n) }
     ensures most { IfSome result (λ n. n ≤ most) }
@@ -206,6 +220,58 @@ fn number_in(matches: &ArgMatches<'_>, id: &str, least: u32, most: u32) -> Optio
     match value(matches, id) {
         Some(text) => number_between(text, least, most),
         None => None,
+    }
+}
+
+/// The work of `lec`.
+fn lec_work(alloc: Global, matches: &ArgMatches<'_>) -> Result<Work, LineFail>
+    ensures { SaysWork (lec_work (rows_of (found_of matches.now))) result }
+{
+    let Some(conflict_limit) = limit_in(matches) else {
+        return Err(LineFail::Usage(UsageKind::Words));
+    };
+    if is_stdin_twice(matches) {
+        return Err(LineFail::Usage(UsageKind::StdinTwice));
+    }
+    Ok(Work::Verdict(Comparison {
+        left: String::from_str(alloc, name_in(matches, "c1"))?,
+        right: String::from_str(alloc, name_in(matches, "c2"))?,
+        conflict_limit,
+    }))
+}
+
+/// How many clauses may be learnt.
+fn limit_in(matches: &ArgMatches<'_>) -> Option<u64>
+    ensures is { result ≡ limit_in (first_of (codes "conflict-limit") (rows_of (found_of matches.now))) }
+    ensures some { IfSome result (λ n. 1 ≤ n) }
+{
+    match value(matches, "conflict-limit") {
+        Some(text) => number_between(text, 1, u64::MAX),
+        None => Some(USUAL_LIMIT),
+    }
+}
+
+/// The value of an argument that is asked for.
+fn name_in<'a>(matches: &ArgMatches<'a>, id: &str) -> &'a str
+    ensures { result.now ≡ name_in (first_of id.now (rows_of (found_of matches.now))) }
+{
+    value(matches, id).unwrap_or("")
+}
+
+/// Whether standard input is named twice.
+fn is_stdin_twice(matches: &ArgMatches<'_>) -> bool
+    ensures { result ≡ is_stdin_twice (rows_of (found_of matches.now)) }
+{
+    input_in(matches) == "-" && is_dash(value(matches, "second-file"))
+}
+
+/// Whether a name is that of standard input.
+fn is_dash(name: Option<&str>) -> bool
+    ensures { result ≡ is_dash (option_map (λ s. s.now) name.entry) }
+{
+    match name {
+        Some(name) => name == "-",
+        None => false,
     }
 }
 
@@ -312,8 +378,26 @@ fn inputs_in(
         Work::Mlir(_) | Work::MlirPieces(_) | Work::Verilog(_) => {
             inputs.push(String::from_str(alloc, input_in(matches))?)?;
         }
+        Work::Verdict(_) => {
+            inputs.push(String::from_str(alloc, input_in(matches))?)?;
+            push_second(alloc, matches, &mut inputs)?;
+        }
     }
     Ok(inputs)
+}
+
+/// Adds the name of the second file that is read, if one is.
+fn push_second(
+    alloc: Global,
+    matches: &ArgMatches<'_>,
+    inputs: &mut Vec<String>,
+) -> Result<(), AllocError>
+    ensures { OnOk result (map string_bytes inputs.new.items ≡ map string_bytes inputs.old.items ++ cons_option (second_in (rows_of (found_of matches.now))) []) }
+{
+    if let Some(name) = value(matches, "second-file") {
+        inputs.push(String::from_str(alloc, name)?)?;
+    }
+    Ok(())
 }
 
 /// The name of the file that is read.

@@ -2,6 +2,7 @@
 #![tactic(auto)]
 
 mod commands;
+pub mod comparison;
 pub mod invocation;
 pub mod normalise;
 mod numbers;

@@ -4,7 +4,7 @@ ghost use Rattle.std.specs.Str.{all_ascii_digits};
 ghost use Rattle.command_line.specs.Numbers.{is_numeral, if_between, number_between};
 
 /// The number that decimal digits say, without a sign and without a leading zero, where it is one from `least` to `most`.
-pub(crate) fn number_between(text: &str, least: u32, most: u32) -> Option<u32>
+pub(crate) fn number_between(text: &str, least: u64, most: u64) -> Option<u64>
     ensures is { result ≡ number_between least most text.now }
     ensures least { IfSome result (λ n. least ≤ n) }
     ensures most { IfSome result (λ n. n ≤ most) }
@@ -12,14 +12,14 @@ pub(crate) fn number_between(text: &str, least: u32, most: u32) -> Option<u32>
     if !is_numeral(text.as_bytes()) {
         return None;
     }
-    match text.parse::<u32>() {
+    match text.parse::<u64>() {
         Ok(number) => if_between(number, least, most),
         Err(_) => None,
     }
 }
 
 /// The number, where it is from `least` to `most`.
-fn if_between(number: u32, least: u32, most: u32) -> Option<u32>
+fn if_between(number: u64, least: u64, most: u64) -> Option<u64>
     ensures is { result ≡ if_between least most number }
     ensures least { IfSome result (λ n. least ≤ n) }
     ensures most { IfSome result (λ n. n ≤ most) }

@@ -21,7 +21,9 @@ impl Workers {
         ensures { option_map (λ w. w.count) result ≡ number_between 1 64 text.now }
     {
         match number_between(text, 1, 64) {
-            Some(count) => Some(Workers { count }),
+            Some(count) => Some(Workers {
+                count: count as u32,
+            }),
             None => None,
         }
     }

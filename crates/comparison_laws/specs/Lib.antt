@@ -1,2 +1,3 @@
 pub mod Comparison
 pub mod ComparisonPrices
+pub use Rattle.flat_copy.specs.FlatCopy

@@ -17,7 +17,7 @@ use Rattle.inline_pass.specs.Flattening.{IsFlattened}
 use Rattle.inline_pass.proofs.FlatteningLaw.{flattening_is_after}
 use Rattle.aggregate_lower.specs.Lowering.{lowered_aggregates}
 use Rattle.aggregate_lower.proofs.LoweringLaw.{lowering_is_after}
-use Rattle.aggregate_accepted.proofs.CanonicalAgain.{canonical_again}
+use Rattle.aggregate_lower.proofs.CanonicalAgain.{canonical_again}
 use Rattle.flat_copy.specs.FlatCopy.{is_other, only_public, IsOnlyPublicAt}
 use Rattle.flat_copy.proofs.Marks.{marked_accepted}
 

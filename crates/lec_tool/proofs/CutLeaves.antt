@@ -14,8 +14,8 @@ use Rattle.hw_model.specs.Sound.{ports_of, input_types}
 use Rattle.hw_model.specs.Agreement.{input_bits}
 use Rattle.aggregate_laws.proofs.Words.{leaves_width}
 use Rattle.pass_laws.specs.PassLaw.{leaf_types, register_types}
-use Rattle.comparison_laws.specs.Comparison.{register_widths}
-use Rattle.comparison_laws.proofs.CopyWidths.{inputs_by_types, leaves_wide, state_by_widths}
+use Rattle.miter_blast.specs.Comparison.{register_widths}
+use Rattle.miter_blast.proofs.CopyWidths.{inputs_by_types, leaves_wide, state_by_widths}
 use Rattle.miter_blast.specs.Cuts.{cut}
 use Rattle.miter_blast.specs.Comparisons.{leaf_widths}
 

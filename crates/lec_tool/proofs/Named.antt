@@ -4,7 +4,7 @@ use Rattle.std.specs.Prelude.{IfOk}
 use Rattle.hw_model.specs.Types.{Name}
 use Rattle.hw_model.specs.Design.{Module, Design}
 use Rattle.name_legalise.specs.Legal.{legal}
-use Rattle.flat_copy.specs.FlatCopy.{IsFlatCopy}
+use Rattle.miter_blast.specs.FlatCopy.{IsFlatCopy}
 use Rattle.lec_tool.specs.LeafNames.{wanted_names, input_names, leaf_names, AreLeafNames}
 
 pub named : {E : Type 0} {V : Type 0} (items : V → List Name) (r : Result V E) (d : Design) (a : Name) (c : Design) (one m : Module) (wanted shown : List Name)

@@ -3,9 +3,9 @@ use Rattle.std.proofs.Common.{◌≡◌, ℕ, ◌≤◌, [], ◌∷◌, Some, No
 use Rattle.diag.specs.declared.refusal.Refusal.{Refusal}
 use Rattle.hw_model.specs.Types.{Name}
 use Rattle.hw_model.specs.Design.{Module, Design, find_module}
-use Rattle.flat_copy.proofs.CopyLaw.{copies_once}
-use Rattle.comparison_laws.specs.Comparison.{AreComparable}
-use Rattle.comparison_laws.specs.ComparisonPrices.{comparison_price}
+use Rattle.miter_blast.proofs.CopyLaw.{copies_once}
+use Rattle.miter_blast.specs.Comparison.{AreComparable}
+use Rattle.miter_blast.specs.ComparisonPrices.{comparison_price}
 use Rattle.miter_blast.specs.Pairs.{AreFound, HaveSamePorts, IsNoPair, no_left, no_right, ports}
 use Rattle.miter_blast.specs.Comparisons.{IsPriceOf, IsComparisonRefusal, no_pair, registers, price}
 use Rattle.lec_tool.specs.Verdicts.{IsAffordable}

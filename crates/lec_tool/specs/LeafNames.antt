@@ -4,7 +4,7 @@ use Rattle.std.specs.List.{filter}
 use Rattle.hw_model.specs.Types.{Name}
 use Rattle.hw_model.specs.Design.{Port, Op, Module, Design, is_register}
 use Rattle.name_legalise.specs.Legal.{legal}
-use Rattle.flat_copy.specs.FlatCopy.{IsFlatCopy}
+use Rattle.miter_blast.specs.FlatCopy.{IsFlatCopy}
 
 -- the name that a register wants: its own, or `_reg`
 abbrev pub register_name : Name → Name

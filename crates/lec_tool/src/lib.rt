@@ -3,3 +3,6 @@
 
 pub mod names;
 pub mod verdict;
+
+pub use miter_blast::fail::MiterFail;
+pub use miter_blast::input::Input;

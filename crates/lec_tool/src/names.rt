@@ -7,9 +7,9 @@ ghost use Rattle.ir_store.specs.Numbered.{ops_by_position};
 ghost use Rattle.name_legalise.specs.Legal.{legal};
 ghost use Rattle.lec_tool.specs.LeafNames.{register_name, wanted_names, register_names, input_names, is_output_at, AreLeafNames};
 
-use flat_copy::copies::flat_copy;
 use io_edge::byte_text::Text;
 use ir_store::design::{Module, PortList};
+use miter_blast::flat_copy;
 use name_legalise::names::legal_list;
 use op_verifier::Verified;
 use side_gates::places::{Places, is_register};

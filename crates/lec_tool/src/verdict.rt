@@ -5,10 +5,10 @@ ghost use Rattle.miter_blast.specs.Comparisons.{IsRefusedComparison};
 ghost use Rattle.lec_tool.specs.Verdicts.{IsVerdict};
 
 use cdcl_proof::solve::{Answer, solve};
-use comparison_laws::laws::{formulas_are_differences, unsatisfiable_formulas_agree};
 use miter_blast::comparing::miter;
 use miter_blast::fail::MiterFail;
 use miter_blast::input::Input;
+use miter_blast::{formulas_are_differences, unsatisfiable_formulas_agree};
 use mlir_printer::laws::what_is_canonical_is_printable;
 use op_verifier::Verified;
 use resolution_proof::log::Log;

@@ -15,17 +15,17 @@ use Rattle.pass_laws.specs.PassLaw.{register_types}
 use Rattle.net_rows.specs.Miters.{formula_of}
 use Rattle.net_rows.specs.RegisterMiters.{register_miter}
 use Rattle.flat_sides.specs.Sides.{side_of, IsPlain, IsFlat, AreAlike}
-use Rattle.flat_copy.specs.FlatCopy.{IsFlatCopy, IsFlatCopyAt, KeepsFlat}
-use Rattle.flat_copy.proofs.Alone.{found_alone}
-use Rattle.flat_copy.proofs.CopyLaw.{copy_keeps}
+use Rattle.gate_prices.specs.FlatCopy.{IsFlatCopy, IsFlatCopyAt, KeepsFlat}
+use Rattle.gate_prices.proofs.Alone.{found_alone}
+use Rattle.gate_prices.proofs.CopyLaw.{copy_keeps}
 use Rattle.side_gates.specs.FlatSteps.{slot, content_width}
 use Rattle.side_gates.specs.Stepped.{IsAlone}
 use Rattle.side_gates.proofs.LinkedRegisters.{registers_are, state_is_content}
 use Rattle.side_gates.proofs.PlainOrders.{plain_has_order}
-use Rattle.comparison_laws.specs.Comparison.{register_widths, AreComparable}
-use Rattle.comparison_laws.specs.ComparisonPrices.{copy_price, comparison_price}
-use Rattle.comparison_laws.proofs.CopyWidths.{kept_input_types, kept_widths}
-use Rattle.comparison_laws.proofs.Differences.{copies_alike}
+use Rattle.gate_prices.specs.Comparison.{register_widths, AreComparable}
+use Rattle.gate_prices.specs.ComparisonPrices.{copy_price, comparison_price}
+use Rattle.gate_prices.proofs.CopyWidths.{kept_input_types, kept_widths}
+use Rattle.gate_prices.proofs.Differences.{copies_alike}
 use Rattle.gate_prices.specs.BodyPrices.{body_price}
 use Rattle.gate_prices.proofs.Bodies.{price_of_body}
 use Rattle.miter_blast.specs.Building.{most_gates, modules_price, pair_price, AreReady, IsBuilt}

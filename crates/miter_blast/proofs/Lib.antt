@@ -8,3 +8,5 @@ pub mod SteppedWords
 pub mod Differences
 pub mod Formulas
 pub mod Compared
+pub use Rattle.gate_prices.proofs.CopyLaw
+pub use Rattle.gate_prices.proofs.CopyWidths

@@ -6,9 +6,9 @@ use Rattle.diag.specs.declared.refusal.Refusal.{Refusal}
 use Rattle.hw_model.specs.Types.{Name, width, leaves}
 use Rattle.hw_model.specs.Design.{Module, Design}
 use Rattle.hw_model.specs.Sound.{input_types}
-use Rattle.flat_copy.specs.FlatCopy.{IsFlatCopy}
-use Rattle.comparison_laws.specs.Comparison.{register_widths, AreComparable, IsFormulaOf}
-use Rattle.comparison_laws.specs.ComparisonPrices.{comparison_price}
+use Rattle.gate_prices.specs.FlatCopy.{IsFlatCopy}
+use Rattle.gate_prices.specs.Comparison.{register_widths, AreComparable, IsFormulaOf}
+use Rattle.gate_prices.specs.ComparisonPrices.{comparison_price}
 use Rattle.miter_blast.specs.declared.fail.MiterFail.{MiterFail}
 use Rattle.miter_blast.specs.declared.fail.MiterFail.TheVariants.{Refused, NoMemory}
 use Rattle.miter_blast.specs.MiterForms.{MiterForm}

@@ -10,7 +10,7 @@ use crate::miter::Miter;
 use crate::pair::{at_module, module_in, pair_of};
 use crate::widths::register_widths;
 use diag::cause::Cause;
-use flat_copy::copies::flat_copy;
+use gate_prices::flat_copy;
 use op_verifier::Verified;
 use std::alloc::Global;
 

@@ -11,3 +11,5 @@ pub mod input;
 pub mod miter;
 mod pair;
 mod widths;
+
+pub use gate_prices::{flat_copy, formulas_are_differences, unsatisfiable_formulas_agree};

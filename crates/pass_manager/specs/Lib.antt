@@ -1,3 +1,4 @@
 pub mod Results
 pub mod Works
 pub mod Flats
+pub use Rattle.aggregate_lower.specs.Lowering

@@ -12,4 +12,5 @@ mod laws;
 mod owners;
 pub mod run;
 
+pub use aggregate_lower::lowering_keeps;
 pub use laws::{passes_keep, result_once, results_follow};

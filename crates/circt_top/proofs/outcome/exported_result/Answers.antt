@@ -1,6 +1,5 @@
 use Rattle.std.proofs.Common.{◌∷◌, [], refl}
 use Rattle.std.proofs.lemmas.Result.{IfOk-weaker}
-use Rattle.hw_model.specs.Design.{Design}
 use Rattle.ir_store.specs.Designs.{design_of}
 use Rattle.op_verifier.specs.declared.accepted.Verified.{Verified}
 use Rattle.pass_pipeline.specs.declared.pass.Pass.TheVariants.{HwLowerAggregates}

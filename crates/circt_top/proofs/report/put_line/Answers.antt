@@ -14,4 +14,4 @@ pub returns-in-WriteFault-clause-ok : goal.returns-in-WriteFault-clause-ok
 returns-in-WriteFault-clause-ok g c = rw (c.in-WriteFault.is, ← c.shown_output-name.ensures) c.put_three-in-WriteFault.ensures.ok
 
 pub returns-in-NoMemory-clause-ok : goal.returns-in-NoMemory-clause-ok
-returns-in-NoMemory-clause-ok g c = rw c.in-NoMemory.is c.put_all-in-NoMemory.ensures.ok
+returns-in-NoMemory-clause-ok g c = rw c.in-NoMemory.is c.put_all.ensures.ok

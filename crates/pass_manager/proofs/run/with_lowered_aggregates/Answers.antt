@@ -4,7 +4,7 @@ use Rattle.accepted_edits.specs.Keeps.{IsFit}
 use Rattle.accepted_edits.proofs.Accepted.{accepted_fit}
 use Rattle.mlir_printer.proofs.printable.VerifiedDesigns.{canonical_designs_are_printable}
 use Rattle.aggregate_lower.specs.Lowering.{lowered_aggregates}
-use Rattle.aggregate_accepted.proofs.CanonicalAgain.{canonical_again}
+use Rattle.aggregate_lower.proofs.CanonicalAgain.{canonical_again}
 use Rattle.pass_manager.proofs.Results.{lower_aggregates_keeps}
 use Rattle.pass_manager.proofs.run.with_lowered_aggregates.Goals as goal
 

@@ -1,0 +1,120 @@
+//! The verdict on a module of the first input and one of the last.
+ghost use Rattle.std.specs.Prelude.{◌≡◌, ℕ, List, ◌++◌, codes, string_bytes, IfOk, IfErr, OnOk, Some};
+ghost use Rattle.hw_model.specs.Types.{Name};
+ghost use Rattle.hw_model.specs.Design.{Module, find_module};
+ghost use Rattle.ir_store.specs.Designs.{design_of};
+ghost use Rattle.command_line.specs.Line.Work.{comparison};
+ghost use Rattle.circt_top.specs.Accepting.{first_input};
+ghost use Rattle.circt_top.specs.Comparing.{last_input, last_number, in_pair, word_text, value_lines, difference_text};
+ghost use Rattle.circt_top.specs.Outcome.{Gives};
+ghost use Rattle.circt_top.specs.Conclusions.{IsConcluded};
+
+use crate::outcome::{Finding, Made, OutcomeFail, accept, first_input};
+use bits_core::Bits;
+use command_line::comparison::Comparison;
+use diag::refusal::Refusal;
+use io_edge::byte_text::Text;
+use lec_tool::MiterFail;
+use lec_tool::names::leaf_names;
+use lec_tool::verdict::{Verdict, lec};
+use op_verifier::Verified;
+use std::alloc::{AllocError, Global};
+use verilog_expr::push_literal;
+
+/// The verdict on the module of a name of the first input, and of that of another name of the last one. More than 2^32 inputs
+/// want more memory than there is.
+pub(crate) fn compare(
+    alloc: Global,
+    pair: &Comparison,
+    sources: &[Text],
+) -> Result<Made, OutcomeFail>
+    ensures { Gives (comparison (string_bytes pair.now.left) (string_bytes pair.now.right) pair.now.conflict_limit) sources.now result }
+{
+    let left = match accept(alloc, first_input(sources)) {
+        Ok(verified) => verified,
+        Err(fail) => return Err(fail.in_file(0)),
+    };
+    if sources.len() < 2 {
+        return conclude(alloc, pair, &left, &left, 0);
+    }
+    let Ok(number) = u32::try_from(sources.len() - 1) else {
+        return Err(OutcomeFail::NoMemory);
+    };
+    match accept(alloc, last_input(sources)) {
+        Ok(right) => conclude(alloc, pair, &left, &right, number),
+        Err(fail) => Err(fail.in_file(number)),
+    }
+}
+
+// The text of the last input.
+fn last_input(sources: &[Text]) -> &[u8]
+    ensures { result.now ≡ last_input sources.now }
+{
+    match sources {
+        [.., source] => source.as_bytes(),
+        [] => b"",
+    }
+}
+
+// The verdict on modules of two designs, of which the second is of the input of this number.
+fn conclude(
+    alloc: Global,
+    pair: &Comparison,
+    left: &Verified,
+    right: &Verified,
+    number: u32,
+) -> Result<Made, OutcomeFail>
+    ensures { IsConcluded pair.now (design_of left.now.design) (design_of right.now.design) number result }
+{
+    let a = pair.left.as_bytes();
+    let b = pair.right.as_bytes();
+    match lec(alloc, left, a, right, b, pair.conflict_limit) {
+        Ok(Verdict::Same(_)) => Ok(Made {
+            text: Text::of(alloc, b"c1 == c2\n")?,
+            finding: Finding::Given,
+        }),
+        Ok(Verdict::Differ(input)) => {
+            let names = leaf_names(alloc, left, a)?;
+            Ok(Made {
+                text: difference_text(alloc, names.as_slice(), input.as_slice())?,
+                finding: Finding::Different(input),
+            })
+        }
+        Ok(Verdict::Unknown(log)) => Ok(Made {
+            text: Text::of(alloc, b"unknown\n")?,
+            finding: Finding::Unknown(log),
+        }),
+        Err(MiterFail::Refused(refusal)) => Err(OutcomeFail::Refused(in_pair(number, refusal))),
+        Err(MiterFail::NoMemory) => Err(OutcomeFail::NoMemory),
+    }
+}
+
+// The refusal of a comparison, of which file 1 is the input of this number.
+fn in_pair(number: u32, refusal: Refusal) -> Refusal
+    ensures { result ≡ in_pair number refusal }
+{
+    let file = if refusal.file == 0 { 0 } else { number };
+    Refusal { file, ..refusal }
+}
+
+// That modules differ, and a line for each leaf.
+fn difference_text(alloc: Global, names: &[Text], values: &[Bits]) -> Result<Text, AllocError>
+    ensures { IfOk result (λ text. text ≡ difference_text names.now values.now) }
+{
+    let mut text = Text::of(alloc, b"c1 != c2\n")?;
+    push_lines(&mut text, names, values)?;
+    Ok(text)
+}
+
+// Adds a line for each leaf.
+fn push_lines(text: &mut Text, names: &[Text], values: &[Bits]) -> Result<(), AllocError>
+    ensures { OnOk result (text.new ≡ text.old ++ value_lines names.now values.now) }
+{
+    for (name, value) in names.iter().zip(values) {
+        text.push_bytes(name.as_bytes())?;
+        text.push_bytes(b" = ")?;
+        push_literal(text, u64::from(value.width()), false, value.value())?;
+        text.push_bytes(b"\n")?;
+    }
+    Ok(())
+}
