@@ -2,9 +2,17 @@
 #![tactic(auto)]
 
 #[cfg(test)]
+mod comparisons;
+#[cfg(test)]
+mod generations;
+#[cfg(test)]
+mod given_passes;
+#[cfg(test)]
 mod invocations;
 #[cfg(test)]
 mod memory;
+#[cfg(test)]
+mod named_files;
 #[cfg(test)]
 mod names;
 #[cfg(test)]
