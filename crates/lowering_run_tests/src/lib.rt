@@ -1,8 +1,7 @@
 //! Tests of aggregates that become their leaves: runs of designs before and after it, and of their Verilog, step by step.
 #![tactic(auto)]
 
-#[cfg(test)]
-mod designs;
+pub mod designs;
 #[cfg(test)]
 mod large;
 #[cfg(test)]

@@ -1,0 +1,22 @@
+//! Tests of `lec`: two modules, and the verdict on them.
+#![tactic(auto)]
+
+#[cfg(test)]
+mod aggregates;
+#[cfg(test)]
+mod arithmetic;
+pub mod commands;
+#[cfg(test)]
+mod comparisons;
+#[cfg(test)]
+mod equivalence;
+#[cfg(test)]
+mod operations;
+pub mod pairs;
+#[cfg(test)]
+mod parts;
+#[cfg(test)]
+mod refused;
+#[cfg(test)]
+mod register_pairs;
+pub mod replays;
