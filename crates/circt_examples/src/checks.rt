@@ -1,5 +1,5 @@
 //! Whether the cases of an example give what is expected.
-use crate::cases::cases;
+use crate::cases::{cases, commands};
 use crate::runs::run;
 use io_edge::file_access::{FileFail, Files};
 use std::alloc::{AllocError, Global};
@@ -12,8 +12,8 @@ const LIMIT: u64 = 1 << 20;
 struct Expectation {
     /// What the name of the file that has it ends with.
     ending: &'static str,
-    /// The words of the command.
-    words: &'static str,
+    /// The command: its first word, and the option that names it.
+    command: &'static str,
     /// Whether the texts are printed; else they are error messages.
     is_printed: bool,
     /// Whether the command prints what it printed again unchanged.
@@ -23,25 +23,25 @@ struct Expectation {
 const EXPECTATIONS: [Expectation; 4] = [
     Expectation {
         ending: ".opt.mlir",
-        words: "opt",
+        command: "opt",
         is_printed: true,
         is_stable: true,
     },
     Expectation {
         ending: ".v",
-        words: "translate --export-verilog",
+        command: "translate --export-verilog",
         is_printed: true,
         is_stable: false,
     },
     Expectation {
         ending: ".opt.txt",
-        words: "opt",
+        command: "opt",
         is_printed: false,
         is_stable: false,
     },
     Expectation {
         ending: ".v.txt",
-        words: "translate --export-verilog",
+        command: "translate --export-verilog",
         is_printed: false,
         is_stable: false,
     },
@@ -55,15 +55,18 @@ pub fn check_example(
     files: &mut impl Files,
     name: &str,
 ) -> anyhow::Result<bool> {
-    let Some(sources) = cases_of(alloc, files, name, ".mlir")? else {
+    let Some(example) = text_of(alloc, files, name, ".mlir")? else {
         println!(rt; "{name}: there is no such example")?;
         return Ok(false);
     };
+    let sources = cases(alloc, example.as_str())?;
     let mut is_well = false;
     for expectation in &EXPECTATIONS {
         let ending = expectation.ending;
-        if let Some(wanted) = cases_of(alloc, files, name, ending)? {
-            let met = count_met(rt, alloc, expectation, &sources, &wanted)?;
+        if let Some(text) = text_of(alloc, files, name, ending)? {
+            let wanted = cases(alloc, text.as_str())?;
+            let lines = commands(alloc, example.as_str(), expectation.command)?;
+            let met = count_met(rt, alloc, expectation, &lines, &sources, &wanted)?;
             println!(rt; "{name}{ending}: {met} of {} cases", sources.len())?;
             if met != sources.len() || met != wanted.len() {
                 return Ok(false);
@@ -74,61 +77,75 @@ pub fn check_example(
     Ok(is_well)
 }
 
-// The cases of an example's file of this ending, where it can be read.
-fn cases_of(
+// The text of an example's file of this ending, where it can be read.
+fn text_of(
     alloc: Global,
     files: &mut impl Files,
     name: &str,
     ending: &str,
-) -> anyhow::Result<Option<Vec<String>>> {
+) -> anyhow::Result<Option<String>> {
     let path = format!(in alloc; "{name}{ending}")?;
     match files.read(alloc, path.as_str(), LIMIT) {
-        Ok(text) => Ok(Some(cases(alloc, str::from_utf8(text.as_bytes())?)?)),
+        Ok(text) => Ok(Some(String::from_str(alloc, str::from_utf8(text.as_bytes())?)?)),
         Err(FileFail::Failed) => Ok(None),
         Err(FileFail::NoMemory) => Err(AllocError.into()),
     }
 }
 
-// How many cases give what is expected of them. Each other one is shown with what it gives.
+// How many cases give what is expected of them by the command of each line. Each other one is shown with what it gives.
 fn count_met(
     rt: &(impl Print + Threads + Sync),
     alloc: Global,
     expectation: &Expectation,
+    lines: &[String],
     sources: &[String],
     wanted: &[String],
 ) -> anyhow::Result<usize> {
     let mut met = 0usize;
     for (source, text) in sources.iter().zip(wanted) {
-        if is_met(rt, alloc, expectation, source.as_str(), text.as_str())? {
+        if is_met(
+            rt,
+            alloc,
+            expectation,
+            lines,
+            source.as_str(),
+            text.as_str(),
+        )? {
             met = met.saturating_add(1);
         }
     }
     Ok(met)
 }
 
-// Whether a command gives of a text what is expected, and where that is said of it, of what it prints
-// the same again.
+// Whether the command of each line gives of a text what is expected, and where that is said of it, `opt` of that the same
+// again.
 fn is_met(
     rt: &(impl Print + Threads + Sync),
     alloc: Global,
     expectation: &Expectation,
+    lines: &[String],
     source: &str,
     wanted: &str,
 ) -> anyhow::Result<bool> {
-    let is_stable = !expectation.is_stable || is_given(rt, alloc, expectation, wanted, wanted)?;
-    Ok(is_given(rt, alloc, expectation, source, wanted)? && is_stable)
+    let mut is_met = !expectation.is_stable
+        || is_given(rt, alloc, expectation, "opt", wanted, wanted)?;
+    for line in lines {
+        is_met &= is_given(rt, alloc, expectation, line.as_str(), source, wanted)?;
+    }
+    Ok(is_met)
 }
 
-// Whether a command gives this of a text: as its output alone, or as its error message alone. If not,
+// Whether the command of a line gives this of a text: as its output alone, or as its error message alone. If not,
 // what it gives is shown.
 fn is_given(
     rt: &(impl Print + Threads + Sync),
     alloc: Global,
     expectation: &Expectation,
+    line: &str,
     source: &str,
     wanted: &str,
 ) -> anyhow::Result<bool> {
-    let ended = run(rt, alloc, expectation.words, source)?;
+    let ended = run(rt, alloc, line, source)?;
     let (given, other) = if expectation.is_printed {
         (ended.out.contents(), ended.err.contents())
     } else {
@@ -138,7 +155,10 @@ fn is_given(
     let is_given = given == wanted.as_bytes() && other.is_empty() && ended.code == code;
     if !is_given {
         let shown = String::from_utf8_lossy(alloc, given)?;
-        println!(rt; "status {} of:\n{source}gives:\n{shown}", ended.code)?;
+        println!(rt;
+            "{line}: status {} of:\n{source}gives:\n{shown}",
+            ended.code
+        )?;
     }
     Ok(is_given)
 }

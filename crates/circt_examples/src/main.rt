@@ -4,7 +4,8 @@
 //! are several, a line that begins with `// -----` stands before each. A file beside it has what is
 //! expected of each case, in the same order: `NAME.opt.mlir` what `opt` prints, which `opt` prints
 //! again unchanged, `NAME.v` what `translate --export-verilog` prints, `NAME.opt.txt` and
-//! `NAME.v.txt` the error messages of these commands.
+//! `NAME.v.txt` the error messages of these commands. Lines `// RUN: circt WORDS` before the first case
+//! name the commands, with their options, that are to give it.
 #![tactic(auto)]
 
 mod cases;

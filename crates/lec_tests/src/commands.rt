@@ -3,7 +3,8 @@ use circt_top::Open;
 use circt_top::run::run_circt;
 use io_edge::memory_files::{MemoryFile, MemoryFiles};
 use io_edge::memory_sink::MemorySink;
-use std::alloc::{AllocError, AllocGlobal, Global};
+use lowering_tests::commands::words_of;
+use std::alloc::{AllocError, AllocGlobal};
 use std::thread::Threads;
 
 /// How a run ended: its exit status, and what it put on the output and on the error output.
@@ -12,15 +13,6 @@ pub struct Ended {
     pub code: u8,
     pub out: MemorySink,
     pub err: MemorySink,
-}
-
-// The words that stand between blanks.
-fn words_of(alloc: Global, line: &str) -> Result<Vec<String>, AllocError> {
-    let mut words = Vec::new(alloc);
-    for word in line.split_whitespace() {
-        words.push(String::from_str(alloc, word)?)?;
-    }
-    Ok(words)
 }
 
 /// The run of the words of a line, where `f.mlir` and standard input have one text and `g.mlir` another. The error comes only

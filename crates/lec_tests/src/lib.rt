@@ -5,18 +5,25 @@
 mod aggregates;
 #[cfg(test)]
 mod arithmetic;
-pub mod commands;
+#[cfg(test)]
+mod commands;
 #[cfg(test)]
 mod comparisons;
 #[cfg(test)]
 mod equivalence;
 #[cfg(test)]
 mod operations;
-pub mod pairs;
+#[cfg(test)]
+mod orders;
+#[cfg(test)]
+mod pairs;
 #[cfg(test)]
 mod parts;
 #[cfg(test)]
 mod refused;
 #[cfg(test)]
 mod register_pairs;
-pub mod replays;
+#[cfg(test)]
+mod replays;
+#[cfg(test)]
+mod ways;

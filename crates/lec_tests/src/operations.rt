@@ -1,23 +1,8 @@
-//! Each operation of words at several widths, against another way to say it and against a nearly equal one.
-use crate::pairs::{Pair, file_of, is_found_on};
-use std::alloc::{AllocError, AllocGlobal};
+//! Operations of words and of their parts at several widths, each against another way to say it and against a nearly equal one.
+use crate::ways::{BIT, WORD, Ways, first_other_at};
 use std::test::Fail;
-use std::thread::Threads;
 
-// The ports of all bodies: two words and a bit, and a word or a bit.
-const WORD: &str = "in %a : iW, in %b : iW, in %c : i1, out o : iW";
-
-const BIT: &str = "in %a : iW, in %b : iW, in %c : i1, out o : i1";
-
-/// An operation, another way to say it, and one that is nearly equal. `W` stands for a width and `D` for twice as much.
-struct Ways {
-    ports: &'static str,
-    operation: &'static str,
-    same: &'static str,
-    other: &'static str,
-}
-
-const WAYS: [Ways; 29] = [
+const OPERATIONS: [Ways; 19] = [
     Ways {
         ports: WORD,
         operation: "
@@ -254,147 +239,6 @@ const WAYS: [Ways; 29] = [
     Ways {
         ports: BIT,
         operation: "
-  %0 = comb.icmp eq %a, %b : iW
-  hw.output %0 : i1",
-        same: "
-  %0 = comb.icmp ule %a, %b : iW
-  %1 = comb.icmp ule %b, %a : iW
-  %2 = comb.and %0, %1 : i1
-  hw.output %2 : i1",
-        other: "
-  %0 = comb.icmp ule %a, %b : iW
-  hw.output %0 : i1",
-    },
-    Ways {
-        ports: BIT,
-        operation: "
-  %0 = comb.icmp ne %a, %b : iW
-  hw.output %0 : i1",
-        same: "
-  %0 = comb.icmp slt %a, %b : iW
-  %1 = comb.icmp slt %b, %a : iW
-  %2 = comb.or %0, %1 : i1
-  hw.output %2 : i1",
-        other: "
-  %0 = comb.icmp slt %a, %b : iW
-  hw.output %0 : i1",
-    },
-    // a sign that is turned makes the one order the other
-    Ways {
-        ports: BIT,
-        operation: "
-  %0 = comb.icmp slt %a, %b : iW
-  hw.output %0 : i1",
-        same: "
-  %zero = hw.constant 0 : iW
-  %ones = hw.constant -1 : iW
-  %one = comb.sub %zero, %ones : iW
-  %0 = comb.shru %ones, %one : iW
-  %sign = comb.xor %0, %ones : iW
-  %1 = comb.xor %a, %sign : iW
-  %2 = comb.xor %b, %sign : iW
-  %3 = comb.icmp ult %1, %2 : iW
-  hw.output %3 : i1",
-        other: "
-  %0 = comb.icmp ult %a, %b : iW
-  hw.output %0 : i1",
-    },
-    Ways {
-        ports: BIT,
-        operation: "
-  %0 = comb.icmp sle %a, %b : iW
-  hw.output %0 : i1",
-        same: "
-  %0 = comb.icmp sge %b, %a : iW
-  hw.output %0 : i1",
-        other: "
-  %0 = comb.icmp slt %a, %b : iW
-  hw.output %0 : i1",
-    },
-    Ways {
-        ports: BIT,
-        operation: "
-  %0 = comb.icmp sgt %a, %b : iW
-  hw.output %0 : i1",
-        same: "
-  %true = hw.constant true
-  %0 = comb.icmp sle %a, %b : iW
-  %1 = comb.xor %0, %true : i1
-  hw.output %1 : i1",
-        other: "
-  %0 = comb.icmp sge %a, %b : iW
-  hw.output %0 : i1",
-    },
-    Ways {
-        ports: BIT,
-        operation: "
-  %0 = comb.icmp sge %a, %b : iW
-  hw.output %0 : i1",
-        same: "
-  %true = hw.constant true
-  %0 = comb.icmp slt %a, %b : iW
-  %1 = comb.xor %0, %true : i1
-  hw.output %1 : i1",
-        other: "
-  %0 = comb.icmp uge %a, %b : iW
-  hw.output %0 : i1",
-    },
-    Ways {
-        ports: BIT,
-        operation: "
-  %0 = comb.icmp ult %a, %b : iW
-  hw.output %0 : i1",
-        same: "
-  %ones = hw.constant -1 : iW
-  %0 = comb.xor %a, %ones : iW
-  %1 = comb.xor %b, %ones : iW
-  %2 = comb.icmp ugt %0, %1 : iW
-  hw.output %2 : i1",
-        other: "
-  %0 = comb.icmp ule %a, %b : iW
-  hw.output %0 : i1",
-    },
-    Ways {
-        ports: BIT,
-        operation: "
-  %0 = comb.icmp ule %a, %b : iW
-  hw.output %0 : i1",
-        same: "
-  %0 = comb.icmp uge %b, %a : iW
-  hw.output %0 : i1",
-        other: "
-  %0 = comb.icmp ult %a, %b : iW
-  hw.output %0 : i1",
-    },
-    Ways {
-        ports: BIT,
-        operation: "
-  %0 = comb.icmp ugt %a, %b : iW
-  hw.output %0 : i1",
-        same: "
-  %0 = comb.icmp ult %b, %a : iW
-  hw.output %0 : i1",
-        other: "
-  %0 = comb.icmp ult %a, %b : iW
-  hw.output %0 : i1",
-    },
-    Ways {
-        ports: BIT,
-        operation: "
-  %0 = comb.icmp uge %a, %b : iW
-  hw.output %0 : i1",
-        same: "
-  %0 = comb.icmp eq %a, %b : iW
-  %1 = comb.icmp ugt %a, %b : iW
-  %2 = comb.or %0, %1 : i1
-  hw.output %2 : i1",
-        other: "
-  %0 = comb.icmp ugt %a, %b : iW
-  hw.output %0 : i1",
-    },
-    Ways {
-        ports: BIT,
-        operation: "
   %0 = comb.parity %a : iW
   hw.output %0 : i1",
         same: "
@@ -460,59 +304,20 @@ const WAYS: [Ways; 29] = [
     },
 ];
 
-// Whether the verdict on a pair is the one that it has, at a width.
-fn is_found_at(
-    rt: &(impl Threads + Sync + AllocGlobal),
-    pair: &Pair,
-    width: &str,
-    twice: &str,
-) -> Result<bool, AllocError> {
-    let text = file_of(rt.alloc(), pair)?;
-    let text = text.replace(rt.alloc(), "W", width)?;
-    let text = text.replace(rt.alloc(), "D", twice)?;
-    is_found_on(rt, text.as_str(), pair.same)
-}
-
-// The number of the first operation on which another verdict is found at a width.
-fn first_other_at(
-    rt: &(impl Threads + Sync + AllocGlobal),
-    width: &str,
-    twice: &str,
-) -> Result<Option<usize>, AllocError> {
-    for (number, ways) in WAYS.iter().enumerate() {
-        let equal = Pair {
-            ports: ways.ports,
-            one: ways.operation,
-            two: ways.same,
-            same: true,
-        };
-        let unequal = Pair {
-            two: ways.other,
-            same: false,
-            ..equal
-        };
-        let found = is_found_at(rt, &equal, width, twice)?;
-        if !found || !is_found_at(rt, &unequal, width, twice)? {
-            return Ok(Some(number));
-        }
-    }
-    Ok(None)
-}
-
 #[test]
 fn one_bit(rt: HostRuntime) -> Result<(), Fail> {
-    assert_eq!(rt; first_other_at(&rt, "1", "2")?, None);
+    assert_eq!(rt; first_other_at(&rt, &OPERATIONS, "1", "2")?, None);
     Ok(())
 }
 
 #[test]
 fn three_bits(rt: HostRuntime) -> Result<(), Fail> {
-    assert_eq!(rt; first_other_at(&rt, "3", "6")?, None);
+    assert_eq!(rt; first_other_at(&rt, &OPERATIONS, "3", "6")?, None);
     Ok(())
 }
 
 #[test]
 fn eight_bits(rt: HostRuntime) -> Result<(), Fail> {
-    assert_eq!(rt; first_other_at(&rt, "8", "16")?, None);
+    assert_eq!(rt; first_other_at(&rt, &OPERATIONS, "8", "16")?, None);
     Ok(())
 }

@@ -3,7 +3,7 @@ use bits_core::Bits;
 use hw_interpreter::design::{Module, Setting};
 use hw_interpreter::machine::{Stepped, step};
 use hw_interpreter::modules::{depth_of, module_state};
-use lowering_run_tests::designs::modules_of;
+use lowering_tests::designs::modules_of;
 use operation_values::bit_string::BitString;
 use std::alloc::{AllocError, Global};
 

@@ -6,8 +6,8 @@ use io_edge::memory_sink::MemorySink;
 use std::alloc::{AllocError, AllocGlobal, Global};
 use std::thread::Threads;
 
-// The words that stand between blanks.
-fn words_of(alloc: Global, line: &str) -> Result<Vec<String>, AllocError> {
+/// The words of a line, which stand between blanks. The error comes only when out of memory.
+pub fn words_of(alloc: Global, line: &str) -> Result<Vec<String>, AllocError> {
     let mut words = Vec::new(alloc);
     for word in line.split_whitespace() {
         words.push(String::from_str(alloc, word)?)?;

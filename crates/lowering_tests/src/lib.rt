@@ -1,28 +1,21 @@
-//! Tests of aggregates that become their leaves: texts and what is made of them.
+//! Tests of aggregates that become their leaves: runs of designs before and after it, and of their Verilog, step by step.
 #![tactic(auto)]
 
-#[cfg(test)]
-mod bitcasts;
-#[cfg(test)]
-mod choices;
 pub mod commands;
+pub mod designs;
 #[cfg(test)]
-mod exports;
+mod large;
 #[cfg(test)]
-mod instances;
+mod run_bitcasts;
 #[cfg(test)]
-mod joins;
+mod run_choices;
 #[cfg(test)]
-mod kept;
+mod run_injects;
 #[cfg(test)]
-mod leaf_names;
+mod run_leaves;
 #[cfg(test)]
-mod leafwise;
+mod run_registers;
 #[cfg(test)]
-mod registers;
+mod run_slices;
 #[cfg(test)]
-mod rows;
-#[cfg(test)]
-mod slices;
-#[cfg(test)]
-mod worked;
+mod runs;

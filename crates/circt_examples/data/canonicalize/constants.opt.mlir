@@ -1,0 +1,194 @@
+// -----
+module {
+  hw.module @T(in %a : i8, in %b : i8, out o : i8) {
+    hw.output %a : i8
+  }
+}
+// -----
+module {
+  hw.module @T(in %a : i128, in %b : i128, out o : i128) {
+    hw.output %a : i128
+  }
+}
+// -----
+module {
+  hw.module @T(in %a : i1, in %s : !hw.struct<x: i8, y: i8>) {
+    hw.output
+  }
+}
+// -----
+module {
+  hw.module @T(in %s : !hw.struct<x: i8, y: i8>, out o : i8) {
+    %0:2 = hw.struct_explode %s : !hw.struct<x: i8, y: i8>
+    hw.output %0#1 : i8
+  }
+}
+// -----
+module {
+  hw.module @T(in %clk : !seq.clock, in %a : i8, in %b : i8) {
+    %0 = comb.add %a, %b : i8
+    %1 = comb.sub %a, %b : i8
+    %2 = comb.xor %a, %b : i8
+    %r = seq.compreg %0, %clk : i8
+    %s = seq.firreg %a clock %clk : i8
+    %w = hw.wire %1 : i8
+    %u.o = hw.instance "u" @U(i: %2: i8) -> (o: i8)
+    hw.output
+  }
+  hw.module private @U(in %i : i8, out o : i8) {
+    hw.output %i : i8
+  }
+}
+// -----
+module {
+  hw.module @T(in %clk : !seq.clock, in %a : i8) {
+    %0 = comb.sub %r, %a : i8
+    %r = seq.compreg %0, %clk : i8
+    hw.output
+  }
+}
+// -----
+module {
+  hw.module @T(in %a : i8, out o : i8) {
+    %u.o = hw.instance "u" @U(i: %a: i8) -> (o: i8)
+    hw.output %u.o : i8
+  }
+  hw.module private @U(in %i : i8, out o : i8) {
+    hw.output %i : i8
+  }
+  hw.module private @V(in %i : i8) {
+    hw.output
+  }
+}
+// -----
+module {
+  hw.module @T(out o : i8, out p : i8, out q : i1, out r : i128) {
+    %c44_i8 = hw.constant 44 : i8
+    %c88_i8 = hw.constant 88 : i8
+    %false = hw.constant false
+    %c0_i128 = hw.constant 0 : i128
+    hw.output %c44_i8, %c88_i8, %false, %c0_i128 : i8, i8, i1, i128
+  }
+}
+// -----
+module {
+  hw.module @T(out o : i8, out p : i8, out q : i128, out r : i8, out s : i128) {
+    %c-128_i8 = hw.constant -128 : i8
+    %c0_i8 = hw.constant 0 : i8
+    %c1_i128 = hw.constant 1 : i128
+    %c-127_i8 = hw.constant -127 : i8
+    %c-170141183460469231731687303715884105728_i128 = hw.constant -170141183460469231731687303715884105728 : i128
+    hw.output %c-128_i8, %c0_i8, %c1_i128, %c-127_i8, %c-170141183460469231731687303715884105728_i128 : i8, i8, i128, i8, i128
+  }
+}
+// -----
+module {
+  hw.module @T(out o : i8, out p : i8, out q : i8, out r : i8, out s : i8) {
+    %c5_i8 = hw.constant 5 : i8
+    %c95_i8 = hw.constant 95 : i8
+    %c90_i8 = hw.constant 90 : i8
+    %c15_i8 = hw.constant 15 : i8
+    %c85_i8 = hw.constant 85 : i8
+    hw.output %c5_i8, %c95_i8, %c90_i8, %c15_i8, %c85_i8 : i8, i8, i8, i8, i8
+  }
+}
+// -----
+module {
+  hw.module @T(out o : i8, out p : i8, out q : i1, out r : i1, out s : i128) {
+    %c-128_i8 = hw.constant -128 : i8
+    %c0_i8 = hw.constant 0 : i8
+    %true = hw.constant true
+    %false = hw.constant false
+    %c-170141183460469231731687303715884105728_i128 = hw.constant -170141183460469231731687303715884105728 : i128
+    hw.output %c-128_i8, %c0_i8, %true, %false, %c-170141183460469231731687303715884105728_i128 : i8, i8, i1, i1, i128
+  }
+}
+// -----
+module {
+  hw.module @T(out o : i8, out p : i8, out q : i8, out r : i8) {
+    %c-3_i8 = hw.constant -3 : i8
+    %c-1_i8 = hw.constant -1 : i8
+    %c124_i8 = hw.constant 124 : i8
+    %c1_i8 = hw.constant 1 : i8
+    hw.output %c-3_i8, %c-1_i8, %c124_i8, %c1_i8 : i8, i8, i8, i8
+  }
+}
+// -----
+module {
+  hw.module @T(out o : i8, out p : i8, out q : i8, out r : i8, out s : i8, out t : i8) {
+    %c-128_i8 = hw.constant -128 : i8
+    %c0_i8 = hw.constant 0 : i8
+    %c1_i8 = hw.constant 1 : i8
+    %c-1_i8 = hw.constant -1 : i8
+    %c-1_i8_0 = hw.constant -1 : i8
+    %c0_i8_0 = hw.constant 0 : i8
+    hw.output %c-128_i8, %c0_i8, %c1_i8, %c-1_i8, %c-1_i8_0, %c0_i8_0 : i8, i8, i8, i8, i8, i8
+  }
+}
+// -----
+module {
+  hw.module @T(out o : i1, out p : i1, out q : i1, out r : i128, out s : i128) {
+    %false = hw.constant false
+    %true = hw.constant true
+    %true_0 = hw.constant true
+    %c-170141183460469231731687303715884105728_i128 = hw.constant -170141183460469231731687303715884105728 : i128
+    %c-1_i128 = hw.constant -1 : i128
+    hw.output %false, %true, %true_0, %c-170141183460469231731687303715884105728_i128, %c-1_i128 : i1, i1, i1, i128, i128
+  }
+}
+// -----
+module {
+  hw.module @T(out o : i1, out p : i1, out q : i1, out r : i1, out s : i1, out t : i1, out u : i1) {
+    %true = hw.constant true
+    %false = hw.constant false
+    %false_0 = hw.constant false
+    %true_0 = hw.constant true
+    %true_1 = hw.constant true
+    %false_1 = hw.constant false
+    %true_2 = hw.constant true
+    hw.output %true, %false, %false_0, %true_0, %true_1, %false_1, %true_2 : i1, i1, i1, i1, i1, i1, i1
+  }
+}
+// -----
+module {
+  hw.module @T(out o : i1, out p : i1, out q : i4, out r : i1) {
+    %true = hw.constant true
+    %false = hw.constant false
+    %c-6_i4 = hw.constant -6 : i4
+    %true_0 = hw.constant true
+    hw.output %true, %false, %c-6_i4, %true_0 : i1, i1, i4, i1
+  }
+}
+// -----
+module {
+  hw.module @T(out o : i8, out p : i3, out q : i128, out r : i8) {
+    %c-91_i8 = hw.constant -91 : i8
+    %c-3_i3 = hw.constant -3 : i3
+    %c-1_i128 = hw.constant -1 : i128
+    %c-86_i8 = hw.constant -86 : i8
+    hw.output %c-91_i8, %c-3_i3, %c-1_i128, %c-86_i8 : i8, i3, i128, i8
+  }
+}
+// -----
+module {
+  hw.module @T(out o : i8) {
+    %c-112_i8 = hw.constant -112 : i8
+    hw.output %c-112_i8 : i8
+  }
+}
+// -----
+module {
+  hw.module @T(in %a : i8, out o : i8, out p : i8, out q : i4, out r : !hw.array<2xi4>) {
+    %c5_i8 = hw.constant 5 : i8
+    %w = hw.wire %c5_i8 : i8
+    %true = hw.constant true
+    %c1_i4 = hw.constant 1 : i4
+    %0 = hw.aggregate_constant [2 : i4, 3 : i4] : !hw.array<2xi4>
+    %1 = comb.add %w, %c5_i8 : i8
+    %2 = comb.sub %c5_i8, %a : i8
+    %3 = hw.array_get %0[%true] : !hw.array<2xi4>, i1
+    %4 = hw.array_inject %5[%true], %c1_i4 : !hw.array<2xi4>, i1
+    %5 = hw.bitcast %c5_i8 : (i8) -> !hw.array<2xi4>
+    hw.output %1, %2, %3, %4 : i8, i8, i4, !hw.array<2xi4>
+  }
+}

@@ -1,0 +1,65 @@
+// RUN: circt opt --canonicalize
+// ----- Equal operands.
+// and, or: each once, in the order of the first ones
+module {
+  hw.module @T(in %a : i8, in %b : i8, out o : i8, out p : i8, out q : i8) {
+    %0 = comb.and %a, %b, %a : i8
+    %1 = comb.or %b, %a, %b, %a, %b {k} : i8
+    %2 = comb.and %a, %a, %a : i8
+    hw.output %0, %1, %2 : i8, i8, i8
+  }
+}
+// -----
+module {
+  hw.module @T(in %a : i1, in %b : i128, in %c : i128, out o : i1, out p : i128) {
+    %0 = comb.or %a, %a : i1
+    %1 = comb.and %b, %c, %c, %b : i128
+    hw.output %0, %1 : i1, i128
+  }
+}
+// ----- results of one operation of several
+module {
+  hw.module @T(in %s : !hw.struct<x: i8, y: i8>, out o : i8) {
+    %0:2 = hw.struct_explode %s : !hw.struct<x: i8, y: i8>
+    %1 = comb.and %0#0, %0#1, %0#0 : i8
+    hw.output %1 : i8
+  }
+}
+// ----- add, mul keep equal operands
+module {
+  hw.module @T(in %a : i8, in %b : i8, out o : i8, out p : i8, out q : i8) {
+    %0 = comb.add %a, %b, %a : i8
+    %1 = comb.mul %a, %a, %a : i8
+    %2 = comb.and %a, %b : i8
+    hw.output %0, %1, %2 : i8, i8, i8
+  }
+}
+// ----- xor: two go, and 0 is left of two
+module {
+  hw.module @T(in %a : i8, in %b : i8, in %c : i8, out o : i8, out p : i8, out q : i8, out r : i8, out s : i8) {
+    %0 = comb.xor %a, %a {k} : i8
+    %1 = comb.xor %a, %b, %a : i8
+    %2 = comb.xor %a, %a, %a : i8
+    %3 = comb.xor %a, %b, %a, %b : i8
+    %4 = comb.xor %b, %a, %c, %a {k} : i8
+    hw.output %0, %1, %2, %3, %4 : i8, i8, i8, i8, i8
+  }
+}
+// -----
+module {
+  hw.module @T(in %a : i1, in %b : i128, out o : i1, out p : i128, out q : i1) {
+    %0 = comb.xor %a, %a : i1
+    %1 = comb.xor %b, %b : i128
+    %2 = comb.xor %a, %a, %a : i1
+    hw.output %0, %1, %2 : i1, i128, i1
+  }
+}
+// -----
+module {
+  hw.module @T(in %a : i8, in %b : i8, in %s : !hw.struct<x: i8, y: i8>, out o : i8, out p : i8) {
+    %0:2 = hw.struct_explode %s : !hw.struct<x: i8, y: i8>
+    %1 = comb.xor %0#0, %0#1 : i8
+    %2 = comb.xor %a, %b : i8
+    hw.output %1, %2 : i8, i8
+  }
+}

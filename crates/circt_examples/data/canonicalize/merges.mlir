@@ -1,0 +1,209 @@
+// RUN: circt opt --canonicalize
+// ----- Two constants are joined, and constants stand last.
+module {
+  hw.module @T(in %a : i8, out o : i8) {
+    %k1 = hw.constant 1 : i8
+    %k2 = hw.constant 2 : i8
+    %0 = comb.add %k1, %a, %k2 : i8
+    hw.output %0 : i8
+  }
+}
+// ----- of each kind; the new constant stands just before the operation
+module {
+  hw.module @T(in %a : i8, out o : i8, out p : i8, out q : i8, out r : i8, out s : i8) {
+    %c85_i8 = hw.constant 85 : i8
+    %c15_i8 = hw.constant 15 : i8
+    %0 = comb.and %c85_i8, %a, %c15_i8 {k} : i8
+    %1 = comb.or %c85_i8, %a, %c15_i8 : i8
+    %2 = comb.xor %c85_i8, %a, %c15_i8 : i8
+    %3 = comb.mul %a, %c15_i8, %c85_i8 : i8
+    %4 = comb.add bin %a, %c85_i8, %c85_i8, %c85_i8 : i8
+    hw.output %0, %1, %2, %3, %4 : i8, i8, i8, i8, i8
+  }
+}
+// ----- several, between others; the constants that others use too stay
+module {
+  hw.module @T(in %a : i8, in %b : i8, out o : i8, out p : i8) {
+    %c1_i8 = hw.constant 1 : i8
+    %c2_i8 = hw.constant 2 : i8
+    %c3_i8 = hw.constant 3 : i8
+    %c4_i8 = hw.constant 4 : i8
+    %0 = comb.add %c1_i8, %a, %c2_i8, %c3_i8, %b, %c4_i8 : i8
+    %1 = comb.sub %a, %c3_i8 : i8
+    hw.output %0, %1 : i8, i8
+  }
+}
+// ----- what is joined to 0, to all ones and to 1
+module {
+  hw.module @T(in %a : i8, in %b : i8, out o : i8, out p : i8, out q : i8, out r : i8, out s : i8) {
+    %c1_i8 = hw.constant 1 : i8
+    %c-1_i8 = hw.constant -1 : i8
+    %c15_i8 = hw.constant 15 : i8
+    %c-16_i8 = hw.constant -16 : i8
+    %c3_i8 = hw.constant 3 : i8
+    %c-85_i8 = hw.constant -85 : i8
+    %0 = comb.add %c1_i8, %a, %c-1_i8 : i8
+    %1 = comb.and %c15_i8, %a, %c-16_i8 : i8
+    %2 = comb.or %c15_i8, %a, %c-16_i8 : i8
+    %3 = comb.xor %a, %c15_i8, %b, %c-16_i8 : i8
+    %4 = comb.mul %c3_i8, %a, %c-85_i8 : i8
+    hw.output %0, %1, %2, %3, %4 : i8, i8, i8, i8, i8
+  }
+}
+// ----- one bit, and 128
+module {
+  hw.module @T(in %a : i1, in %b : i128, out o : i1, out p : i128, out q : i128) {
+    %true = hw.constant true
+    %true_0 = hw.constant true
+    %c-170141183460469231731687303715884105728_i128 = hw.constant -170141183460469231731687303715884105728 : i128
+    %c-1_i128 = hw.constant -1 : i128
+    %0 = comb.xor %true, %a, %true_0 : i1
+    %1 = comb.add %c-170141183460469231731687303715884105728_i128, %c-1_i128, %b : i128
+    %2 = comb.mul %b, %c-170141183460469231731687303715884105728_i128, %c-1_i128 : i128
+    hw.output %0, %1, %2 : i1, i128, i128
+  }
+}
+// ----- a constant before others is moved, and keeps its place in the body
+module {
+  hw.module @T(in %a : i8, in %b : i8, out o : i8, out p : i8, out q : i8, out r : i8, out s : i8) {
+    %c5_i8 = hw.constant 5 {k} : i8
+    %0 = comb.add %c5_i8, %a : i8
+    %1 = comb.mul %a, %c5_i8, %b {k} : i8
+    %2 = comb.and %c5_i8, %b, %a : i8
+    %3 = comb.or %c5_i8, %b : i8
+    %4 = comb.xor bin %c5_i8, %b : i8
+    hw.output %0, %1, %2, %3, %4 : i8, i8, i8, i8, i8
+  }
+}
+// -----
+module {
+  hw.module @T(in %a : i1, in %b : i128, out o : i1, out p : i128) {
+    %0 = comb.xor %true, %a : i1
+    %true = hw.constant true
+    %1 = comb.add %c-1_i128, %b, %b : i128
+    %c-1_i128 = hw.constant -1 : i128
+    hw.output %0, %1 : i1, i128
+  }
+}
+// ----- one constant that stands last
+module {
+  hw.module @T(in %a : i8, in %b : i8, out o : i8, out p : i8) {
+    %c5_i8 = hw.constant 5 : i8
+    %0 = comb.add %a, %c5_i8 : i8
+    %1 = comb.and %b, %a, %c5_i8 : i8
+    hw.output %0, %1 : i8, i8
+  }
+}
+// ----- operations of two operands keep their order
+module {
+  hw.module @T(in %a : i8, out o : i8, out p : i8, out q : i1, out r : i16) {
+    %c5_i8 = hw.constant 5 : i8
+    %0 = comb.sub %c5_i8, %a : i8
+    %1 = comb.shl %c5_i8, %a : i8
+    %2 = comb.icmp eq %c5_i8, %a : i8
+    %3 = comb.concat %c5_i8, %a : i8, i8
+    hw.output %0, %1, %2, %3 : i8, i8, i1, i16
+  }
+}
+// ----- An operand of the same kind with one use is taken in.
+module {
+  hw.module @T(in %a : i8, in %b : i8, in %c : i8, out o : i8) {
+    %0 = comb.add %a, %b : i8
+    %1 = comb.add %0, %c : i8
+    hw.output %1 : i8
+  }
+}
+// ----- in its place among the operands
+module {
+  hw.module @T(in %a : i8, in %b : i8, in %c : i8, out o : i8, out p : i8) {
+    %0 = comb.mul %a, %b, %a : i8
+    %1 = comb.mul %c, %0, %b : i8
+    %2 = comb.add %a, %b : i8
+    %3 = comb.add %b, %c : i8
+    %4 = comb.add %3, %a, %2 : i8
+    hw.output %1, %4 : i8, i8
+  }
+}
+// ----- one after another
+module {
+  hw.module @T(in %a : i1, in %b : i1, in %c : i128, in %d : i128, out o : i1, out p : i128) {
+    %0 = comb.and %a, %b : i1
+    %1 = comb.and %a, %0 : i1
+    %2 = comb.and %1, %b : i1
+    %3 = comb.xor %c, %d : i128
+    %4 = comb.xor %d, %3 : i128
+    hw.output %2, %4 : i1, i128
+  }
+}
+// ----- it stands after the operation that takes it in
+module {
+  hw.module @T(in %a : i8, in %b : i8, in %c : i8, out o : i8, out p : i8) {
+    %0 = comb.or %1, %c : i8
+    %1 = comb.or %a, %b : i8
+    %2 = comb.sub %a, %b : i8
+    hw.output %0, %2 : i8, i8
+  }
+}
+// ----- the dictionary and `bin` are those of the operation that stays
+module {
+  hw.module @T(in %a : i8, in %b : i8, in %c : i8, out o : i8, out p : i8) {
+    %0 = comb.add bin %a, %b {inner} : i8
+    %1 = comb.add %0, %c {outer} : i8
+    %2 = comb.or %a, %b {sv.namehint = "inner"} : i8
+    %3 = comb.or bin %c, %2 : i8
+    hw.output %1, %3 : i8, i8
+  }
+}
+// ----- constants of both are joined
+module {
+  hw.module @T(in %a : i8, in %b : i8, out o : i8) {
+    %c1_i8 = hw.constant 1 : i8
+    %c2_i8 = hw.constant 2 : i8
+    %0 = comb.add %a, %c1_i8 : i8
+    %1 = comb.sub %a, %b : i8
+    %2 = comb.add %0, %1, %c2_i8 : i8
+    hw.output %2 : i8
+  }
+}
+// ----- two uses, by two operations and by one
+module {
+  hw.module @T(in %a : i8, in %b : i8, in %c : i8, out o : i8, out p : i8, out q : i8) {
+    %0 = comb.add %a, %b : i8
+    %1 = comb.add %0, %c : i8
+    %2 = comb.mul %a, %b : i8
+    %3 = comb.mul %2, %c, %2 : i8
+    hw.output %0, %1, %3 : i8, i8, i8
+  }
+}
+// ----- another kind, and `comb.sub`
+module {
+  hw.module @T(in %a : i8, in %b : i8, in %c : i8, out o : i8, out p : i8, out q : i8) {
+    %0 = comb.add %a, %b : i8
+    %1 = comb.mul %0, %c : i8
+    %2 = comb.and %a, %b : i8
+    %3 = comb.or %2, %c : i8
+    %4 = comb.sub %a, %b : i8
+    %5 = comb.sub %4, %c : i8
+    hw.output %1, %3, %5 : i8, i8, i8
+  }
+}
+// ----- itself, through a register, and through a wire
+module {
+  hw.module @T(in %clk : !seq.clock, in %a : i8, in %b : i8, out o : i8) {
+    %0 = comb.add %r, %a : i8
+    %r = seq.compreg %0, %clk : i8
+    %1 = comb.xor %a, %b : i8
+    %w = hw.wire %1 : i8
+    %2 = comb.xor %w, %a : i8
+    hw.output %2 : i8
+  }
+}
+// ----- an unused operation has the second use until it is gone
+module {
+  hw.module @T(in %a : i8, in %b : i8, in %c : i8, out o : i8) {
+    %0 = comb.add %a, %b : i8
+    %1 = comb.add %0, %c : i8
+    %2 = comb.add %0, %a : i8
+    hw.output %1 : i8
+  }
+}

@@ -1,0 +1,65 @@
+// -----
+module {
+  hw.module @T(in %a : i8, in %b : i8, in %c : i128, in %d : i128, out o : i8, out p : i8, out q : i128) {
+    hw.output %a, %b, %d : i8, i8, i128
+  }
+}
+// -----
+module {
+  hw.module @T(in %s : !hw.struct<x: i8, y: i1>, in %t : !hw.struct<x: i8, y: i1>, out o : !hw.struct<x: i8, y: i1>, out p : !hw.array<2xi8>) {
+    %0 = hw.aggregate_constant [1 : i8, 2 : i8] : !hw.array<2xi8>
+    hw.output %s, %0 : !hw.struct<x: i8, y: i1>, !hw.array<2xi8>
+  }
+}
+// -----
+module {
+  hw.module @T(in %c : i1, in %a : i8, in %s : !hw.struct<x: i8>, out o : i8, out p : i1, out q : !hw.struct<x: i8>) {
+    hw.output %a, %c, %s : i8, i1, !hw.struct<x: i8>
+  }
+}
+// -----
+module {
+  hw.module @T(in %clk : !seq.clock, in %c : i1, in %a : i128, out o : i128) {
+    %r = seq.compreg %r, %clk : i128
+    hw.output %r : i128
+  }
+}
+// -----
+module {
+  hw.module @T(in %c : i1, in %a : i8, out o : i1, out p : i1) {
+    %0 = comb.icmp ult %a, %1 : i8
+    %1 = comb.add %a, %a : i8
+    hw.output %c, %0 : i1, i1
+  }
+}
+// -----
+module {
+  hw.module @T(in %c : i1, out o : i1) {
+    hw.output %c : i1
+  }
+}
+// -----
+module {
+  hw.module @T(in %c : i1, out o : i1, out p : i8) {
+    %true = hw.constant true
+    %false = hw.constant false
+    %c1_i8 = hw.constant 1 : i8
+    %c0_i8 = hw.constant 0 : i8
+    %0 = comb.mux %c, %false, %true : i1
+    %1 = comb.mux %c, %c1_i8, %c0_i8 : i8
+    hw.output %0, %1 : i1, i8
+  }
+}
+// -----
+module {
+  hw.module @T(in %c : i1, in %a : i8, in %b : i8, out o : i8, out p : i8, out q : i8) {
+    %c5_i8 = hw.constant 5 : i8
+    %c5_i8_0 = hw.constant 5 : i8
+    %true = hw.constant true
+    %w = hw.wire %true : i1
+    %0 = comb.mux %c, %c5_i8, %c5_i8_0 : i8
+    %1 = comb.mux %w, %a, %b : i8
+    %2 = comb.mux %c, %a, %b : i8
+    hw.output %0, %1, %2 : i8, i8, i8
+  }
+}

@@ -1,0 +1,182 @@
+// -----
+module {
+  hw.module @T(in %a : i8, out o : i8, out p : i8, out q : i8, out r : i8, out s : i8) {
+    hw.output %a, %a, %a, %a, %a : i8, i8, i8, i8, i8
+  }
+}
+// -----
+module {
+  hw.module @T(in %a : i1, in %b : i128, out o : i1, out p : i128) {
+    hw.output %a, %b : i1, i128
+  }
+}
+// -----
+module {
+  hw.module @T(in %clk : !seq.clock, out o : i8) {
+    %r = seq.compreg %r, %clk : i8
+    hw.output %r : i8
+  }
+}
+// -----
+module {
+  hw.module @T(in %clk : !seq.clock, in %a : i8, out o : i8, out p : i8) {
+    %0 = comb.add %a, %a : i8
+    %1 = comb.mul %r, %0 : i8
+    %r = seq.compreg %1, %clk : i8
+    hw.output %0, %1 : i8, i8
+  }
+}
+// -----
+module {
+  hw.module @T(in %a : i8, in %b : i8, out o : i8, out p : i8, out q : i8, out r : i8) {
+    %0 = comb.add %a, %b : i8
+    %1 = comb.add %a, %b {k} : i8
+    %2 = comb.add bin %a, %b : i8
+    hw.output %0, %1, %2, %a : i8, i8, i8, i8
+  }
+}
+// -----
+module {
+  hw.module @T(in %a : i1, in %b : i128, out o : i1, out p : i128) {
+    %0 = comb.add %b, %b : i128
+    hw.output %a, %0 : i1, i128
+  }
+}
+// -----
+module {
+  hw.module @T(in %a : i1, in %b : i8, in %c : i128, out o : i1, out p : i8, out q : i128) {
+    %true = hw.constant true
+    %c1_i8 = hw.constant 1 : i8
+    %c-1_i128 = hw.constant -1 : i128
+    %0 = comb.add %a, %true : i1
+    %1 = comb.add %b, %c1_i8 : i8
+    %2 = comb.add %c, %c-1_i128 : i128
+    hw.output %0, %1, %2 : i1, i8, i128
+  }
+}
+// -----
+module {
+  hw.module @T(in %a : i8, in %b : i8, out o : i8, out p : i8, out q : i8) {
+    %0 = comb.or %a, %b : i8
+    hw.output %a, %0, %a : i8, i8, i8
+  }
+}
+// -----
+module {
+  hw.module @T(in %a : i1, in %b : i128, out o : i1, out p : i128) {
+    hw.output %a, %b : i1, i128
+  }
+}
+// -----
+module {
+  hw.module @T(in %a : i8, in %b : i8, in %c : i128, out o : i8, out p : i8, out q : i128) {
+    %0 = comb.xor %a, %b : i8
+    hw.output %a, %0, %c : i8, i8, i128
+  }
+}
+// -----
+module {
+  hw.module @T(in %a : i1, in %b : i1, out o : i1, out p : i1) {
+    %0 = comb.xor %a, %b : i1
+    hw.output %a, %0 : i1, i1
+  }
+}
+// -----
+module {
+  hw.module @T(in %a : i8, in %b : i1, out o : i8, out p : i8, out q : i1) {
+    %c1_i8 = hw.constant 1 : i8
+    %c-1_i8 = hw.constant -1 : i8
+    %true = hw.constant true
+    %0 = comb.or %a, %c1_i8 : i8
+    %1 = comb.xor %a, %c-1_i8 : i8
+    %2 = comb.xor %b, %true : i1
+    hw.output %0, %1, %2 : i8, i8, i1
+  }
+}
+// -----
+module {
+  hw.module @T(in %a : i8, in %b : i8, out o : i8, out p : i8, out q : i8) {
+    %0 = comb.and %a, %b : i8
+    hw.output %a, %0, %b : i8, i8, i8
+  }
+}
+// -----
+module {
+  hw.module @T(in %a : i1, in %b : i128, in %c : i8, out o : i1, out p : i128, out q : i8, out r : i8) {
+    %c127_i8 = hw.constant 127 : i8
+    %c-2_i8 = hw.constant -2 : i8
+    %0 = comb.and %c, %c127_i8 : i8
+    %1 = comb.and %c, %c-2_i8 : i8
+    hw.output %a, %b, %0, %1 : i1, i128, i8, i8
+  }
+}
+// -----
+module {
+  hw.module @T(in %a : i8, in %b : i8, in %c : i1, in %d : i128, out o : i8, out p : i8, out q : i1, out r : i128) {
+    %0 = comb.mul %a, %b : i8
+    hw.output %a, %0, %c, %d : i8, i8, i1, i128
+  }
+}
+// -----
+module {
+  hw.module @T(in %a : i8, in %b : i128, out o : i8, out p : i8, out q : i128) {
+    %c-1_i8 = hw.constant -1 : i8
+    %c2_i8 = hw.constant 2 : i8
+    %c-1_i128 = hw.constant -1 : i128
+    %0 = comb.mul %a, %c-1_i8 : i8
+    %1 = comb.mul %a, %c2_i8 : i8
+    %2 = comb.mul %b, %c-1_i128 : i128
+    hw.output %0, %1, %2 : i8, i8, i128
+  }
+}
+// -----
+module {
+  hw.module @T(in %a : i8, in %b : i8, out o : i8, out p : i8) {
+    %c0_i8 = hw.constant 0 {k} : i8
+    hw.output %c0_i8, %c0_i8 : i8, i8
+  }
+}
+// -----
+module {
+  hw.module @T(in %a : i1, in %b : i128, out o : i1, out p : i128) {
+    %false = hw.constant false
+    %c0_i128 = hw.constant 0 : i128
+    hw.output %false, %c0_i128 : i1, i128
+  }
+}
+// -----
+module {
+  hw.module @T(in %a : i8, in %b : i1, in %c : i128, out o : i8, out p : i1, out q : i128) {
+    %c-1_i8 = hw.constant -1 {k} : i8
+    %true = hw.constant true
+    %c-1_i128 = hw.constant -1 : i128
+    hw.output %c-1_i8, %true, %c-1_i128 : i8, i1, i128
+  }
+}
+// -----
+module {
+  hw.module @T(in %a : i8, in %b : i1, in %c : i128, out o : i8, out p : i1, out q : i128) {
+    %c0_i8 = hw.constant 0 {k} : i8
+    %false = hw.constant false
+    %c0_i128 = hw.constant 0 : i128
+    hw.output %c0_i8, %false, %c0_i128 : i8, i1, i128
+  }
+}
+// -----
+module {
+  hw.module @T(in %a : i8, out o : i8) {
+    %c0_i8 = hw.constant 0 {k} : i8
+    hw.output %c0_i8 : i8
+  }
+}
+// -----
+module {
+  hw.module @T(in %a : i8, out o : i8, out p : i8, out q : i8) {
+    %c0_i8 = hw.constant 0 : i8
+    %w = hw.wire %c0_i8 : i8
+    %0 = comb.and %a, %w : i8
+    %1 = comb.mul %w, %a : i8
+    %2 = comb.add %w, %a : i8
+    hw.output %0, %1, %2 : i8, i8, i8
+  }
+}

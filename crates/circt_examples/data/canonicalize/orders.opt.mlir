@@ -1,0 +1,181 @@
+// -----
+module {
+  hw.module @T(out o : i8) {
+    %c5_i8 = hw.constant 5 : i8
+    hw.output %c5_i8 : i8
+  }
+}
+// -----
+module {
+  hw.module @T(out o : i8, out p : i8, out q : i8) {
+    %c0_i8 = hw.constant 0 : i8
+    %c5_i8 = hw.constant 5 : i8
+    %c5_i8_0 = hw.constant 5 : i8
+    hw.output %c0_i8, %c5_i8, %c5_i8_0 : i8, i8, i8
+  }
+}
+// -----
+module {
+  hw.module @T(in %a : i8, in %b : i8, out o : i8) {
+    %0 = comb.add %a, %b {inner} : i8
+    hw.output %0 : i8
+  }
+}
+// -----
+module {
+  hw.module @T(in %a : i8, out o : i8, out p : i8, out q : i8, out r : i8, out s : i8) {
+    %c5_i8 = hw.constant 5 {k} : i8
+    %0 = comb.add %a, %c5_i8 : i8
+    %1 = comb.or %a, %c5_i8 : i8
+    %2 = comb.xor %a, %c5_i8 : i8
+    %3 = comb.and %a, %c5_i8 : i8
+    %4 = comb.mul %a, %c5_i8 : i8
+    hw.output %0, %1, %2, %3, %4 : i8, i8, i8, i8, i8
+  }
+}
+// -----
+module {
+  hw.module @T(in %a : i8, out o : i8, out p : i8, out q : i8) {
+    %c0_i8 = hw.constant 0 {k} : i8
+    %c-1_i8 = hw.constant -1 {k} : i8
+    hw.output %c0_i8, %c-1_i8, %c0_i8 : i8, i8, i8
+  }
+}
+// -----
+module {
+  hw.module @T(in %a : i8, out o : i8, out p : i8) {
+    %c5_i8 = hw.constant 5 {k} : i8
+    %0 = comb.and %a, %c5_i8 : i8
+    %1 = comb.or %a, %c5_i8 : i8
+    hw.output %0, %1 : i8, i8
+  }
+}
+// -----
+module {
+  hw.module @T(in %a : i8, out o : i8) {
+    %c5_i8 = hw.constant 5 {k} : i8
+    %0 = comb.xor %a, %c5_i8 : i8
+    hw.output %0 : i8
+  }
+}
+// -----
+module {
+  hw.module @T(in %a : i8, out o : i4) {
+    %0 = comb.extract %a from 2 {inner} : (i8) -> i4
+    hw.output %0 : i4
+  }
+}
+// -----
+module {
+  hw.module @T(in %a : i8, in %b : i8, out o : i16) {
+    %0 = comb.concat %a, %b {outer} : i8, i8
+    hw.output %0 : i16
+  }
+}
+// -----
+module {
+  hw.module @T(in %a : i8, out o : i8) {
+    hw.output %a : i8
+  }
+}
+// -----
+module {
+  hw.module @T(in %a : i8, in %b : i8, out o : i8) {
+    hw.output %a : i8
+  }
+}
+// -----
+module {
+  hw.module @T(in %a : i8, out o : i1) {
+    %true = hw.constant true
+    hw.output %true : i1
+  }
+}
+// -----
+module {
+  hw.module @T(in %clk : !seq.clock, in %rst : i1, in %a : i8, in %b : i8, out o : i8, out p : i8) {
+    %c0_i8 = hw.constant 0 : i8
+    %r = seq.compreg %b, %clk reset %rst, %c0_i8 : i8
+    %w = hw.wire %b : i8
+    %u.o = hw.instance "u" @U(i: %c0_i8: i8) -> (o: i8)
+    hw.output %w, %u.o : i8, i8
+  }
+  hw.module private @U(in %i : i8, out o : i8) {
+    hw.output %i : i8
+  }
+}
+// -----
+module {
+  hw.module @T(in %a : i8, in %b : i8, out o : i4) {
+    %0 = comb.extract %a from 4 : (i8) -> i4
+    hw.output %0 : i4
+  }
+}
+// -----
+module {
+  hw.module @T(in %a : i8, in %b : i8, out o : i8, out p : i4) {
+    %0 = comb.extract %a from 4 : (i8) -> i4
+    hw.output %a, %0 : i8, i4
+  }
+}
+// -----
+module {
+  hw.module @T(in %a : i8, in %b : i8, out o : i8, out p : i8) {
+    %c3_i8 = hw.constant 3 : i8
+    %0 = comb.divu %a, %c3_i8 : i8
+    %c6_i8 = hw.constant 6 : i8
+    %1 = comb.add %b, %c6_i8 : i8
+    hw.output %0, %1 : i8, i8
+  }
+}
+// -----
+module {
+  hw.module @T(in %clk : !seq.clock, in %c5_i8 : i8, out o : i8) {
+    %c5_i8_0 = hw.constant 5 : i8
+    %0 = comb.add %s, %c5_i8_0 : i8
+    %r = seq.compreg %0, %clk : i8
+    %1 = comb.add %r, %c5_i8 {sv.namehint = "sum"} : i8
+    %s = seq.compreg %1, %clk : i8
+    hw.output %r : i8
+  }
+}
+// -----
+module {
+  hw.module @T(in %a : i8, in %b : i8, out o : i8) {
+    %0 = comb.and %a, %1, %b : i8
+    %1 = comb.sub %a, %b : i8
+    hw.output %0 : i8
+  }
+}
+// -----
+module {
+  hw.module @T(in %a : i8, in %b : i8, out o : i8) {
+    %c5_i8 = hw.constant 5 : i8
+    %0 = comb.xor %a, %c5_i8 : i8
+    hw.output %0 : i8
+  }
+}
+// -----
+module {
+  hw.module @T(in %a : i8, in %b : i8, out o : i8) {
+    %c5_i8 = hw.constant 5 {k} : i8
+    %0 = comb.xor %a, %c5_i8 : i8
+    hw.output %0 : i8
+  }
+}
+// -----
+module {
+  hw.module @T(in %a : i8, in %b : i8, out o : i8) {
+    %c5_i8 = hw.constant 5 {k} : i8
+    %0 = comb.xor %a, %c5_i8 : i8
+    hw.output %0 : i8
+  }
+}
+// -----
+module {
+  hw.module @T(in %a : i8, in %b : i8, out o : i4) {
+    %0 = comb.concat %a, %b : i8, i8
+    %1 = comb.extract %0 from 12 : (i16) -> i4
+    hw.output %1 : i4
+  }
+}

@@ -1,0 +1,238 @@
+// RUN: circt opt --canonicalize
+// ----- all bits
+module {
+  hw.module @T(in %a : i8, in %b : i1, in %c : i128, out o : i8, out p : i1, out q : i128) {
+    %0 = comb.extract %a from 0 {k} : (i8) -> i8
+    %1 = comb.extract %b from 0 : (i1) -> i1
+    %2 = comb.extract %c from 0 : (i128) -> i128
+    hw.output %0, %1, %2 : i8, i1, i128
+  }
+}
+// -----
+module {
+  hw.module @T(in %clk : !seq.clock, out o : i8) {
+    %0 = comb.extract %r from 0 : (i8) -> i8
+    %r = seq.compreg %0, %clk : i8
+    hw.output %0 : i8
+  }
+}
+// ----- all but one
+module {
+  hw.module @T(in %a : i8, in %c : i128, out o : i7, out p : i7, out q : i127) {
+    %0 = comb.extract %a from 0 : (i8) -> i7
+    %1 = comb.extract %a from 1 : (i8) -> i7
+    %2 = comb.extract %c from 1 : (i128) -> i127
+    hw.output %0, %1, %2 : i7, i7, i127
+  }
+}
+// ----- of an extract with one use
+module {
+  hw.module @T(in %a : i8, in %b : i128, out o : i3, out p : i1) {
+    %0 = comb.extract %a from 2 {inner} : (i8) -> i5
+    %1 = comb.extract bin %0 from 1 {outer} : (i5) -> i3
+    %2 = comb.extract bin %b from 64 {inner} : (i128) -> i64
+    %3 = comb.extract %2 from 63 : (i64) -> i1
+    hw.output %1, %3 : i3, i1
+  }
+}
+// ----- one after another, and one that stands after
+module {
+  hw.module @T(in %a : i8, in %b : i8, out o : i2, out p : i1, out q : i8) {
+    %0 = comb.extract %a from 1 : (i8) -> i7
+    %1 = comb.extract %0 from 1 : (i7) -> i6
+    %2 = comb.extract %1 from 1 : (i6) -> i2
+    %3 = comb.extract %4 from 2 : (i4) -> i1
+    %4 = comb.extract %b from 4 : (i8) -> i4
+    %5 = comb.sub %a, %b : i8
+    hw.output %2, %3, %5 : i2, i1, i8
+  }
+}
+// ----- of one with two uses
+module {
+  hw.module @T(in %a : i8, in %b : i8, out o : i3, out p : i5, out q : i1, out r : i1) {
+    %0 = comb.extract %a from 2 : (i8) -> i5
+    %1 = comb.extract %0 from 1 : (i5) -> i3
+    %2 = comb.extract %b from 2 : (i8) -> i5
+    %3 = comb.extract %2 from 1 : (i5) -> i1
+    %4 = comb.extract %2 from 3 : (i5) -> i1
+    hw.output %1, %0, %3, %4 : i3, i5, i1, i1
+  }
+}
+// ----- of exactly one operand of a concat, which may have other uses
+module {
+  hw.module @T(in %a : i8, in %b : i4, in %c : i4, out o : i8, out p : i4, out q : i4, out r : i16) {
+    %0 = comb.concat %a, %b, %c : i8, i4, i4
+    %1 = comb.extract %0 from 8 : (i16) -> i8
+    %2 = comb.extract %0 from 4 {k} : (i16) -> i4
+    %3 = comb.extract %0 from 0 : (i16) -> i4
+    hw.output %1, %2, %3, %0 : i8, i4, i4, i16
+  }
+}
+// -----
+module {
+  hw.module @T(in %a : i1, in %b : i127, out o : i1, out p : i127) {
+    %0 = comb.concat %a, %b : i1, i127
+    %1 = comb.extract %0 from 127 : (i128) -> i1
+    %2 = comb.extract %0 from 0 : (i128) -> i127
+    hw.output %1, %2 : i1, i127
+  }
+}
+// ----- of two operands of a concat, of a part of one, of parts of two
+module {
+  hw.module @T(in %a : i8, in %b : i4, in %c : i4, out o : i8, out p : i3, out q : i4) {
+    %0 = comb.concat %a, %b, %c : i8, i4, i4
+    %1 = comb.extract %0 from 0 : (i16) -> i8
+    %2 = comb.extract %0 from 4 : (i16) -> i3
+    %3 = comb.extract %0 from 2 : (i16) -> i4
+    hw.output %1, %2, %3 : i8, i3, i4
+  }
+}
+// ----- a concat with one use is taken in, in its place
+module {
+  hw.module @T(in %a : i8, in %b : i4, in %c : i1, out o : i13, out p : i17) {
+    %0 = comb.concat %a, %b {inner} : i8, i4
+    %1 = comb.concat bin %0, %c {outer} : i12, i1
+    %2 = comb.concat bin %c, %b : i1, i4
+    %3 = comb.concat %a, %2, %b : i8, i5, i4
+    hw.output %1, %3 : i13, i17
+  }
+}
+// ----- one after another, and one that stands after
+module {
+  hw.module @T(in %a : i1, in %b : i1, out o : i128, out p : i8) {
+    %0 = comb.replicate %a : (i1) -> i126
+    %1 = comb.concat %3, %2 : i127, i1
+    %2 = comb.parity %0 : i126
+    %3 = comb.concat %4, %b : i126, i1
+    %4 = comb.concat %0 : i126
+    %5 = comb.replicate %b : (i1) -> i8
+    hw.output %1, %5 : i128, i8
+  }
+}
+// ----- two uses, by two operations and by one
+module {
+  hw.module @T(in %a : i8, in %b : i4, out o : i16, out p : i12, out q : i24) {
+    %0 = comb.concat %a, %b : i8, i4
+    %1 = comb.concat %0, %b : i12, i4
+    %2 = comb.concat %b, %a : i4, i8
+    %3 = comb.concat %2, %2 : i12, i12
+    hw.output %1, %0, %3 : i16, i12, i24
+  }
+}
+// ----- one operand, one copy, the same type
+module {
+  hw.module @T(in %a : i8, in %b : i1, in %c : i128, out o : i8, out p : i8, out q : i8, out r : i1, out s : i128) {
+    %0 = comb.concat %a {k} : i8
+    %1 = comb.replicate %a {k} : (i8) -> i8
+    %2 = hw.bitcast %a {k} : (i8) -> i8
+    %3 = comb.concat %b : i1
+    %4 = comb.replicate %c : (i128) -> i128
+    hw.output %0, %1, %2, %3, %4 : i8, i8, i8, i1, i128
+  }
+}
+// -----
+module {
+  hw.module @T(in %s : !hw.struct<x: i4, y: i4>, in %v : !hw.array<2xi4>, out o : !hw.struct<x: i4, y: i4>, out p : !hw.array<2xi4>) {
+    %0 = hw.bitcast %s : (!hw.struct<x: i4, y: i4>) -> !hw.struct<x: i4, y: i4>
+    %1 = hw.bitcast %v : (!hw.array<2xi4>) -> !hw.array<2xi4>
+    hw.output %0, %1 : !hw.struct<x: i4, y: i4>, !hw.array<2xi4>
+  }
+}
+// ----- a bitcast of a constant to its own type is the constant, with its dictionary
+module {
+  hw.module @T(out o : i8) {
+    %c5_i8 = hw.constant 5 {k} : i8
+    %0 = hw.bitcast %c5_i8 : (i8) -> i8
+    hw.output %0 : i8
+  }
+}
+// ----- two operands, two copies, types that differ in field names alone
+module {
+  hw.module @T(in %a : i8, in %s : !hw.struct<x: i4, y: i4>, out o : i16, out p : i16, out q : !hw.struct<x: i4, z: i4>, out r : i8) {
+    %0 = comb.concat %a, %a : i8, i8
+    %1 = comb.replicate %a : (i8) -> i16
+    %2 = hw.bitcast %s : (!hw.struct<x: i4, y: i4>) -> !hw.struct<x: i4, z: i4>
+    %3 = hw.bitcast %s : (!hw.struct<x: i4, y: i4>) -> i8
+    hw.output %0, %1, %2, %3 : i16, i16, !hw.struct<x: i4, z: i4>, i8
+  }
+}
+// ----- fields of what was made of fields
+module {
+  hw.module @T(in %a : i8, in %b : i8, out o : i8, out p : i8) {
+    %0 = hw.struct_create (%a, %b) : !hw.struct<x: i8, y: i8>
+    %1 = hw.struct_extract %0["x"] : !hw.struct<x: i8, y: i8>
+    %2 = hw.struct_extract %0["y"] {k} : !hw.struct<x: i8, y: i8>
+    hw.output %1, %2 : i8, i8
+  }
+}
+// -----
+module {
+  hw.module @T(in %clk : !seq.clock, in %a : i128, out o : i1, out p : !hw.struct<x: i128, y: i1>) {
+    %0 = hw.struct_extract %1["y"] : !hw.struct<x: i128, y: i1>
+    %1 = hw.struct_create (%a, %r) : !hw.struct<x: i128, y: i1>
+    %r = seq.compreg %0, %clk : i1
+    hw.output %0, %1 : i1, !hw.struct<x: i128, y: i1>
+  }
+}
+// ----- of other structs
+module {
+  hw.module @T(in %a : i8, in %s : !hw.struct<x: i8, y: i8>, out o : i8, out p : i8, out q : i8) {
+    %0 = hw.struct_inject %s["x"], %a : !hw.struct<x: i8, y: i8>
+    %1 = hw.struct_extract %0["x"] : !hw.struct<x: i8, y: i8>
+    %2 = hw.struct_create (%a, %a) : !hw.struct<x: i8, y: i8>
+    %3 = hw.wire %2 : !hw.struct<x: i8, y: i8>
+    %4 = hw.struct_extract %3["y"] : !hw.struct<x: i8, y: i8>
+    %5:2 = hw.struct_explode %2 : !hw.struct<x: i8, y: i8>
+    hw.output %1, %4, %5#0 : i8, i8, i8
+  }
+}
+// ----- elements of what was made of elements, the first of which has the highest index
+module {
+  hw.module @T(in %a : i8, in %b : i8, in %c : i8, out o : i8, out p : i8, out q : i8) {
+    %c0_i2 = hw.constant 0 : i2
+    %c1_i2 = hw.constant 1 : i2
+    %c-2_i2 = hw.constant -2 : i2
+    %0 = hw.array_create %a, %b, %c : i8
+    %1 = hw.array_get %0[%c0_i2] : !hw.array<3xi8>, i2
+    %2 = hw.array_get %0[%c1_i2] {k} : !hw.array<3xi8>, i2
+    %3 = hw.array_get %0[%c-2_i2] : !hw.array<3xi8>, i2
+    hw.output %1, %2, %3 : i8, i8, i8
+  }
+}
+// -----
+module {
+  hw.module @T(in %a : i128, in %s : !hw.struct<x: i8>, in %t : !hw.struct<x: i8>, out o : i128, out p : !hw.struct<x: i8>) {
+    %false = hw.constant false
+    %true = hw.constant true
+    %0 = hw.array_create %a : i128
+    %1 = hw.array_get %0[%false] : !hw.array<1xi128>, i1
+    %2 = hw.array_create %s, %t : !hw.struct<x: i8>
+    %3 = hw.array_get %2[%true] : !hw.array<2x!hw.struct<x: i8>>, i1
+    hw.output %1, %3 : i128, !hw.struct<x: i8>
+  }
+}
+// ----- at the length
+module {
+  hw.module @T(in %a : i8, in %b : i8, in %c : i8, out o : i8, out p : i8) {
+    %c-1_i2 = hw.constant -1 : i2
+    %true = hw.constant true
+    %0 = hw.array_create %a, %b, %c : i8
+    %1 = hw.array_get %0[%c-1_i2] : !hw.array<3xi8>, i2
+    %2 = hw.array_create %a : i8
+    %3 = hw.array_get %2[%true] : !hw.array<1xi8>, i1
+    hw.output %1, %3 : i8, i8
+  }
+}
+// ----- at an index that is no constant, and of other arrays
+module {
+  hw.module @T(in %a : i8, in %b : i8, in %i : i1, out o : i8, out p : i8, out q : i8) {
+    %true = hw.constant true
+    %0 = hw.array_create %a, %b : i8
+    %1 = hw.array_get %0[%i] : !hw.array<2xi8>, i1
+    %2 = hw.array_inject %0[%true], %b : !hw.array<2xi8>, i1
+    %3 = hw.array_get %2[%true] : !hw.array<2xi8>, i1
+    %4 = hw.aggregate_constant [1 : i8, 2 : i8] : !hw.array<2xi8>
+    %5 = hw.array_get %4[%true] : !hw.array<2xi8>, i1
+    hw.output %1, %3, %5 : i8, i8, i8
+  }
+}

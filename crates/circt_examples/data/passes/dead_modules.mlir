@@ -1,0 +1,64 @@
+// RUN: circt opt --symbol-dce
+// RUN: circt opt --pass-pipeline=builtin.module(hw.module(cse),symbol-dce,cse,symbol-dce)
+// ----- a private module that nothing instances
+module {
+  hw.module @T(in %a : i8, out o : i8) {
+    hw.output %a : i8
+  }
+  hw.module private @P(in %clk : !seq.clock, in %d : i1, out q : i1) {
+    %r = seq.compreg %d, %clk : i1
+    hw.output %r : i1
+  }
+}
+// ----- three deep: what a public one reaches stays, what only private ones reach goes, in any order
+module {
+  hw.module @T(in %a : i8, out o : i8) {
+    %u.o = hw.instance "u" @B(a: %a: i8) -> (o: i8)
+    hw.output %u.o : i8
+  }
+  hw.module private @D(in %a : i8, out o : i8) {
+    %u.o = hw.instance "u" @E(a: %a: i8) -> (o: i8)
+    hw.output %u.o : i8
+  }
+  hw.module private @C(in %a : i8, out o : i8) {
+    hw.output %a : i8
+  }
+  hw.module private @B(in %a : i8, out o : i8) {
+    %u.o = hw.instance "u" @C(a: %a: i8) -> (o: i8)
+    hw.output %u.o : i8
+  }
+  hw.module private @E(in %a : i8, out o : i8) {
+    %u.o = hw.instance "u" @F(a: %a: i8) -> (o: i8)
+    %v.o = hw.instance "v" @C(a: %u.o: i8) -> (o: i8)
+    hw.output %v.o : i8
+  }
+  hw.module private @F(in %a : i8, out o : i8) {
+    hw.output %a : i8
+  }
+}
+// ----- public modules stay, instanced or not
+module {
+  hw.module @T(in %a : i8, out o : i8) {
+    %u.o = hw.instance "u" @B(a: %a: i8) -> (o: i8)
+    hw.output %u.o : i8
+  }
+  hw.module @B(in %a : i8, out o : i8) {
+    hw.output %a : i8
+  }
+  hw.module @C(in %a : i8, out o : i8) {
+    hw.output %a : i8
+  }
+}
+// ----- a private module that a public one reaches that nothing instances
+module {
+  hw.module @T(in %a : i8, out o : i8) {
+    hw.output %a : i8
+  }
+  hw.module private @C(in %a : i8, out o : i8) {
+    hw.output %a : i8
+  }
+  hw.module @B(in %a : i8, out o : i8) {
+    %u.o = hw.instance "u" @C(a: %a: i8) -> (o: i8)
+    hw.output %u.o : i8
+  }
+}

@@ -1,0 +1,131 @@
+// -----
+module {
+  hw.module @T(in %a : i8, in %b : i8, out o : i8) {
+    %0 = comb.add %a, %b {x} : i8
+    %1 = comb.sub %0, %0 : i8
+    hw.output %1 : i8
+  }
+}
+// -----
+module {
+  hw.module @T(in %a : i8, in %b : i8, out o : i8) {
+    %0 = comb.add %a, %b {x} : i8
+    hw.output %0 : i8
+  }
+}
+// -----
+module {
+  hw.module @T(in %a : i128, in %b : i128, in %c : i128, out o : i128, out p : i128, out q : i128) {
+    %0 = comb.and %a, %b : i128
+    %1 = comb.mul %0, %c : i128
+    hw.output %1, %1, %1 : i128, i128, i128
+  }
+}
+// -----
+module {
+  hw.module @T(in %a : i8, in %b : i8, in %c : i8, out o : i8, out p : i8) {
+    %0 = comb.mul %1, %c : i8
+    %1 = comb.add %a, %b : i8
+    hw.output %0, %0 : i8, i8
+  }
+}
+// -----
+module {
+  hw.module @T(in %a : i8, in %b : i8, in %c : i8, out o : i8, out p : i8) {
+    %0 = comb.mul %1, %c : i8
+    %1 = comb.add %a, %b : i8
+    hw.output %0, %0 : i8, i8
+  }
+}
+// -----
+module {
+  hw.module @T(in %a : i8, in %b : i8, out o : i1, out p : i1) {
+    %0 = comb.parity %1 : i8
+    %1 = comb.xor %2, %a : i8
+    %2 = comb.shl %a, %b : i8
+    hw.output %0, %0 : i1, i1
+  }
+}
+// -----
+module {
+  hw.module @T(in %clk : !seq.clock, in %a : i8, out o : i8) {
+    %r = seq.compreg %0, %clk : i8
+    %0 = comb.add %r, %a : i8
+    hw.output %0 : i8
+  }
+}
+// -----
+module {
+  hw.module @T(out o : i8, out p : i8, out q : i1, out r : i1) {
+    %c-1_i8 = hw.constant -1 : i8
+    %true = hw.constant true
+    hw.output %c-1_i8, %c-1_i8, %true, %true : i8, i8, i1, i1
+  }
+}
+// -----
+module {
+  hw.module @T(in %s : !hw.struct<x: i8, y: i8>, out o : i8) {
+    %0:2 = hw.struct_explode %s : !hw.struct<x: i8, y: i8>
+    %1 = comb.add %0#0, %0#1, %0#0 : i8
+    hw.output %1 : i8
+  }
+}
+// -----
+module {
+  hw.module @T(in %a : i8, in %b : i8, out o : i8, out p : i8) {
+    %0 = comb.add bin %a, %b : i8
+    hw.output %0, %0 : i8, i8
+  }
+}
+// -----
+module {
+  hw.module @T(in %s : !hw.struct<x: i8, y: i8>, in %a : !hw.array<4xi8>, in %i : i2, out o : i8, out p : i8, out q : i8, out r : i8) {
+    %0 = hw.struct_extract %s["y"] : !hw.struct<x: i8, y: i8>
+    %1 = hw.array_get %a[%i] : !hw.array<4xi8>, i2
+    hw.output %0, %1, %1, %0 : i8, i8, i8, i8
+  }
+}
+// -----
+module {
+  hw.module @T(out o : !hw.array<2xi8>, out p : !hw.array<2xi8>, out q : !hw.array<2xi8>) {
+    %0 = hw.aggregate_constant [1 : i8, 2 : i8] : !hw.array<2xi8>
+    %1 = hw.aggregate_constant [1 : i8, 3 : i8] : !hw.array<2xi8>
+    hw.output %0, %1, %0 : !hw.array<2xi8>, !hw.array<2xi8>, !hw.array<2xi8>
+  }
+}
+// -----
+module {
+  hw.module @T(in %a : i8, out o : i8, out p : i8) {
+    %0 = comb.mul %a, %a : i8
+    hw.output %0, %0 : i8, i8
+  }
+  hw.module @U(in %a : i8, out o : i8, out p : i8) {
+    %0 = comb.mul %a, %a : i8
+    hw.output %0, %0 : i8, i8
+  }
+}
+// -----
+module {
+  hw.module @T(in %a : i8, out o : i8) {
+    hw.output %a : i8
+  }
+}
+// -----
+module {
+  hw.module @T(in %a : i8, in %b : i8, out o : i8) {
+    hw.output %a : i8
+  }
+}
+// -----
+module {
+  hw.module @T(in %a : i8, in %b : i8, out o : i8) {
+    hw.output %a : i8
+  }
+}
+// -----
+module {
+  hw.module @T(in %s : !hw.struct<x: i8, y: i8>, out o : i8) {
+    %0:2 = hw.struct_explode %s : !hw.struct<x: i8, y: i8>
+    hw.output %0#1 : i8
+  }
+}
