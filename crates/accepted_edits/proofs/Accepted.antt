@@ -40,7 +40,7 @@ use Rattle.op_verifier.proofs.Unrefused.{or_none, no_op_cause, no_header_cause, 
 use Rattle.opcode.specs.declared.listed.Listed.TheVariants as listed
 use Rattle.canonical_form.specs.Dictionaries.{module_keys}
 use Rattle.canonical_form.specs.Bytes.{Each, AreBytes}
-use Rattle.mlir_printer.specs.Printable.{IsDefined, settled_result, IsPrintableOp, IsPrintablePort, EndsWithOutput, IsPrintableModule, Printable}
+use Rattle.printable_designs.specs.Printable.{IsDefined, settled_result, IsPrintableOp, IsPrintablePort, EndsWithOutput, IsPrintableModule, Printable}
 use Rattle.canonical_form.specs.Dictionaries.{IsKeptDictionary}
 use Rattle.hw_edits.specs.Follows.{Valid}
 use Rattle.hw_edits.specs.Resets.{has_mark, marks_by_symbol}
@@ -51,7 +51,7 @@ use Rattle.accepted_edits.proofs.ResetsKept.{resets_kept}
 use Rattle.accepted_edits.proofs.Resets.{reset_marked, no_other_reset}
 use Rattle.hw_edits.proofs.ResetsKept.{find_symbol}
 use Rattle.std.proofs.lemmas.Bool.{or_from}
-use Rattle.mlir_printer.proofs.printable.VerifiedDesigns.{all_defined}
+use Rattle.printable_designs.proofs.VerifiedDesigns.{all_defined}
 
 -- ---- lists
 

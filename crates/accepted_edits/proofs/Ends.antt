@@ -1,7 +1,7 @@
 -- The output stays the last where another operation is put in, taken out or changed in place.
 use Rattle.std.proofs.Common.{◌≡◌, ◌<◌, ℕ, zero, suc, true, false, List, [], ◌∷◌, map, length, set, insert, remove, Some, slice_get, sym, ap, ◌∙◌, arith}
 use Rattle.hw_model.specs.Design.{Ref, Op, is_output_op}
-use Rattle.mlir_printer.specs.Printable.{EndsWithOutput}
+use Rattle.printable_designs.specs.Printable.{EndsWithOutput}
 use Rattle.hw_edits.specs.Edit.{retarget}
 
 ends_after : (x : Op) (os : List Op) → is_output_op x ≡ false → EndsWithOutput os → EndsWithOutput (x ∷ os)

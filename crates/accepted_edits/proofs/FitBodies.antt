@@ -1,5 +1,5 @@
 -- What is known of the operations of a fit design, and of operations that are moved to another body.
-use Rattle.std.proofs.Common.{◌≡◌, ℕ, zero, suc, Bool, true, false, cond, List, [], ◌∷◌, map, Option, Some, None, slice_get, refl, sym, ap, ap₂, ◌∙◌, inl, inr}
+use Rattle.std.proofs.Common.{◌≡◌, ℕ, Bool, true, false, cond, List, [], ◌∷◌, map, Option, Some, None, slice_get, refl, sym, ap, ap₂, ◌∙◌, inl, inr}
 use Rattle.std.specs.Prelude.{is_some, slice_index_or}
 use Rattle.std.proofs.lemmas.List.{length-map}
 use Rattle.std.proofs.lemmas.Option.{slice_get-map}
@@ -22,7 +22,7 @@ use Rattle.accepted_edits.specs.Keeps.{IsFitting, IsFit}
 use Rattle.accepted_edits.proofs.Causes.{undefined_told, types_told, known_told, undefined_more, types_more, known_more, length_more, own_more, none_or, when_false}
 use Rattle.accepted_edits.proofs.Accepted.{printable_with, fit_found}
 use Rattle.op_verifier.proofs.SoundDesigns.{known_at}
-use Rattle.mlir_printer.proofs.printable.VerifiedDesigns.{all_defined}
+use Rattle.printable_designs.proofs.VerifiedDesigns.{all_defined}
 
 -- ---- types that are settled
 

@@ -33,13 +33,13 @@ use Rattle.op_verifier.proofs.NoCauseAlone.{no_cause_alone}
 use Rattle.op_verifier.proofs.Unrefused.{no_op_cause, ops_unrefused, no_header_cause, module_unrefused}
 use Rattle.op_checks.proofs.Widths.{neither}
 use Rattle.design_cycles.proofs.Callees.{found_at}
-use Rattle.mlir_printer.specs.Naming.{instance_name_hints, pack_name_hints, name_hints_of, name_hints, body_name_hints, port_name_hint, port_name_hints}
-use Rattle.mlir_printer.specs.Texts.{parts_in}
-use Rattle.mlir_printer.specs.Printable.{IsPrintableModule, Printable}
+use Rattle.printable_designs.specs.NameHints.{instance_name_hints, pack_name_hints, name_hints_of, name_hints, body_name_hints, port_name_hints}
+use Rattle.printable_designs.specs.Parts.{parts_in}
+use Rattle.printable_designs.specs.Printable.{IsPrintableModule, Printable}
 use Rattle.accepted_edits.specs.Keeps.{IsPrintableBody, IsFit}
 use Rattle.accepted_edits.proofs.Accepted.{each_at, each_from, light_is_accepted}
-use Rattle.mlir_printer.proofs.printable.VerifiedDesigns.{port_names}
-use Rattle.mlir_printer.proofs.steps.Listing.{instance_length}
+use Rattle.printable_designs.proofs.VerifiedDesigns.{port_names}
+use Rattle.printable_designs.proofs.NameCounts.{instance_length}
 use Rattle.hw_model.proofs.Weights.{register_weighs}
 
 -- ---- types have leaves

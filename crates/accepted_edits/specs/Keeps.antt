@@ -13,7 +13,7 @@ use Rattle.op_verifier.specs.OpChecks.{value_cause, alone_cause}
 use Rattle.opcode.specs.declared.listed.Listed.TheVariants as listed
 use Rattle.canonical_form.specs.Dictionaries.{module_keys}
 use Rattle.canonical_form.specs.Bytes.{Each, AreBytes}
-use Rattle.mlir_printer.specs.Printable.{IsPrintableOp, IsPrintablePort, EndsWithOutput}
+use Rattle.printable_designs.specs.Printable.{IsPrintableOp, IsPrintablePort, EndsWithOutput}
 use Rattle.canonical_form.specs.Dictionaries.{IsKeptDictionary}
 use Rattle.hw_edits.specs.Follows.{ValidEdit, Valid}
 use Rattle.accepted_edits.specs.Asked.{operand_in, operands_in, AllowsMore, AllowMore}

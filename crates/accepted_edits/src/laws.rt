@@ -10,7 +10,7 @@ ghost use Rattle.hw_model.specs.Hierarchy.{calls};
 ghost use Rattle.hw_model.specs.Weight.{weight};
 ghost use Rattle.op_verifier.specs.OpChecks.{op_cause};
 ghost use Rattle.op_verifier.specs.Verdict.{IsAccepted};
-ghost use Rattle.mlir_printer.specs.Printable.{Printable};
+ghost use Rattle.printable_designs.specs.Printable.{Printable};
 ghost use Rattle.hw_edits.specs.Follows.{ValidEdit, Valid};
 ghost use Rattle.hw_edits.specs.Laws.{InPlace, Inserted, Erased, IsUnused, erase_op, insert_op, with_body};
 ghost use Rattle.hw_edits.specs.Registers.{Reloaded};

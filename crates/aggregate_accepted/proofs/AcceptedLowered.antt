@@ -3,7 +3,7 @@ use Rattle.std.proofs.Common.{List}
 use Rattle.hw_model.specs.Kinds.{Kind}
 use Rattle.hw_model.specs.Design.{Port, Op, Design}
 use Rattle.op_verifier.specs.Verdict.{IsAccepted}
-use Rattle.mlir_printer.specs.Printable.{Printable}
+use Rattle.printable_designs.specs.Printable.{Printable}
 use Rattle.accepted_edits.proofs.Accepted.{accepted_fit}
 use Rattle.accepted_edits.proofs.NameCounts.{accepted_again}
 use Rattle.aggregate_laws.specs.Aggregates.{aggregate_rules}

@@ -23,8 +23,8 @@ use Rattle.op_verifier.proofs.Unrefused.{no_op_cause, ops_unrefused, no_header_c
 use Rattle.canonical_form.specs.Bytes.{Each}
 use Rattle.canonical_form.specs.ResultTypes.{HaveTypes}
 use Rattle.canonical_form.specs.Canonical.{IsCanonicalOp, IsCanonicalPort, IsCanonicalModule, IsCanonical}
-use Rattle.mlir_printer.specs.Naming.{is_pack, name_hints_of}
-use Rattle.mlir_printer.specs.Printable.{settled_result, IsPrintableOp, IsPrintablePort, IsPrintableModule, Printable}
+use Rattle.printable_designs.specs.NameHints.{is_pack, name_hints_of}
+use Rattle.printable_designs.specs.Printable.{settled_result, IsPrintableOp, IsPrintablePort, IsPrintableModule, Printable}
 use Rattle.accepted_edits.proofs.Accepted.{each_at, each_from}
 use Rattle.accepted_edits.proofs.NameCounts.{leaves_all, names_weigh, ports_weigh, found_here, light}
 

@@ -21,7 +21,7 @@ use Rattle.port_checks.specs.InstanceChecks.{port_types, names_ports, call_cause
 use Rattle.port_checks.specs.ResetPorts.{is_reset_port}
 use Rattle.op_verifier.specs.OpChecks.{has_other_outputs}
 use Rattle.op_verifier.proofs.Distinct.{distinct_symbols}
-use Rattle.mlir_printer.specs.Printable.{EndsWithOutput}
+use Rattle.printable_designs.specs.Printable.{EndsWithOutput}
 use Rattle.accepted_edits.specs.Keeps.{IsFit}
 use Rattle.accepted_edits.proofs.Causes.{when_false}
 use Rattle.accepted_edits.proofs.Resets.{no_other_reset, no_other_join}

@@ -11,7 +11,7 @@ use Rattle.op_checks.proofs.Widths.{neither}
 use Rattle.op_verifier.specs.Answers.{when}
 use Rattle.op_verifier.specs.Headers.{has_port, has_wrong_clock, ports_cause}
 use Rattle.op_verifier.proofs.Unrefused.{or_none, when_none}
-use Rattle.mlir_printer.specs.Printable.{IsPrintablePort}
+use Rattle.printable_designs.specs.Printable.{IsPrintablePort}
 use Rattle.accepted_edits.proofs.Causes.{none_or, when_false}
 use Rattle.inline_pass.proofs.FitModules.{IsFitModule, fit_module}
 use Rattle.aggregate_laws.specs.Leaves.{bare_port, leaf_port, leaf_ports}

@@ -28,7 +28,7 @@ use Rattle.op_checks.specs.LimitChecks.{of_type, has_constant_outside, has_extra
 use Rattle.op_checks.specs.CountChecks.{operands_written, operand_count, type_count, has_miscounted_parts}
 use Rattle.op_checks.proofs.NoOwnCause.{NoOwnCause}
 use Rattle.op_checks.proofs.Owned.{integer_outside}
-use Rattle.mlir_printer.specs.Naming.{is_pack}
+use Rattle.printable_designs.specs.NameHints.{is_pack}
 use Rattle.aggregate_accepted.proofs.LeafTypes.{few_bits, IsNarrow}
 
 -- ---- tests

@@ -21,8 +21,8 @@ use Rattle.op_checks.specs.OwnChecks.{own_cause}
 use Rattle.op_verifier.specs.Answers.{when}
 use Rattle.op_verifier.specs.OpChecks.{has_again, has_undefined, settled_by, settled_type, divides_by_constant}
 use Rattle.op_verifier.proofs.SoundDesigns.{known_at}
-use Rattle.mlir_printer.specs.Printable.{settled_result, IsPrintableOp}
-use Rattle.mlir_printer.proofs.printable.VerifiedDesigns.{all_defined}
+use Rattle.printable_designs.specs.Printable.{settled_result, IsPrintableOp}
+use Rattle.printable_designs.proofs.VerifiedDesigns.{all_defined}
 use Rattle.fold_laws.proofs.NewOps.{own_none}
 use Rattle.accepted_edits.specs.Keeps.{IsFitting}
 use Rattle.accepted_edits.proofs.Causes.{none_or, when_false}

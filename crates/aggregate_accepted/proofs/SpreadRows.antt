@@ -25,8 +25,8 @@ use Rattle.op_checks.specs.CountChecks.{operands_written, operand_count, type_co
 use Rattle.op_checks.proofs.NoOwnCause.{NoOwnCause}
 use Rattle.op_checks.proofs.Widths.{neither}
 use Rattle.op_verifier.specs.OpChecks.{has_again, divides_by_constant}
-use Rattle.mlir_printer.specs.Printable.{settled_result, IsPrintableOp}
-use Rattle.mlir_printer.proofs.printable.VerifiedDesigns.{all_defined}
+use Rattle.printable_designs.specs.Printable.{settled_result, IsPrintableOp}
+use Rattle.printable_designs.proofs.VerifiedDesigns.{all_defined}
 use Rattle.fold_laws.proofs.NewOps.{own_none}
 use Rattle.aggregate_laws.specs.Leaves.{bare_result}
 use Rattle.aggregate_laws.specs.Rows.{all_leaves}

@@ -8,7 +8,7 @@ use Rattle.hw_model.specs.Design.{Port, Op, Module, Design, find_module}
 use Rattle.port_checks.specs.InstanceChecks.{port_names}
 use Rattle.op_verifier.specs.Headers.{has_twice}
 use Rattle.canonical_form.specs.Bytes.{Each, AreBytes}
-use Rattle.mlir_printer.specs.Printable.{IsPrintablePort}
+use Rattle.printable_designs.specs.Printable.{IsPrintablePort}
 use Rattle.aggregate_laws.specs.Leaves.{bare_port, leaf_ports}
 
 -- ports become their leaves: those of each module are named for the first time, with bytes where the ports have these, and

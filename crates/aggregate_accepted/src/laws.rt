@@ -12,7 +12,7 @@ ghost use Rattle.hw_model.specs.Sound.{type_in};
 ghost use Rattle.hw_model.specs.Weight.{weight};
 ghost use Rattle.hw_edits.specs.Follows.{Follows};
 ghost use Rattle.op_verifier.specs.Verdict.{IsAccepted};
-ghost use Rattle.mlir_printer.specs.Printable.{Printable};
+ghost use Rattle.printable_designs.specs.Printable.{Printable};
 ghost use Rattle.port_checks.specs.ResetPorts.{is_reset_port};
 ghost use Rattle.accepted_edits.specs.Keeps.{IsFit};
 ghost use Rattle.pass_laws.specs.PassLaw.{register_types, leaf_types};

@@ -16,7 +16,7 @@ use Rattle.mlir_syntax.specs.TypeText.{most_open}
 use Rattle.canonical_form.specs.Bytes.{Each, AreBytes}
 use Rattle.op_verifier.specs.Headers.{has_twice}
 use Rattle.op_verifier.specs.Verdict.{IsAccepted}
-use Rattle.mlir_printer.specs.Printable.{IsPrintablePort}
+use Rattle.printable_designs.specs.Printable.{IsPrintablePort}
 use Rattle.accepted_edits.proofs.NameCounts.{found_here, light}
 use Rattle.pass_laws.proofs.FreshOnce.{fresh_once}
 use Rattle.aggregate_laws.specs.Leaves.{leaf_port, leaf_ports}

@@ -13,7 +13,7 @@ use Rattle.port_checks.proofs.Least.{found_module}
 use Rattle.canonical_form.specs.Bytes.{Each}
 use Rattle.op_verifier.specs.Verdict.{IsAccepted}
 use Rattle.op_verifier.proofs.AcceptedDesigns.{accepted_finite, accepted_acyclic}
-use Rattle.mlir_printer.specs.Printable.{IsPrintablePort, IsPrintableModule, Printable}
+use Rattle.printable_designs.specs.Printable.{IsPrintablePort, IsPrintableModule, Printable}
 use Rattle.accepted_edits.specs.Keeps.{IsFit}
 use Rattle.accepted_edits.proofs.Accepted.{each_at, accepted_fit}
 use Rattle.pass_pipeline.specs.declared.pass.Pass.TheVariants.{HwLowerAggregates}

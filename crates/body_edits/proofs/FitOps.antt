@@ -26,7 +26,7 @@ use Rattle.op_checks.specs.CountChecks.{type_count}
 use Rattle.op_checks.specs.TypeChecks.{has_bad_part, is_outside}
 use Rattle.op_checks.proofs.Widths.{neither}
 use Rattle.op_verifier.proofs.NoCauseAlone.{no_cause_alone}
-use Rattle.mlir_printer.specs.Printable.{IsPrintableOp, settled_result}
+use Rattle.printable_designs.specs.Printable.{IsPrintableOp, settled_result}
 use Rattle.ir_store.specs.BodyOps.{BodyOp, ids_in, all_replaced, IsUnused}
 use Rattle.ir_store.specs.Live.{IsLive, HasLive, AreLive}
 use Rattle.ir_store.specs.Numbered.{position_of, ref_by, op_by, ops_by_position}

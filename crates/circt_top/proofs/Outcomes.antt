@@ -24,7 +24,7 @@ use Rattle.op_verifier.specs.declared.verify_fail.VerifyFail.{VerifyFail}
 use Rattle.op_verifier.specs.declared.verify_fail.VerifyFail.TheVariants as verifying
 use Rattle.op_verifier.specs.Answered.{Explains}
 use Rattle.op_verifier.specs.Verdict.{IsAccepted}
-use Rattle.mlir_printer.specs.Printable.{Printable}
+use Rattle.printable_designs.specs.Printable.{Printable}
 use Rattle.canonical_form.specs.Canonical.{IsCanonical}
 use Rattle.mlir_printer.specs.Texts.{ir_text}
 use Rattle.circt_top.specs.Accepting.{Accepted, unaccepted}

@@ -17,7 +17,7 @@ use Rattle.port_checks.specs.ResetPorts.{is_reset_port}
 use Rattle.port_checks.proofs.Least.{found_module}
 use Rattle.op_verifier.specs.Verdict.{IsAccepted}
 use Rattle.op_verifier.proofs.AcceptedDesigns.{accepted_finite, accepted_acyclic, accepted_resets}
-use Rattle.mlir_printer.specs.Printable.{Printable}
+use Rattle.printable_designs.specs.Printable.{Printable}
 use Rattle.pass_laws.specs.PassLaw.{register_types}
 use Rattle.flat_copy.specs.FlatCopy.{IsFlatCopy, KeepsFlat}
 use Rattle.flat_copy.proofs.CopyLaw.{copy_keeps}

@@ -17,7 +17,7 @@ use Rattle.hw_model.proofs.Agreeing.{agreeing_runs}
 use Rattle.port_checks.specs.ResetPorts.{is_reset_port}
 use Rattle.op_verifier.specs.Verdict.{IsAccepted}
 use Rattle.op_verifier.proofs.AcceptedDesigns.{accepted_resets}
-use Rattle.mlir_printer.specs.Printable.{Printable}
+use Rattle.printable_designs.specs.Printable.{Printable}
 use Rattle.net_rows.specs.RegisterMiters.{DifferInStep, IsStepDifference}
 use Rattle.flat_sides.specs.Sides.{side_of, AreAlike}
 use Rattle.flat_sides.proofs.FlatMiters.{flat_step_difference, flat_step_clauses, register_miter_paid}

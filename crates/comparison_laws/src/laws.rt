@@ -12,7 +12,7 @@ ghost use Rattle.hw_model.specs.Meaning.{machine};
 ghost use Rattle.hw_model.specs.Sound.{output_types};
 ghost use Rattle.hw_model.specs.Agreement.{LevelStep, Agree};
 ghost use Rattle.op_verifier.specs.Verdict.{IsAccepted};
-ghost use Rattle.mlir_printer.specs.Printable.{Printable};
+ghost use Rattle.printable_designs.specs.Printable.{Printable};
 ghost use Rattle.pass_laws.specs.PassLaw.{register_types};
 ghost use Rattle.net_rows.specs.RegisterPrices.{registers_price};
 ghost use Rattle.flat_sides.specs.Sides.{IsFlat, AreAlike};

@@ -16,7 +16,7 @@ use Rattle.design_cycles.specs.Asked.{HasDistinctSymbols}
 use Rattle.design_cycles.proofs.Callees.{found_at}
 use Rattle.op_verifier.specs.Verdict.{IsAccepted}
 use Rattle.op_verifier.proofs.AcceptedDesigns.{accepted_distinct}
-use Rattle.mlir_printer.specs.Printable.{Printable}
+use Rattle.printable_designs.specs.Printable.{Printable}
 use Rattle.hw_edits.specs.Follows.{Valid}
 use Rattle.hw_edits.proofs.ResetsKept.{find_symbol}
 use Rattle.accepted_edits.proofs.Accepted.{accepted_fit}

@@ -7,8 +7,8 @@ use Rattle.hw_model.specs.Design.{Design}
 use Rattle.ir_store.specs.Designs.{StoredModule, numbered_module}
 use Rattle.canonical_form.specs.Canonical.{IsCanonical}
 use Rattle.op_verifier.specs.Verdict.{IsAccepted}
-use Rattle.mlir_printer.specs.Printable.{Printable}
-use Rattle.mlir_printer.proofs.printable.VerifiedDesigns.{canonical_designs_are_printable}
+use Rattle.printable_designs.specs.Printable.{Printable}
+use Rattle.printable_designs.proofs.VerifiedDesigns.{canonical_designs_are_printable}
 use Rattle.accepted_edits.specs.Keeps.{IsFit}
 use Rattle.accepted_edits.proofs.Accepted.{accepted_fit}
 use Rattle.pass_pipeline.specs.declared.pass.Pass.TheVariants.{HwFlattenModules, HwLowerAggregates}

@@ -10,7 +10,7 @@ use Rattle.hw_model.specs.Sound.{body_of}
 use Rattle.hw_model.specs.Weight.{weight_of, weight}
 use Rattle.hw_model.proofs.Weights.{weight_not_raised}
 use Rattle.op_verifier.specs.Verdict.{IsAccepted}
-use Rattle.mlir_printer.specs.Printable.{Printable}
+use Rattle.printable_designs.specs.Printable.{Printable}
 use Rattle.hw_edits.specs.Follows.{SameEdit, Follows}
 use Rattle.hw_edits.proofs.Follows.{no_same_edit, follows_each}
 use Rattle.accepted_edits.specs.Keeps.{IsFit, KeepsModules}

@@ -9,7 +9,7 @@ use Rattle.hw_model.specs.Machine.{Same}
 use Rattle.hw_model.specs.Meaning.{machine}
 use Rattle.hw_model.specs.Weight.{weight}
 use Rattle.op_verifier.specs.Verdict.{IsAccepted}
-use Rattle.mlir_printer.specs.Printable.{Printable}
+use Rattle.printable_designs.specs.Printable.{Printable}
 use Rattle.aggregate_laws.specs.LeafPorts.{split_ports}
 use Rattle.aggregate_laws.specs.Scalars.{has_aggregates}
 use Rattle.pass_laws.specs.PassLaw.{leaf_types, register_types}

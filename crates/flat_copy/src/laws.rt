@@ -6,7 +6,7 @@ ghost use Rattle.hw_model.specs.Design.{Module, Design};
 ghost use Rattle.hw_model.specs.Machine.{Same};
 ghost use Rattle.hw_model.specs.Meaning.{machine};
 ghost use Rattle.op_verifier.specs.Verdict.{IsAccepted};
-ghost use Rattle.mlir_printer.specs.Printable.{Printable};
+ghost use Rattle.printable_designs.specs.Printable.{Printable};
 ghost use Rattle.flat_copy.specs.FlatCopy.{with_marks, IsFlatCopy, KeepsFlat};
 
 /// Does nothing. Its clauses say that an accepted design that can be printed is so whichever of its modules are private, and

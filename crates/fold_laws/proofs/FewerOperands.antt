@@ -20,8 +20,8 @@ use Rattle.op_checks.specs.OwnChecks.{own_cause}
 use Rattle.op_checks.proofs.NoOwnCause.{NoOwnCause}
 use Rattle.op_verifier.specs.OpChecks.{has_again, has_undefined, settled_type, divides_by_constant, value_cause, alone_cause}
 use Rattle.op_verifier.proofs.NoCauseAlone.{types_of}
-use Rattle.mlir_printer.specs.Printable.{IsPrintableOp, settled_result}
-use Rattle.mlir_printer.proofs.printable.VerifiedDesigns.{all_defined}
+use Rattle.printable_designs.specs.Printable.{IsPrintableOp, settled_result}
+use Rattle.printable_designs.proofs.VerifiedDesigns.{all_defined}
 use Rattle.hw_edits.specs.Edit.{result_word, HoldsBut}
 use Rattle.hw_edits.specs.Falls.{LocalHeight}
 use Rattle.hw_edits.specs.Follows.{Wide}

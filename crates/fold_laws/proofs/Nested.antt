@@ -15,7 +15,7 @@ use Rattle.hw_model.specs.Sound.{type_in, Fits, OpFits}
 use Rattle.hw_model.specs.Value.{op_value}
 use Rattle.hw_model.specs.Weight.{kind_weight, body_weight}
 use Rattle.op_verifier.specs.OpChecks.{has_again, has_undefined, value_cause, alone_cause}
-use Rattle.mlir_printer.specs.Printable.{IsPrintableOp}
+use Rattle.printable_designs.specs.Printable.{IsPrintableOp}
 use Rattle.hw_edits.specs.Edit.{is_anchor, result_word, word_of, HoldsBut}
 use Rattle.hw_edits.specs.Falls.{LocalHeight}
 use Rattle.hw_edits.specs.Follows.{Wide}

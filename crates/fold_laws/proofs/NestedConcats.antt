@@ -31,7 +31,7 @@ use Rattle.op_checks.proofs.FitIntegers.{joined_sum}
 use Rattle.op_checks.proofs.NoOwnCause.{NoOwnCause}
 use Rattle.op_verifier.specs.OpChecks.{settled_type, divides_by_constant, alone_cause}
 use Rattle.op_verifier.proofs.NoCauseAlone.{types_of}
-use Rattle.mlir_printer.specs.Printable.{IsDefined, IsPrintableOp}
+use Rattle.printable_designs.specs.Printable.{IsDefined, IsPrintableOp}
 use Rattle.accepted_edits.specs.Keeps.{IsFit}
 use Rattle.accepted_edits.proofs.Accepted.{each_at}
 use Rattle.accepted_edits.proofs.FitBodies.{settled_here}

@@ -34,7 +34,7 @@ use Rattle.op_checks.proofs.NoOwnCause.{NoOwnCause}
 use Rattle.op_checks.proofs.Widths.{neither, bits_within}
 use Rattle.op_verifier.specs.OpChecks.{settled_type, divides_by_constant, alone_cause}
 use Rattle.op_verifier.proofs.NoCauseAlone.{types_of}
-use Rattle.mlir_printer.specs.Printable.{IsDefined, IsPrintableOp}
+use Rattle.printable_designs.specs.Printable.{IsDefined, IsPrintableOp}
 use Rattle.accepted_edits.specs.Keeps.{IsFit}
 use Rattle.accepted_edits.proofs.Accepted.{each_at}
 use Rattle.fold_laws.specs.Edits.{Edit, edited_by, fold_by}

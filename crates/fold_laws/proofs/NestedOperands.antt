@@ -23,7 +23,7 @@ use Rattle.op_checks.specs.OwnChecks.{own_cause}
 use Rattle.op_checks.proofs.NoOwnCause.{NoOwnCause}
 use Rattle.op_verifier.specs.OpChecks.{has_again, settled_type, divides_by_constant, alone_cause}
 use Rattle.op_verifier.proofs.NoCauseAlone.{types_of}
-use Rattle.mlir_printer.specs.Printable.{IsDefined, IsPrintableOp, settled_result}
+use Rattle.printable_designs.specs.Printable.{IsDefined, IsPrintableOp, settled_result}
 use Rattle.accepted_edits.specs.Keeps.{IsFit}
 use Rattle.accepted_edits.proofs.Accepted.{each_at, each_from}
 use Rattle.accepted_edits.proofs.FitBodies.{settled_here}

@@ -19,8 +19,8 @@ use Rattle.op_checks.specs.LimitChecks.{has_type_outside, has_wrong_field, has_c
 use Rattle.op_checks.specs.OperandChecks.{has_other_result, has_mismatch}
 use Rattle.op_checks.specs.OwnChecks.{cause_if, own_cause}
 use Rattle.op_checks.proofs.NoOwnCause.{NoOwnCause}
-use Rattle.mlir_printer.specs.Naming.{is_pack}
-use Rattle.mlir_printer.specs.Printable.{IsDefined, IsPrintableOp, settled_result}
+use Rattle.printable_designs.specs.NameHints.{is_pack}
+use Rattle.printable_designs.specs.Printable.{IsDefined, IsPrintableOp, settled_result}
 use Rattle.accepted_edits.proofs.Accepted.{each_from}
 use Rattle.fold_laws.specs.Nested.{new_op}
 use Rattle.fold_laws.proofs.MadeKinds.{is_made, made_one_result}

@@ -15,7 +15,7 @@ use Rattle.op_checks.specs.OperandChecks.{has_other_form, has_other_operand, has
 use Rattle.op_checks.specs.OwnChecks.{cause_if, own_cause}
 use Rattle.op_checks.proofs.Widths.{neither}
 use Rattle.op_verifier.specs.OpChecks.{alone_cause}
-use Rattle.mlir_printer.specs.Printable.{IsPrintableOp}
+use Rattle.printable_designs.specs.Printable.{IsPrintableOp}
 use Rattle.accepted_edits.specs.Keeps.{IsFitting}
 use Rattle.fold_laws.specs.Numbers.{number_op}
 

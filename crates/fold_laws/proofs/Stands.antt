@@ -22,7 +22,7 @@ use Rattle.op_checks.specs.OperandChecks.{has_other_form, has_other_operand}
 use Rattle.op_checks.specs.TypeChecks.{is_outside}
 use Rattle.op_verifier.specs.OpChecks.{settled_type}
 use Rattle.op_verifier.proofs.NoCauseAlone.{NoCauseAlone, no_cause_alone}
-use Rattle.mlir_printer.specs.Printable.{IsPrintableOp, settled_result}
+use Rattle.printable_designs.specs.Printable.{IsPrintableOp, settled_result}
 use Rattle.hw_edits.specs.Edit.{is_anchor, HoldsBut}
 use Rattle.hw_edits.specs.Follows.{Wide}
 use Rattle.hw_edits.specs.Laws.{erase_op, Erased}

@@ -24,7 +24,7 @@ use Rattle.op_verifier.specs.ResetChecks.{has_other_reset, has_other_join}
 use Rattle.op_verifier.specs.Headers.{has_twice, has_output, ports_cause, names_cause, header_cause}
 use Rattle.op_verifier.specs.Faults.{op_refusal, header_refusal, body_fault, module_fault, faults_from}
 use Rattle.op_verifier.proofs.Unrefused.{or_none, no_op_cause, no_header_cause, IsUnrefusedModule, ops_unrefused, module_unrefused}
-use Rattle.mlir_printer.specs.Printable.{IsPrintablePort, EndsWithOutput}
+use Rattle.printable_designs.specs.Printable.{IsPrintablePort, EndsWithOutput}
 use Rattle.accepted_edits.specs.Keeps.{IsFitting, IsPrintableBody, IsFit}
 use Rattle.accepted_edits.proofs.Accepted.{each_at, each_from, fit_found}
 use Rattle.accepted_edits.proofs.Causes.{none_or, when_false}

@@ -12,7 +12,7 @@ use Rattle.hw_model.specs.Weight.{weight}
 use Rattle.hw_model.proofs.Finite.{module_found}
 use Rattle.hw_model.proofs.Machines.{same_then}
 use Rattle.op_verifier.specs.Verdict.{IsAccepted}
-use Rattle.mlir_printer.specs.Printable.{Printable}
+use Rattle.printable_designs.specs.Printable.{Printable}
 use Rattle.accepted_edits.specs.Keeps.{IsFit}
 use Rattle.accepted_edits.proofs.Accepted.{accepted_fit}
 use Rattle.accepted_edits.proofs.NameCounts.{accepted_again}

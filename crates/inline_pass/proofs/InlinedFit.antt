@@ -22,7 +22,7 @@ use Rattle.port_checks.proofs.Least.{found_module}
 use Rattle.op_verifier.specs.OpChecks.{is_nonzero_kind}
 use Rattle.op_verifier.proofs.Distinct.{distinct_symbols}
 use Rattle.op_verifier.proofs.WholeDesigns.{some_from}
-use Rattle.mlir_printer.specs.Printable as printer
+use Rattle.printable_designs.specs.Printable as printer
 use Rattle.hw_edits.specs.Edit.{retarget}
 use Rattle.hw_edits.specs.Resets.{marks_by_symbol}
 use Rattle.hw_edits.specs.Laws.{without, erase_op, with_body}

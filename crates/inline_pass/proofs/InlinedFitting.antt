@@ -20,7 +20,7 @@ use Rattle.op_verifier.specs.Answers.{when}
 use Rattle.op_verifier.specs.OpChecks.{settled_type, has_again, has_undefined, has_other_outputs, value_cause, alone_cause}
 use Rattle.op_verifier.proofs.Unrefused.{or_none, when_none}
 use Rattle.canonical_form.specs.Bytes.{AreBytes}
-use Rattle.mlir_printer.proofs.printable.VerifiedDesigns.{defined_of, all_defined}
+use Rattle.printable_designs.proofs.VerifiedDesigns.{defined_of, all_defined}
 use Rattle.hw_edits.specs.Edit.{retarget}
 use Rattle.accepted_edits.specs.Asked.{Operand, operand_in, operands_in, some_undefined, second_known, AllowsMore, AllowMore}
 use Rattle.accepted_edits.specs.Keeps.{IsFitting, IsFit}

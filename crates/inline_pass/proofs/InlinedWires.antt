@@ -19,7 +19,7 @@ use Rattle.op_verifier.specs.OpChecks.{alone_cause}
 use Rattle.op_verifier.proofs.NoCauseAlone.{no_cause_alone}
 use Rattle.canonical_form.specs.Bytes.{Each}
 use Rattle.canonical_form.specs.Limits.{IsAnyType}
-use Rattle.mlir_printer.specs.Printable.{IsDefined, settled_result, IsPrintableOp}
+use Rattle.printable_designs.specs.Printable.{IsDefined, settled_result, IsPrintableOp}
 use Rattle.accepted_edits.proofs.Accepted.{each_at}
 use Rattle.inline_laws.specs.Inline.{wire_op, wire_ops}
 

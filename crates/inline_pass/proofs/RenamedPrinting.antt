@@ -15,8 +15,8 @@ use Rattle.canonical_form.specs.Bytes.{Each, AreBytes}
 use Rattle.canonical_form.specs.Dictionaries.{takes_bin, string_keys, is_empty_text, has_name, is_name_entry, is_dropped, AreInOrder, IsKeptDictionary}
 use Rattle.canonical_form.specs.Kinds.{KeepsConstants, IsWritten}
 use Rattle.canonical_form.specs.Limits.{IsValue, IsEntry}
-use Rattle.mlir_printer.specs.Naming.{is_pack}
-use Rattle.mlir_printer.specs.Printable.{IsDefined, settled_result, IsPrintableOp}
+use Rattle.printable_designs.specs.NameHints.{is_pack}
+use Rattle.printable_designs.specs.Printable.{IsDefined, settled_result, IsPrintableOp}
 use Rattle.inline_pass.specs.Renaming.{joined_name, renamed_kind, renamed_value, renamed_entry, renamed}
 use Rattle.inline_pass.proofs.RenamedKinds.{kind_same, results_renamed}
 

@@ -9,8 +9,8 @@ use miter_blast::comparing::miter;
 use miter_blast::fail::MiterFail;
 use miter_blast::input::Input;
 use miter_blast::{formulas_are_differences, unsatisfiable_formulas_agree};
-use mlir_printer::laws::what_is_canonical_is_printable;
 use op_verifier::Verified;
+use printable_designs::what_is_canonical_is_printable;
 use resolution_proof::log::Log;
 use std::alloc::Global;
 

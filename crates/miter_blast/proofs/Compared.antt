@@ -10,7 +10,7 @@ use Rattle.hw_model.specs.Sound.{input_types}
 use Rattle.aggregate_laws.specs.Scalars.{has_aggregates, has_aggregate_value}
 use Rattle.hw_edits.proofs.ResetsKept.{find_symbol}
 use Rattle.op_verifier.specs.Verdict.{IsAccepted}
-use Rattle.mlir_printer.specs.Printable.{Printable}
+use Rattle.printable_designs.specs.Printable.{Printable}
 use Rattle.pass_laws.specs.PassLaw.{register_types}
 use Rattle.net_rows.specs.Miters.{formula_of}
 use Rattle.net_rows.specs.RegisterMiters.{register_miter}

@@ -1,2 +1,1 @@
 pub mod PrintableExample
-pub mod VerifiedDesigns

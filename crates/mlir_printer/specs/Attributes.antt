@@ -7,7 +7,7 @@ use Rattle.hw_model.specs.Design.{Attribute, Attributes, Entry}
 use Rattle.hw_model.specs.Design.Attribute.{unit_value, text_value, symbol_value, truth_value, integer_value, list_value}
 use Rattle.hw_model.specs.Design.Attributes.{no_attributes, attribute}
 use Rattle.mlir_printer.specs.Strings.{string_bytes, name_bytes, symbol_bytes}
-use Rattle.mlir_printer.specs.Numbers.{integer_bytes, truth_bytes}
+use Rattle.printable_designs.specs.Numbers.{integer_bytes, truth_bytes}
 use Rattle.mlir_printer.specs.Types.{type_bytes}
 use Rattle.mlir_printer.specs.Commas.{comma_bytes, commas}
 

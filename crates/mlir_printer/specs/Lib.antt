@@ -1,6 +1,5 @@
 -- The words of this crate's contracts.
 pub mod Strings
-pub mod Numbers
 pub mod Commas
 pub mod Types
 pub mod Attributes
@@ -19,4 +18,3 @@ pub mod Shown
 pub mod Views
 pub mod Spellable
 pub mod SpellableModules
-pub mod Printable

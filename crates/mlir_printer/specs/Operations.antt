@@ -13,7 +13,7 @@ use Rattle.assembly_format.specs.Formats.{format_of, front_elements, type_elemen
 use Rattle.assembly_format.specs.declared.elements.FormatElement.{FormatElement}
 use Rattle.assembly_format.specs.declared.elements.Format.{Format}
 use Rattle.assembly_format.specs.declared.elements.Format.TheVariants as format
-use Rattle.mlir_printer.specs.Numbers.{count_bytes, is_shown_as_truth}
+use Rattle.printable_designs.specs.Numbers.{count_bytes, is_shown_as_truth}
 use Rattle.mlir_printer.specs.Elements.{ValueText, Pending, value_name_bytes, elements_bytes, left_after}
 use Rattle.mlir_printer.specs.Attributes.{dictionary_bytes}
 use Rattle.mlir_printer.specs.Commas.{commas}

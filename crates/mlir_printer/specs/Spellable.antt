@@ -17,7 +17,7 @@ use Rattle.mlir_operations.specs.ModuleText.{PortText as PortSaid, ModuleText as
 use Rattle.mlir_syntax.specs.Spelling.{AreOnce}
 use Rattle.assembly_format.specs.declared.elements.FormatElement.{FormatElement}
 use Rattle.assembly_format.specs.declared.elements.FormatElement.TheVariants as element
-use Rattle.mlir_printer.specs.Numbers.{is_truth}
+use Rattle.printable_designs.specs.Numbers.{is_truth}
 use Rattle.mlir_printer.specs.Elements.{ValueText, Pending, first_operand, left_after}
 use Rattle.mlir_printer.specs.Operations.{OperationText}
 use Rattle.mlir_printer.specs.Modules.{PortText, ModuleText}

@@ -12,8 +12,10 @@ use Rattle.ir_store.specs.OperationViews.{OpParts}
 use Rattle.mlir_operations.specs.ElementText.{InherentAttributes}
 use Rattle.mlir_operations.specs.ElementText.InherentAttributes.{nothing, with_reset, with_async_reset, predicate, position, number, literals, field_name, child}
 use Rattle.mlir_reader.specs.Resolving.{put_entry}
-use Rattle.mlir_printer.specs.Numbers.{shown_by_first, shown_literals}
-use Rattle.mlir_printer.specs.Naming.{name_count, input_count, port_name_hint, names_given, first_name, value_named, results_named}
+use Rattle.printable_designs.specs.Parts.{parts_in}
+use Rattle.printable_designs.specs.Numbers.{shown_by_first, shown_literals}
+use Rattle.mlir_printer.specs.Naming.{input_count, names_given, first_name, value_named, results_named}
+use Rattle.printable_designs.specs.NameHints.{name_count, port_name_hint}
 use Rattle.mlir_printer.specs.Modules.{PortText, ModuleText, file_bytes}
 use Rattle.mlir_printer.specs.Elements.{ValueText, Pending}
 use Rattle.mlir_printer.specs.Operations.{OperationText}
@@ -67,19 +69,6 @@ operation_shown p os ns = record {
   bin = p.bin;
   pending = pending_shown p os;
   dictionary = entries_shown p.name (first_name ns) p.dictionary;
-}
-
--- an operation but for its operands
-abbrev pub parts_in : Op → OpParts
-parts_in o = record {
-  kind = o.kind;
-  types = o.types;
-  results = o.results;
-  named = o.named;
-  name = o.name;
-  dictionary = o.dictionary;
-  bin = o.bin;
-  place = o.place;
 }
 
 -- operations, where values are named so and the names of results begin so

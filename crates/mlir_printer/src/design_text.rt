@@ -6,12 +6,13 @@ ghost use Rattle.op_verifier.specs.Answered.{modules_verified};
 ghost use Rattle.mlir_printer.specs.Modules.{modules_bytes};
 ghost use Rattle.mlir_printer.specs.Texts.{ir_text, modules_shown};
 
-use crate::laws::{what_is_canonical_is_printable, what_is_printable_is_spelled};
+use crate::laws::what_is_printable_is_spelled;
 use crate::modules::push_with_names;
 use crate::value_names::ValueNames;
 use io_edge::byte_text::Text;
 use ir_store::design::Design;
 use op_verifier::Verified;
+use printable_designs::what_is_canonical_is_printable;
 use std::alloc::{AllocError, Global};
 
 /// The text of a design: `module {`, its modules in order, and `}`. The error comes only where memory

@@ -4,13 +4,11 @@ ghost use Rattle.std.specs.Prelude.{◌≡◌, ◌≤◌, List, length, Ok};
 ghost use Rattle.hw_model.specs.Design.{Design, IsSameDesign};
 ghost use Rattle.mlir_reader.specs.Reading.{text_limit, read};
 ghost use Rattle.mlir_reader.specs.Spelling.{Spells, SpellsPlacelessly};
-ghost use Rattle.op_verifier.specs.Verdict.{IsAccepted};
 ghost use Rattle.mlir_printer.specs.Modules.{ModuleText, file_bytes};
 ghost use Rattle.canonical_form.specs.Bytes.{Each};
-ghost use Rattle.canonical_form.specs.Canonical.{IsCanonical};
 ghost use Rattle.mlir_printer.specs.SpellableModules.{IsSpellable, AreSpelled};
 ghost use Rattle.mlir_printer.specs.Texts.{ir_text};
-ghost use Rattle.mlir_printer.specs.Printable.{Printable};
+ghost use Rattle.printable_designs.specs.Printable.{Printable};
 
 use mlir_reader::laws::what_is_spelled_is_read;
 
@@ -22,11 +20,6 @@ pub fn what_is_spellable_is_spelled()
 /// Does nothing. Its clause says that the text of a design that can be printed spells that design, but for places.
 pub fn what_is_printable_is_spelled()
     ensures { (d : Design) → Printable d → SpellsPlacelessly (ir_text d) d }
-{}
-
-/// Does nothing. Its clause says that a design in canonical form of which nothing is refused can be printed.
-pub fn what_is_canonical_is_printable()
-    ensures { (d : Design) → IsAccepted d → IsCanonical d → Printable d }
 {}
 
 /// Does nothing. Its clause says that the text of a design that can be printed, however long it is, spells a design that is the same but for

@@ -1,5 +1,5 @@
 -- Free names stand once, and names that stand once are free.
-use Rattle.std.proofs.Common.{◌≡◌, ℕ, suc, ◌+◌, ◌<◌, ◌^◌, Bool, true, false, cond, List, [], ◌∷◌, ◌++◌, length, refl, sym, ap, ap₂, ◌∙◌, arith}
+use Rattle.std.proofs.Common.{◌≡◌, ◌+◌, ◌<◌, ◌^◌, Bool, true, false, cond, List, [], ◌∷◌, ◌++◌, length, refl, sym, ap, ap₂, ◌∙◌, arith}
 use Rattle.hw_model.specs.Types.{Name}
 use Rattle.fresh_names.specs.Fresh.{is_taken, free_name, fresh}
 use Rattle.fresh_names.proofs.Taken.{same_back, one_more}

@@ -5,7 +5,7 @@ use Rattle.std.proofs.lemmas.List.{drop_all}
 use Rattle.hw_model.specs.Design.{Op, Module, Design}
 use Rattle.hw_edits.specs.Laws.{with_body}
 use Rattle.op_verifier.specs.Verdict.{IsAccepted}
-use Rattle.mlir_printer.specs.Printable.{Printable}
+use Rattle.printable_designs.specs.Printable.{Printable}
 use Rattle.accepted_edits.specs.Keeps.{IsFit}
 use Rattle.accepted_edits.proofs.Accepted.{accepted_fit}
 use Rattle.pass_pipeline.specs.declared.pass.Pass.{Pass}

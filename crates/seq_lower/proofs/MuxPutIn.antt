@@ -26,8 +26,8 @@ use Rattle.diag.specs.declared.cause.Cause.TheVariants as cause
 use Rattle.op_verifier.specs.Answers.{when, or_else}
 use Rattle.op_verifier.specs.OpChecks.{settled_type, divides_by_constant, has_again, has_undefined, alone_cause}
 use Rattle.op_verifier.proofs.NoCauseAlone.{types_of}
-use Rattle.mlir_printer.specs.Printable.{IsPrintableOp, settled_result}
-use Rattle.mlir_printer.proofs.printable.VerifiedDesigns.{all_defined}
+use Rattle.printable_designs.specs.Printable.{IsPrintableOp, settled_result}
+use Rattle.printable_designs.proofs.VerifiedDesigns.{all_defined}
 use Rattle.hw_edits.specs.Laws.{insert_op, with_body, Inserted}
 use Rattle.hw_edits.proofs.Inserted.{insert_op_preserves}
 use Rattle.accepted_edits.specs.Forms.{InsertedFits}

@@ -27,9 +27,9 @@ use Rattle.op_checks.specs.TypeChecks.{is_clock}
 use Rattle.op_checks.proofs.NoOwnCause.{NoOwnCause}
 use Rattle.op_verifier.specs.OpChecks.{settled_type, divides_by_constant, has_undefined, alone_cause}
 use Rattle.op_verifier.proofs.NoCauseAlone.{types_of}
-use Rattle.mlir_printer.specs.Naming.{is_pack}
-use Rattle.mlir_printer.specs.Printable.{IsPrintableOp, settled_result}
-use Rattle.mlir_printer.proofs.printable.VerifiedDesigns.{all_defined}
+use Rattle.printable_designs.specs.NameHints.{is_pack}
+use Rattle.printable_designs.specs.Printable.{IsPrintableOp, settled_result}
+use Rattle.printable_designs.proofs.VerifiedDesigns.{all_defined}
 use Rattle.hw_edits.specs.Edit.{Holds}
 use Rattle.hw_edits.specs.Laws.{with_body}
 use Rattle.hw_edits.specs.Registers.{Reloaded}

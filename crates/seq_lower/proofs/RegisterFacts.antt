@@ -15,7 +15,7 @@ use Rattle.hw_model.specs.Weight.{register_weight, reset_weight}
 use Rattle.ir_store.specs.ResultTypes.{result_types, result_type as type_of_result}
 use Rattle.op_checks.specs.CountChecks.{type_count}
 use Rattle.op_verifier.proofs.NoCauseAlone.{NoCauseAlone, no_cause_alone}
-use Rattle.mlir_printer.specs.Printable.{IsPrintableOp, settled_result}
+use Rattle.printable_designs.specs.Printable.{IsPrintableOp, settled_result}
 use Rattle.accepted_edits.specs.Keeps.{IsPrintableBody, IsFit}
 use Rattle.accepted_edits.proofs.Accepted.{each_at, fit_found}
 use Rattle.accepted_edits.proofs.FitBodies.{own_cause_none}

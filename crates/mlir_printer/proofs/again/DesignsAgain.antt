@@ -11,11 +11,13 @@ use Rattle.mlir_operations.specs.OperationText.{OperationText}
 use Rattle.mlir_reader.specs.Resolving.{Meanings, Defined, Definition, with_definitions, no_meaning, resolve_operand, port_definition, port_definitions, operation_definitions, body_definitions, operations_from, ports_from, is_marked, ends_with_output, has_outputs, left_out_output, port_meanings, meanings, module_of, design_of}
 use Rattle.mlir_reader.proofs.Defining.{definitions_append}
 use Rattle.mlir_printer.specs.Elements.{ValueText}
-use Rattle.mlir_printer.specs.Naming.{port_name_hint, port_name_hints, input_count, body_name_hints, name_hints, hints_or_numbers, names_given, name_count, first_name, firsts, value_named}
-use Rattle.mlir_printer.specs.Texts.{parts_in, operation_shown, operations_shown, port_shown, ports_shown, module_shown, modules_shown}
+use Rattle.mlir_printer.specs.Naming.{input_count, hints_or_numbers, names_given, first_name, firsts, value_named}
+use Rattle.printable_designs.specs.NameHints.{port_name_hint, port_name_hints, body_name_hints, name_hints, name_count}
+use Rattle.mlir_printer.specs.Texts.{operation_shown, operations_shown, port_shown, ports_shown, module_shown, modules_shown}
+use Rattle.printable_designs.specs.Parts.{parts_in}
 use Rattle.mlir_printer.specs.Spellable.{said_operand, said_operation, said_port, inherent_view}
 use Rattle.canonical_form.specs.Bytes.{Each}
-use Rattle.mlir_printer.specs.Printable.{IsDefined, IsPrintableOp, IsPrintablePort, EndsWithOutput, IsPrintableModule, Printable}
+use Rattle.printable_designs.specs.Printable.{IsDefined, IsPrintableOp, IsPrintablePort, EndsWithOutput, IsPrintableModule, Printable}
 use Rattle.mlir_printer.proofs.names.NameTables.{Among, Finds, finds_left, finds_right, AreNew, new_left, new_right, found, all_new}
 use Rattle.mlir_printer.proofs.names.NamedDefinitions.{name_of, map_append, firsts_add, firsts_all, ports_names, body_names}
 use Rattle.mlir_printer.proofs.names.ValuesFound.{port_found, result_found}

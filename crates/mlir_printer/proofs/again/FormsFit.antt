@@ -21,7 +21,7 @@ use Rattle.mlir_operations.specs.ElementText.InherentAttributes.{nothing, with_r
 use Rattle.assembly_format.specs.Formats.{format_of}
 use Rattle.assembly_format.specs.declared.elements.Format.{Format}
 use Rattle.assembly_format.specs.declared.elements.Format.TheVariants as format
-use Rattle.mlir_printer.specs.Numbers.{is_negative, shown_number, shown_integer, shown_by_first, shown_literal, shown_literals, is_truth, is_one_bit, is_shown_as_truth}
+use Rattle.printable_designs.specs.Numbers.{is_negative, shown_number, shown_integer, shown_by_first, shown_literal, shown_literals, is_truth, is_one_bit, is_shown_as_truth}
 use Rattle.mlir_printer.specs.Elements.{ValueText, Pending}
 use Rattle.mlir_printer.specs.Operations.{format_shown, output_format, is_truth_view}
 use Rattle.mlir_printer.specs.Texts.{inherent_shown}

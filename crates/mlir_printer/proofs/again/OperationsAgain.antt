@@ -1,17 +1,14 @@
 -- A printed operation says the operation that it was.
-use Rattle.std.proofs.Common.{◌≡◌, ℕ, zero, suc, ◌+◌, ◌≤◌, min, max, replicate, Bool, true, false, cond, List, [], ◌∷◌, map, length, drop, refl, ap, ◌∙◌, sym, subst, arith, length-drop}
+use Rattle.std.proofs.Common.{◌≡◌, ℕ, zero, suc, ◌+◌, ◌≤◌, min, max, replicate, Bool, true, false, cond, List, [], ◌∷◌, map, length, refl, ap, ◌∙◌, sym, subst, arith}
 use Rattle.std.proofs.lemmas.List.{length-map}
-use Rattle.std.specs.Prelude.{◌==◌, Option, Some, None}
-use Rattle.std.proofs.lemmas.Bool.{cond-true, cond-false, ltb-false}
+use Rattle.std.specs.Prelude.{◌==◌, Option}
+use Rattle.std.proofs.lemmas.Bool.{cond-true, cond-false}
 use Rattle.hw_model.specs.Opcodes.{opcode_of}
 use Rattle.hw_model.specs.Types.{Name, HwType}
-use Rattle.hw_model.specs.Types.HwType.{int, clock, array, struct}
 use Rattle.hw_model.specs.Kinds.{Kind}
-use Rattle.hw_model.specs.Kinds.StructOp.{struct_explode}
-use Rattle.hw_model.specs.Kinds.Kind.{on_struct, wire, instance, output, register, async_firreg}
-use Rattle.hw_model.specs.Sound.{field_list}
+use Rattle.hw_model.specs.Kinds.Kind.{wire, output, register, async_firreg}
 use Rattle.hw_model.specs.Design.{Ref, Port, Op, is_output_kind, op_without_place}
-use Rattle.ir_store.specs.ResultTypes.{first_type, fields_of, field_count, result_types, result_count}
+use Rattle.ir_store.specs.ResultTypes.{result_types, result_count}
 use Rattle.mlir_operations.specs.OperandText.{ResultNames, named_count}
 use Rattle.mlir_operations.specs.OperandText.ResultNames.{no_names, names, pack}
 use Rattle.mlir_operations.specs.OperationText.{OperationText, is_last}
@@ -20,47 +17,20 @@ use Rattle.mlir_reader.specs.Resolving.Defined.{are_results}
 use Rattle.mlir_reader.specs.Resolving.{Meanings, Definition, resolve_operand, marks, marked_results, names_from, names_defined, own_types, own_count, operation_at, operation_definitions, name_or, given_name, unless_digits, own_name_of}
 use Rattle.canonical_form.specs.Dictionaries.{has_name}
 use Rattle.mlir_printer.specs.Elements.{ValueText}
-use Rattle.mlir_printer.specs.Naming.{name_hints, name_hints_of, own_name_hint, pack_name_hints, name_count, first_name, firsts, is_pack, listed_names, results_named}
-use Rattle.mlir_printer.specs.Texts.{parts_in, operation_shown, entries_shown}
+use Rattle.mlir_printer.specs.Naming.{first_name, firsts, listed_names, results_named}
+use Rattle.printable_designs.specs.NameHints.{name_hints, name_hints_of, own_name_hint, name_count, is_pack}
+use Rattle.mlir_printer.specs.Texts.{operation_shown, entries_shown}
+use Rattle.printable_designs.specs.Parts.{parts_in}
 use Rattle.mlir_printer.specs.Spellable.{said_operand, said_operation}
 use Rattle.canonical_form.specs.Bytes.{Each}
-use Rattle.op_checks.specs.CountChecks.{type_count}
-use Rattle.mlir_printer.specs.Printable.{IsDefined, settled_result, IsPrintableOp}
-use Rattle.mlir_printer.proofs.steps.Listing.{instance_length}
+use Rattle.printable_designs.specs.Printable.{IsDefined, settled_result, IsPrintableOp}
 use Rattle.mlir_printer.proofs.names.NameTables.{AreNew, marks_in, no_marks}
-use Rattle.mlir_printer.proofs.names.NamedDefinitions.{name_of, results_names, firsts_length, pack_kind, pack_named}
+use Rattle.mlir_printer.proofs.names.NamedDefinitions.{name_of, results_names, firsts_length}
+use Rattle.printable_designs.proofs.NameCounts.{types_counted, names_counted, results_length, few_names}
 use Rattle.mlir_printer.proofs.names.ValuesFound.{AreCounted}
 use Rattle.mlir_printer.proofs.names.GivenNames.{Suits}
 use Rattle.mlir_printer.proofs.again.KindsKept.{kind_again}
 use Rattle.mlir_printer.proofs.again.EntriesKept.{shown_kept, none_given, own_again, SuitsOwn}
-
--- ---- how many results there are
-
-pub types_counted : (k : Kind) (ts : List HwType) (n : ℕ) → length (result_types k ts n) ≡ result_count k ts
-unfolding result_types result_count
-types_counted output ts n = refl
-types_counted (on_struct struct_explode) ts n = fields (first_type ts)
-  where
-    fields : (t : Option HwType) → length (fields_of t) ≡ field_count t
-    fields None = refl
-    fields (Some (int w)) = refl
-    fields (Some clock) = refl
-    fields (Some (array m t)) = refl
-    fields (Some (struct fs)) = length-map (field_list fs) (λ (t : HwType). Some t)
-types_counted (instance i) ts n = length-map (drop (length i.inputs) ts) (λ (t : HwType). Some t) ∙ length-drop (length i.inputs) ts
-types_counted _ ts n = refl
-
-names_counted : (k : Kind) (ts : List HwType) (own : Name) (n c : ℕ) → n ≡ result_count k ts → length ts ≡ type_count k c → is_pack k n ≡ false
-    → length (name_hints_of k ts own n) ≡ n
-unfolding name_hints_of result_count type_count
-names_counted output ts own n c e t h = sym e
-names_counted (on_struct struct_explode) ts own n c e t h = few n h
-  where
-    few : (n : ℕ) → is_pack (on_struct struct_explode) n ≡ false → length (pack_name_hints n) ≡ n
-    few zero h = refl
-    few (suc n) h = let le : suc n ≤ 1 = ltb-false 1 (suc n) h in omega (arith, le)
-names_counted (instance i) ts own n c e t h = instance_length i.name i.outputs ∙ omega (arith, e, t)
-names_counted _ ts own n c e t h = sym e
 
 -- ---- the parts of an operation
 
@@ -132,32 +102,16 @@ module _ (ports : List Port) (body : List Op) (o : Op) (p : IsPrintableOp ports 
   abbrev shown : (Ref → ValueText) → List Name → OperationText
   shown means ns = said_operation (operation_shown (parts_in o) (map means o.operands) ns)
 
-  results_length : length o.results ≡ result_count o.kind o.types
-  results_length =
-      ap length p.results ∙ length-map (result_types o.kind o.types (length o.operands)) settled_result ∙ types_counted o.kind o.types (length o.operands)
-
   pub are_counted : (means : Ref → ValueText) (ns : List Name) → AreCounted (own_count (shown means ns)) (parts_in o)
   are_counted means ns = record {
-    counted = results_length ∙ sym (ap (λ k. result_count k o.types) (kind_again o.kind o.types p.kept));
-    listed = names_counted o.kind o.types o.name (length o.results) (length o.operands) results_length p.types;
+    counted = results_length ports body o p ∙ sym (ap (λ k. result_count k o.types) (kind_again o.kind o.types p.kept));
+    listed = names_counted o.kind o.types o.name (length o.results) (length o.operands) (results_length ports body o p) p.types;
   }
 
   own_types_are : (means : Ref → ValueText) (ns : List Name) → own_types (shown means ns) ≡ result_types o.kind o.types (length o.operands)
   own_types_are means ns =
       ap (λ k. result_types k o.types (length (map said_operand (map means o.operands)))) (kind_again o.kind o.types p.kept)
       ∙ ap (λ n. result_types o.kind o.types n) (length-map (map means o.operands) said_operand ∙ length-map o.operands means)
-
-  pub few_names : name_count (parts_in o) ≤ length o.results
-  few_names = go (is_pack o.kind (length o.results)) refl
-    where
-      go : (b : Bool) → is_pack o.kind (length o.results) ≡ b → name_count (parts_in o) ≤ length o.results
-      go true h =
-          let lt = (pack_kind o.kind (length o.results) h).1 in
-          let e = pack_named o.kind o.types o.name (length o.results) h in
-          omega (arith, lt, e)
-      go false h =
-          let e = names_counted o.kind o.types o.name (length o.results) (length o.operands) results_length p.types h in
-          omega (arith, e)
 
   results_again : (means : Ref → ValueText) (earlier : Meanings) (i : ℕ) (ns : List Name) → AreNew earlier (operation_definitions i (shown means ns))
       → marked_results (own_types (shown means ns)) (marks earlier (operation_definitions i (shown means ns))) ≡ o.results
@@ -167,9 +121,9 @@ module _ (ports : List Port) (body : List Op) (o : Op) (p : IsPrintableOp ports 
       omega (
         arith,
         sym (length-map ds name_of) ∙ ap length (results_names i (own_count (shown means ns)) (parts_in o) ns) ∙ firsts_length (name_count (parts_in o)) ns,
-        few_names,
+        few_names ports body o p,
         types_counted o.kind o.types (length o.operands),
-        results_length,
+        results_length ports body o p,
       ) in
       let within : marks_in ds ≤ length (result_types o.kind o.types (length o.operands)) =
       omega (
@@ -178,7 +132,7 @@ module _ (ports : List Port) (body : List Op) (o : Op) (p : IsPrintableOp ports 
         few,
         (are_counted means ns).counted,
         types_counted o.kind o.types (length o.operands),
-        results_length,
+        results_length ports body o p,
       ) in
       ap (λ ts. marked_results ts (marks earlier ds)) (own_types_are means ns)
       ∙ ap (λ bs. marked_results (result_types o.kind o.types (length o.operands)) bs) (no_marks earlier ds new)
@@ -199,7 +153,7 @@ module _ (ports : List Port) (body : List Op) (o : Op) (p : IsPrintableOp ports 
       go false h =
           ap (λ b. named_count (cond b (ResultNames.pack (first_name ns) (length o.results)) (listed_names (firsts (name_count (parts_in o)) ns)))) h
           ∙ listed (firsts (name_count (parts_in o)) ns) ∙ firsts_length (name_count (parts_in o)) ns
-          ∙ names_counted o.kind o.types o.name (length o.results) (length o.operands) results_length p.types h
+          ∙ names_counted o.kind o.types o.name (length o.results) (length o.operands) (results_length ports body o p) p.types h
 
   name_again : (ns : List Name) → Suits (name_hints (parts_in o)) ns
       → own_name_of (opcode_of o.kind) (results_named (parts_in o) ns) (entries_shown o.name (first_name ns) o.dictionary) ≡ o.name

@@ -5,7 +5,7 @@ use Rattle.mlir_reader.specs.Spelling.{Spells, SpellsPlacelessly}
 use Rattle.mlir_reader.specs.Reading.{text_limit, read}
 use Rattle.mlir_printer.specs.Texts.{modules_shown, ir_text}
 use Rattle.mlir_printer.specs.Spellable.{inherent_view}
-use Rattle.mlir_printer.specs.Printable.{Printable}
+use Rattle.printable_designs.specs.Printable.{Printable}
 use Rattle.mlir_printer.proofs.lexed.LexedModules.{spellable_texts_are_spelled}
 use Rattle.mlir_printer.proofs.again.DesignsAgain.{printable_designs_are_said}
 use Rattle.mlir_printer.proofs.again.DesignsFit.{printable_designs_are_spellable}

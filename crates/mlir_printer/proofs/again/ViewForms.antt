@@ -10,7 +10,7 @@ use Rattle.assembly_format.specs.Formats.{front_elements, type_elements}
 use Rattle.mlir_operations.specs.ElementText.{InherentAttributes}
 use Rattle.mlir_operations.specs.ElementText.InherentAttributes.{nothing, with_reset, with_async_reset, predicate, position, number, literals, field_name, child}
 use Rattle.assembly_format.specs.declared.elements.Format.TheVariants as format
-use Rattle.mlir_printer.specs.Numbers.{is_truth}
+use Rattle.printable_designs.specs.Numbers.{is_truth}
 use Rattle.mlir_printer.specs.Elements.{ValueText, Pending}
 use Rattle.mlir_printer.specs.Spellable.{IsOperand, IsInstance}
 use Rattle.canonical_form.specs.Bytes.{Each, AreBytes}

@@ -13,7 +13,7 @@ use Rattle.mlir_syntax.specs.TypeText.{most_open}
 use Rattle.mlir_syntax.specs.AttributeText.{is_among, is_stored, in_order}
 use Rattle.mlir_syntax.specs.Spelling.{Phrase, Mark, Then, IntegerPhrase, TypePhrase, TruthWord, IntegerType, AttributePhrase, EntryPhrase, DictionaryPhrase}
 use Rattle.mlir_printer.specs.Strings.{name_bytes}
-use Rattle.mlir_printer.specs.Numbers.{truth_bytes}
+use Rattle.printable_designs.specs.Numbers.{truth_bytes}
 use Rattle.mlir_printer.specs.Commas.{comma_bytes, items_from, commas}
 use Rattle.mlir_printer.specs.Attributes.{typed_bytes, attribute_bytes, attributes_from, value_bytes, entry_bytes}
 use Rattle.mlir_printer.specs.Spellable.{IsDictionary}

@@ -11,7 +11,7 @@ use Rattle.mlir_syntax.specs.Spelling.{Phrase, Word, Then, TypePhrase}
 use Rattle.mlir_operations.specs.Spelling.{ResetSync, ResetAsync, ResetPhrase, FormatElementPhrase, ElementsPhrase}
 use Rattle.assembly_format.specs.declared.elements.FormatElement.{FormatElement}
 use Rattle.assembly_format.specs.declared.elements.FormatElement.TheVariants as element
-use Rattle.mlir_printer.specs.Numbers.{is_one}
+use Rattle.printable_designs.specs.Numbers.{is_one}
 use Rattle.mlir_printer.specs.Types.{type_bytes}
 use Rattle.mlir_printer.specs.Commas.{commas}
 use Rattle.mlir_printer.specs.Elements.{ValueText, Pending, first_operand, first_type_bytes, operand_bytes, predicate_said, position_said, truth_said, number_said, literals_said, field_said, reset_bytes, reset_said, sync_or_async_reset_said, instance_said, element_bytes, left_after, elements_bytes}

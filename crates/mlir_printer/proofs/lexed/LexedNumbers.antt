@@ -15,7 +15,7 @@ use Rattle.mlir_lexer.specs.declared.fronts.Front.TheVariants.{LineEnd, Token}
 use Rattle.mlir_syntax.specs.Numerals.{number_in, number_of, count_limit, number_limit, negative}
 use Rattle.mlir_syntax.specs.Spelling.{One, Mark, Then, AreDigits, WidthPhrase, NumberPhrase, IntegerPhrase}
 use Rattle.mlir_printer.specs.Strings.{is_bare}
-use Rattle.mlir_printer.specs.Numbers.{count_bytes, further_bytes, integer_bytes}
+use Rattle.printable_designs.specs.Numbers.{count_bytes, further_bytes, integer_bytes}
 use Rattle.canonical_form.specs.Limits.{IsInteger}
 use Rattle.mlir_printer.proofs.lexed.LexedTexts.{lexed_by, Stops, IsLexed, Lexed, one_token, joined, lexed_as}
 use Rattle.mlir_printer.proofs.lexed.LexedStrings.{unlike_byte}

@@ -10,7 +10,7 @@ use Rattle.hw_model.specs.TypeViews.{NamedType, fields_of}
 use Rattle.mlir_syntax.specs.Numerals.{count_limit}
 use Rattle.mlir_syntax.specs.Spelling.{Phrase, Then, NumberPhrase, ElementPhrase, FieldPhrase, TypeWith, TypePhrase}
 use Rattle.mlir_printer.specs.Strings.{name_bytes}
-use Rattle.mlir_printer.specs.Numbers.{count_bytes}
+use Rattle.printable_designs.specs.Numbers.{count_bytes}
 use Rattle.mlir_printer.specs.Commas.{comma_bytes, items_from}
 use Rattle.mlir_printer.specs.Types.{type_bytes, fields_from}
 use Rattle.canonical_form.specs.Bytes.{Each, AreBytes}

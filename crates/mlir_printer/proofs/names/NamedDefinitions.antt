@@ -1,20 +1,20 @@
 -- The definitions that a printed module makes: one for each name that is given.
 use Rattle.std.proofs.Common.{◌≡◌, ℕ, zero, suc, ◌+◌, ◌<◌, Bool, true, false, cond, List, [], ◌∷◌, ◌++◌, map, length, drop, refl, ap, ◌∙◌, sym, arith, length-append}
 use Rattle.std.specs.Prelude.{nat_eq, min, Some, None}
-use Rattle.std.proofs.lemmas.Bool.{ltb-true, eqb-true}
+use Rattle.std.proofs.lemmas.Bool.{eqb-true}
 use Rattle.std.proofs.Math.Seq.{drop-nil}
-use Rattle.hw_model.specs.Types.{Name, HwType}
-use Rattle.hw_model.specs.Kinds.{Kind}
-use Rattle.hw_model.specs.Kinds.StructOp.{struct_explode}
-use Rattle.hw_model.specs.Kinds.Kind.{on_struct}
+use Rattle.hw_model.specs.Types.{Name}
 use Rattle.hw_model.specs.Design.{Ref, Port, Op}
 use Rattle.ir_store.specs.OperationViews.{OpParts}
 use Rattle.mlir_operations.specs.OperandText.{ResultNames}
 use Rattle.mlir_reader.specs.Resolving.{Definition, names_from, names_defined, port_definitions, port_definition, operation_definitions, body_definitions, own_count}
 use Rattle.mlir_reader.specs.Resolving.Defined.{are_results}
 use Rattle.mlir_printer.specs.Elements.{ValueText}
-use Rattle.mlir_printer.specs.Naming.{name_hints, name_hints_of, pack_name_hints, name_count, body_name_hints, port_name_hint, port_name_hints, input_count, first_name, firsts, is_pack, listed_names, results_named}
-use Rattle.mlir_printer.specs.Texts.{parts_in, operations_shown, operation_shown, ports_shown}
+use Rattle.mlir_printer.specs.Naming.{input_count, first_name, firsts, listed_names, results_named}
+use Rattle.printable_designs.proofs.NameCounts.{pack_kind, pack_named}
+use Rattle.printable_designs.specs.NameHints.{name_hints, name_count, body_name_hints, port_name_hint, port_name_hints, is_pack}
+use Rattle.mlir_printer.specs.Texts.{operations_shown, operation_shown, ports_shown}
+use Rattle.printable_designs.specs.Parts.{parts_in}
 use Rattle.mlir_printer.specs.Spellable.{said_operation, said_port}
 
 abbrev pub name_of : Definition → Name
@@ -53,21 +53,6 @@ names_from_named i k (n ∷ ns) = ap (λ l. n ∷ l) (names_from_named i (k + 1)
 listed_defined : (i own : ℕ) (ns : List Name) → names_defined i own (listed_names ns) ≡ names_from i 0 ns
 listed_defined i own [] = refl
 listed_defined i own (n ∷ ns) = refl
-
--- a pack is that of a struct with two fields or more
-pub pack_kind : (k : Kind) (n : ℕ) → is_pack k n ≡ true → (k ≡ (on_struct struct_explode)) × (1 < n)
-pack_kind (on_struct struct_explode) n h = (refl, ltb-true 1 n h)
-pack_kind _ n h = cc
-
-pub pack_named : (k : Kind) (ts : List HwType) (own : Name) (n : ℕ) → is_pack k n ≡ true → length (name_hints_of k ts own n) ≡ 1
-unfolding name_hints_of
-pack_named k ts own n h =
-    let p = pack_kind k n h in
-    ap (λ kind. length (name_hints_of kind ts own n)) p.0 ∙ some_fields n p.1
-  where
-    some_fields : (n : ℕ) → 1 < n → length (pack_name_hints n) ≡ 1
-    some_fields zero lt = absurd (omega (arith, lt))
-    some_fields (suc n) lt = refl
 
 not_none : (n : ℕ) → 1 < n → nat_eq n 0 ≡ false
 not_none n lt = go (nat_eq n 0) refl

@@ -8,10 +8,10 @@ use Rattle.hw_model.specs.Design.{Port, Module, nowhere_place}
 use Rattle.hw_model.specs.Design.Ref.{port, result}
 use Rattle.ir_store.specs.ResultTypes.{result_types, result_type}
 use Rattle.mlir_reader.specs.Spelling.{SpellsPlacelessly}
-use Rattle.mlir_printer.specs.Naming.{name_hints_of}
+use Rattle.printable_designs.specs.NameHints.{name_hints_of}
 use Rattle.mlir_printer.specs.Texts.{ir_text}
 use Rattle.op_checks.specs.CountChecks.{operands_written, type_count}
-use Rattle.mlir_printer.specs.Printable.{Printable}
+use Rattle.printable_designs.specs.Printable.{Printable}
 use Rattle.mlir_printer.proofs.again.PrintedDesigns.{printable_designs_are_spelled}
 
 byte : HwType

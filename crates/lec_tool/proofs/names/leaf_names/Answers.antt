@@ -1,7 +1,7 @@
 use Rattle.std.proofs.Common.{◌≡◌, ap, map, ◌∙◌, sym, subst, Some, length, slice_get, ◌<◌, arith}
 use Rattle.hw_model.specs.Design.{Module, Design}
 use Rattle.ir_store.specs.Designs.{design_of, modules_of, module_of, numbered_module}
-use Rattle.mlir_printer.proofs.printable.VerifiedDesigns.{canonical_designs_are_printable}
+use Rattle.printable_designs.proofs.VerifiedDesigns.{canonical_designs_are_printable}
 use Rattle.miter_blast.specs.Pairs.{IsFoundAt}
 use Rattle.miter_blast.proofs.Finding.{found_at, stored_at}
 use Rattle.miter_blast.proofs.Differences.{first_alone}

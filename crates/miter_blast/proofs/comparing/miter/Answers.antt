@@ -2,7 +2,7 @@ use Rattle.std.proofs.Common.{◌≡◌, ap, ◌∙◌, sym, subst, arith}
 use Rattle.hw_model.specs.Design.{Module}
 use Rattle.ir_store.specs.Designs.{design_of, module_of, numbered_module}
 use Rattle.op_verifier.specs.Answered.{modules_verified}
-use Rattle.mlir_printer.proofs.printable.VerifiedDesigns.{canonical_designs_are_printable}
+use Rattle.printable_designs.proofs.VerifiedDesigns.{canonical_designs_are_printable}
 use Rattle.diag.specs.declared.cause.Cause.TheVariants.{RegistersDiffer, TooManyGates}
 use Rattle.miter_blast.specs.Comparisons.{IsComparisonRefusal}
 use Rattle.miter_blast.specs.Leaves.{held_widths}

@@ -1,6 +1,6 @@
 use Rattle.std.proofs.Common.{arith}
-use Rattle.mlir_printer.specs.Naming.{name_hints_of}
-use Rattle.mlir_printer.proofs.steps.Listing.{instance_length}
+use Rattle.printable_designs.specs.NameHints.{name_hints_of}
+use Rattle.printable_designs.proofs.NameCounts.{instance_length}
 use Rattle.mlir_printer.proofs.wanted.name_count.Goals as goal
 
 pub returns-in-Instance : goal.returns-in-Instance

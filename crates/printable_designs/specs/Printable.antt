@@ -12,8 +12,8 @@ use Rattle.canonical_form.specs.Dictionaries.{takes_bin, string_keys}
 use Rattle.canonical_form.specs.Dictionaries.{module_keys}
 use Rattle.canonical_form.specs.Dictionaries.{has_name}
 use Rattle.canonical_form.specs.ResultTypes.{type_or_none}
-use Rattle.mlir_printer.specs.Naming.{is_pack, port_name_hints, body_name_hints}
-use Rattle.mlir_printer.specs.Texts.{parts_in}
+use Rattle.printable_designs.specs.NameHints.{is_pack, port_name_hints, body_name_hints}
+use Rattle.printable_designs.specs.Parts.{parts_in}
 use Rattle.canonical_form.specs.Bytes.{Each, AreBytes}
 use Rattle.canonical_form.specs.Limits.{IsAnyType}
 use Rattle.canonical_form.specs.Kinds.{KeepsConstants, IsWritten}

@@ -21,10 +21,10 @@ use Rattle.op_verifier.specs.Verdict.{IsAccepted}
 use Rattle.op_verifier.proofs.AcceptedDesigns.{no_fault}
 use Rattle.op_verifier.proofs.NoCauseAlone.{no_cause_alone, result_number}
 use Rattle.op_verifier.proofs.Unrefused.{or_none, map_none, no_op_cause, no_header_cause}
-use Rattle.mlir_printer.specs.Naming.{name_hints, port_name_hints, body_name_hints}
-use Rattle.mlir_printer.specs.Texts.{parts_in}
-use Rattle.mlir_printer.specs.Printable.{IsDefined, settled_result, IsPrintableOp, IsPrintablePort, EndsWithOutput, IsPrintableModule, Printable}
-use Rattle.mlir_printer.proofs.again.OperationsAgain.{types_counted, few_names}
+use Rattle.printable_designs.specs.NameHints.{name_hints, port_name_hints, body_name_hints}
+use Rattle.printable_designs.specs.Parts.{parts_in}
+use Rattle.printable_designs.specs.Printable.{IsDefined, settled_result, IsPrintableOp, IsPrintablePort, EndsWithOutput, IsPrintableModule, Printable}
+use Rattle.printable_designs.proofs.NameCounts.{types_counted, few_names}
 
 -- ---- the counts of an operation that is not refused
 
