@@ -1,5 +1,5 @@
 //! Operations of words and of their parts at several widths, each against another way to say it and against a nearly equal one.
-use crate::ways::{BIT, WORD, Ways, first_other_at};
+use crate::ways::{BIT, WORD, Ways, first_other};
 use std::test::Fail;
 
 const OPERATIONS: [Ways; 19] = [
@@ -305,19 +305,7 @@ const OPERATIONS: [Ways; 19] = [
 ];
 
 #[test]
-fn one_bit(rt: HostRuntime) -> Result<(), Fail> {
-    assert_eq!(rt; first_other_at(&rt, &OPERATIONS, "1", "2")?, None);
-    Ok(())
-}
-
-#[test]
-fn three_bits(rt: HostRuntime) -> Result<(), Fail> {
-    assert_eq!(rt; first_other_at(&rt, &OPERATIONS, "3", "6")?, None);
-    Ok(())
-}
-
-#[test]
-fn eight_bits(rt: HostRuntime) -> Result<(), Fail> {
-    assert_eq!(rt; first_other_at(&rt, &OPERATIONS, "8", "16")?, None);
+fn operations(rt: HostRuntime) -> Result<(), Fail> {
+    assert_eq!(rt; first_other(&rt, &OPERATIONS)?, None);
     Ok(())
 }

@@ -1,5 +1,5 @@
 //! Comparisons of words at several widths, each against another way to say it and against a nearly equal one.
-use crate::ways::{BIT, Ways, first_other_at};
+use crate::ways::{BIT, Ways, first_other};
 use std::test::Fail;
 
 const ORDERS: [Ways; 10] = [
@@ -147,19 +147,7 @@ const ORDERS: [Ways; 10] = [
 ];
 
 #[test]
-fn one_bit(rt: HostRuntime) -> Result<(), Fail> {
-    assert_eq!(rt; first_other_at(&rt, &ORDERS, "1", "2")?, None);
-    Ok(())
-}
-
-#[test]
-fn three_bits(rt: HostRuntime) -> Result<(), Fail> {
-    assert_eq!(rt; first_other_at(&rt, &ORDERS, "3", "6")?, None);
-    Ok(())
-}
-
-#[test]
-fn eight_bits(rt: HostRuntime) -> Result<(), Fail> {
-    assert_eq!(rt; first_other_at(&rt, &ORDERS, "8", "16")?, None);
+fn comparisons_of_words(rt: HostRuntime) -> Result<(), Fail> {
+    assert_eq!(rt; first_other(&rt, &ORDERS)?, None);
     Ok(())
 }

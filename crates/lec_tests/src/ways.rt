@@ -9,6 +9,9 @@ pub const WORD: &str = "in %a : iW, in %b : iW, in %c : i1, out o : iW";
 /// The ports of one that gives a bit.
 pub const BIT: &str = "in %a : iW, in %b : iW, in %c : i1, out o : i1";
 
+// The widths, and what is twice as much.
+const WIDTHS: [(&str, &str); 3] = [("1", "2"), ("3", "6"), ("8", "16")];
+
 /// An operation, another way to say it, and one that is nearly equal. `W` stands for a width and `D` for twice as much.
 pub struct Ways {
     /// The ports of the three bodies.
@@ -34,8 +37,8 @@ fn is_found_at(
     is_found_on(rt, text.as_str(), pair.same)
 }
 
-/// The number of the first operation on which another verdict is found at a width. The error comes only when out of memory.
-pub fn first_other_at(
+// The number of the first operation on which another verdict is found at a width.
+fn first_other_at(
     rt: &(impl Threads + Sync + AllocGlobal),
     ways: &[Ways],
     width: &str,
@@ -56,6 +59,19 @@ pub fn first_other_at(
         let found = is_found_at(rt, &equal, width, twice)?;
         if !found || !is_found_at(rt, &unequal, width, twice)? {
             return Ok(Some(number));
+        }
+    }
+    Ok(None)
+}
+
+/// The number of the first operation on which another verdict is found, and the width. The error comes only when out of memory.
+pub fn first_other(
+    rt: &(impl Threads + Sync + AllocGlobal),
+    ways: &[Ways],
+) -> Result<Option<(usize, &'static str)>, AllocError> {
+    for (width, twice) in WIDTHS {
+        if let Some(number) = first_other_at(rt, ways, width, twice)? {
+            return Ok(Some((number, width)));
         }
     }
     Ok(None)
