@@ -1,5 +1,5 @@
 -- What regular words say, by what `clap` finds in them.
-use Rattle.std.proofs.Common.{◌≡◌, List, [], Option, Some, None, Result, Ok, Err, ap, ◌∷◌, subst, sym, refl, option_map}
+use Rattle.std.proofs.Common.{◌≡◌, List, [], Option, Some, None, Result, Err, ap, ◌∷◌, subst, sym, refl, option_map}
 use Rattle.clap.specs.Words.{Kinds, Row, Text}
 use Rattle.pass_pipeline.specs.declared.pass.Pass.{Pass}
 use Rattle.command_line.specs.Line.{parse, require_subcommand, command_in, unless_faulty}
@@ -22,17 +22,22 @@ pair_found f g (Some c) a b h k =
     let second : g c ≡ b = let e : Some b ≡ Some (g c) = k in cc in
     rw (first, second) refl
 
--- words without faults say what the subcommand that is found says
-said_by : (offered : List Pass) (kinds : Kinds) (found : Option (Text × List Row)) (name : Text) (rows : List Row) (r : Result Invocation LineFail)
-    → kinds ≡ [] → found ≡ Some (name, rows) → Says (command_in offered name rows) r → Says (unless_faulty kinds (require_subcommand offered found)) r
-said_by offered kinds found name rows r faultless is h =
-    subst (λ ks. Says (unless_faulty ks (require_subcommand offered found)) r) (sym faultless)
-    (subst (λ f. Says (require_subcommand offered f) r) (sym is) h)
+-- what is found says what the subcommand of its name says
+pub found_says : (offered : List Pass) (found : Option (Text × List Row)) (name : Text) (rows : List Row) (r : Result Invocation LineFail)
+    → found ≡ Some (name, rows) → Says (command_in offered name rows) r → Says (require_subcommand offered found) r
+found_says offered found name rows r is h = subst (λ f. Says (require_subcommand offered f) r) (sym is) h
 
-pub said_by_found : (offered : List Pass) (words : List Text) (name : Text) (rows : List Row) (r : Result Invocation LineFail)
-    → fault_of circt_app words ≡ [] → subcommand_of circt_app words ≡ Some (name, rows) → Says (command_in offered name rows) r → Says (parse offered words) r
+-- words without faults say what is found
+said_by : (offered : List Pass) (kinds : Kinds) (found other : Option (Text × List Row)) (r : Result Invocation LineFail)
+    → kinds ≡ [] → found ≡ other → Says (require_subcommand offered found) r → Says (unless_faulty kinds (require_subcommand offered other)) r
+said_by offered kinds found other r faultless is h =
+    subst (λ ks. Says (unless_faulty ks (require_subcommand offered other)) r) (sym faultless)
+    (subst (λ f. Says (require_subcommand offered f) r) is h)
+
+pub said_by_found : (offered : List Pass) (words : List Text) (found : Option (Text × List Row)) (r : Result Invocation LineFail)
+    → fault_of circt_app words ≡ [] → found ≡ subcommand_of circt_app words → Says (require_subcommand offered found) r → Says (parse offered words) r
 unfolding parse
-said_by_found offered words name rows r faultless is h = said_by offered (fault_of circt_app words) (subcommand_of circt_app words) name rows r faultless is h
+said_by_found offered words found r faultless is h = said_by offered (fault_of circt_app words) found (subcommand_of circt_app words) r faultless is h
 
 -- words with faults are wrong
 wrong_by : (kinds : Kinds) (said : Result Command UsageKind) (fail : LineFail) → IsFault kinds fail → Says (unless_faulty kinds said) (Err fail)

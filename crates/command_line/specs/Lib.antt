@@ -2,6 +2,7 @@
 pub mod Usage
 pub mod Normal
 pub mod Commands
+pub mod Arguments
 pub mod Numbers
 pub mod Line
 pub mod Making

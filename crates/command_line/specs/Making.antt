@@ -1,8 +1,8 @@
 -- Commands that are made piece by piece.
-use Rattle.std.specs.Prelude.{◌≡◌, false}
+use Rattle.std.specs.Prelude.{◌≡◌, false, List}
 use Rattle.clap.specs.Words.{App, Rule, app_of, with_rule}
 use Rattle.clap.specs.declared.builder.Command.{Command}
-use Rattle.command_line.specs.Commands.{with_common, with_workers}
+use Rattle.command_line.specs.Arguments.{with_rules, with_apps}
 use Rattle.clap.specs.declared.builder.Command.TheViews.{out-Command as fields_of}
 
 -- a command of this form, with no argument for all its subcommands
@@ -15,12 +15,12 @@ pub record Grows (old : Command) (rule : Rule) (new : Command) : Type 0 where
   pub shape : app_of new ≡ with_rule (app_of old) rule
   pub globals : (fields_of new).has_globals ≡ (fields_of old).has_globals
 
--- the command with those on workers
-pub record GrowsWorkers (old new : Command) : Type 0 where
-  pub shape : app_of new ≡ with_workers (app_of old)
+-- the command with more arguments
+pub record GrowsBy (old : Command) (rules : List Rule) (new : Command) : Type 0 where
+  pub shape : app_of new ≡ with_rules (app_of old) rules
   pub globals : (fields_of new).has_globals ≡ (fields_of old).has_globals
 
--- the command with the arguments that `opt` and `translate` have
-pub record GrowsCommon (old new : Command) : Type 0 where
-  pub shape : app_of new ≡ with_common (app_of old)
+-- the command with more subcommands
+pub record Gathers (old : Command) (apps : List App) (new : Command) : Type 0 where
+  pub shape : app_of new ≡ with_apps (app_of old) apps
   pub globals : (fields_of new).has_globals ≡ (fields_of old).has_globals

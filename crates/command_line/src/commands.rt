@@ -1,31 +1,158 @@
 //! The commands and their arguments.
-ghost use Rattle.std.specs.Prelude.{◌≡◌, IfOk, false, codes};
-ghost use Rattle.clap.specs.Words.{App, app_of, new_app, with_rule};
-ghost use Rattle.command_line.specs.Commands.{file_rule, output_rule, pipeline_rule, passes_rule, export_rule, split_rule, workers_rule, threading_rule, seed_rule, count_rule, verilog_rule, first_file_rule, second_file_rule, left_rule, right_rule, limit_rule, opt_app, translate_app, gen_app, lec_app, designs_app, circt_app, bare};
-ghost use Rattle.command_line.specs.Making.{Grows, GrowsCommon, GrowsWorkers, IsMade};
+ghost use Rattle.std.specs.Prelude.{IfOk, ◌∷◌, [], codes, map};
+ghost use Rattle.clap.specs.Words.{new_app};
+ghost use Rattle.command_line.specs.Commands.{circt_app, bare};
+ghost use Rattle.command_line.specs.Arguments.{rule_in, app_in};
+ghost use Rattle.command_line.specs.Making.{Gathers, Grows, GrowsBy, IsMade};
 
-use clap::{Arg, ArgAction, Command};
+use crate::arguments::{Argument, Form, arg_of};
+use clap::Command;
 use std::alloc::{AllocError, Global};
+
+/// A subcommand with its arguments.
+pub(crate) struct Subcommand {
+    /// Its name.
+    pub(crate) name: &'static str,
+    /// Its arguments, in order.
+    pub(crate) arguments: &'static [Argument],
+}
+
+// `[FILE]`
+const FILE: Argument = Argument {
+    id: "file",
+    form: Form::Place,
+    is_required: false,
+};
+
+// `[-o FILE]`
+const OUTPUT: Argument = Argument {
+    id: "output",
+    form: Form::Letter('o'),
+    is_required: false,
+};
+
+// `[--pass-pipeline=TEXT]`
+const PIPELINE: Argument = Argument {
+    id: "pass-pipeline",
+    form: Form::Named,
+    is_required: false,
+};
+
+// `[--passes=NAMES]`, which stands for the flags of passes.
+const PASSES: Argument = Argument {
+    id: "passes",
+    form: Form::Named,
+    is_required: false,
+};
+
+// `[--workers N]`
+const WORKERS: Argument = Argument {
+    id: "workers",
+    form: Form::Named,
+    is_required: false,
+};
+
+// `[--mlir-disable-threading]`
+const THREADING: Argument = Argument {
+    id: "mlir-disable-threading",
+    form: Form::Flag,
+    is_required: false,
+};
+
+// `[--split-input-file]`
+const SPLIT: Argument = Argument {
+    id: "split-input-file",
+    form: Form::Flag,
+    is_required: false,
+};
+
+// `[--export-verilog]`
+const EXPORT: Argument = Argument {
+    id: "export-verilog",
+    form: Form::Flag,
+    is_required: false,
+};
+
+// `SEED`
+const SEED: Argument = Argument {
+    id: "seed",
+    form: Form::Place,
+    is_required: true,
+};
+
+// `N`, the number of modules.
+const COUNT: Argument = Argument {
+    id: "count",
+    form: Form::Place,
+    is_required: true,
+};
+
+// `[--verilog]`
+const VERILOG: Argument = Argument {
+    id: "verilog",
+    form: Form::Flag,
+    is_required: false,
+};
+
+// `FILE`
+const FIRST_FILE: Argument = Argument {
+    id: "file",
+    form: Form::Place,
+    is_required: true,
+};
+
+// A second `[FILE]`.
+const SECOND_FILE: Argument = Argument {
+    id: "second-file",
+    form: Form::Place,
+    is_required: false,
+};
+
+// `--c1 NAME`
+const LEFT: Argument = Argument {
+    id: "c1",
+    form: Form::Named,
+    is_required: true,
+};
+
+// `--c2 NAME`
+const RIGHT: Argument = Argument {
+    id: "c2",
+    form: Form::Named,
+    is_required: true,
+};
+
+// `[--conflict-limit N]`
+const LIMIT: Argument = Argument {
+    id: "conflict-limit",
+    form: Form::Named,
+    is_required: false,
+};
+
+const SUBCOMMANDS: [Subcommand; 4] = [
+    Subcommand {
+        name: "opt",
+        arguments: &[FILE, OUTPUT, PIPELINE, PASSES, WORKERS, THREADING, SPLIT],
+    },
+    Subcommand {
+        name: "translate",
+        arguments: &[FILE, OUTPUT, PIPELINE, PASSES, WORKERS, THREADING, EXPORT],
+    },
+    Subcommand {
+        name: "gen",
+        arguments: &[SEED, COUNT, VERILOG, OUTPUT, WORKERS],
+    },
+    Subcommand {
+        name: "lec",
+        arguments: &[FIRST_FILE, SECOND_FILE, LEFT, RIGHT, LIMIT],
+    },
+];
 
 /// The program's command, of which a subcommand is wanted.
 pub(crate) fn circt_command<'a>(alloc: Global) -> Result<Command<'a>, AllocError>
     ensures { IfOk result (IsMade circt_app) }
 {
-    let command = designs_command(alloc)?;
-    let compare = lec_command(alloc)?;
-    command.subcommand(compare)
-}
-
-/// The command without the subcommand that compares.
-fn designs_command<'a>(alloc: Global) -> Result<Command<'a>, AllocError>
-    ensures { IfOk result (IsMade designs_app) }
-{
-    let opt = opt_command(alloc)?;
-    let translate = translate_command(alloc)?;
-    let generate = gen_command(alloc)?;
-    let command = bare_command(alloc).subcommand(opt)?;
-    let command = command.subcommand(translate)?;
-    command.subcommand(generate)
+    with_subcommands(alloc, bare_command(alloc), &SUBCOMMANDS)
 }
 
 fn bare_command<'a>(alloc: Global) -> Command<'a>
@@ -38,173 +165,75 @@ fn bare_command<'a>(alloc: Global) -> Command<'a>
         .subcommand_required(true)
 }
 
-fn opt_command<'a>(alloc: Global) -> Result<Command<'a>, AllocError>
-    ensures { IfOk result (IsMade opt_app) }
+/// The command with these subcommands.
+fn with_subcommands<'a>(
+    alloc: Global,
+    start: Command<'a>,
+    subcommands: &[Subcommand],
+) -> Result<Command<'a>, AllocError>
+    ensures { IfOk result (Gathers start.entry (map app_in subcommands.now)) }
 {
-    let command = common(alloc, Command::new(alloc, "opt"))?;
-    split(alloc, command)
+    let mut command = start;
+    for subcommand in subcommands {
+        match with_subcommand(alloc, command, subcommand) {
+            Ok(more) => command = more,
+            Err(error) => return Err(error),
+        }
+    }
+    Ok(command)
 }
 
-fn translate_command<'a>(alloc: Global) -> Result<Command<'a>, AllocError>
-    ensures { IfOk result (IsMade translate_app) }
+/// The command with one more subcommand.
+fn with_subcommand<'a>(
+    alloc: Global,
+    command: Command<'a>,
+    subcommand: &Subcommand,
+) -> Result<Command<'a>, AllocError>
+    ensures { IfOk result (Gathers command.entry (app_in subcommand.now ∷ [])) }
 {
-    let command = common(alloc, Command::new(alloc, "translate"))?;
-    export(alloc, command)
+    match subcommand_of(alloc, subcommand) {
+        Ok(added) => command.subcommand(added),
+        Err(error) => {
+            // By a call, so that its many fields are not dropped here one by one.
+            drop(command);
+            Err(error)
+        }
+    }
 }
 
-fn gen_command<'a>(alloc: Global) -> Result<Command<'a>, AllocError>
-    ensures { IfOk result (IsMade gen_app) }
+/// A subcommand with its arguments.
+fn subcommand_of<'a>(alloc: Global, subcommand: &Subcommand) -> Result<Command<'a>, AllocError>
+    ensures { IfOk result (IsMade (app_in subcommand.now)) }
 {
-    let command = seed(alloc, Command::new(alloc, "gen"))?;
-    let command = count(alloc, command)?;
-    let command = verilog(alloc, command)?;
-    let command = output(alloc, command)?;
-    workers(alloc, command)
+    let command = Command::new(alloc, subcommand.name);
+    with_arguments(alloc, command, subcommand.arguments)
 }
 
-fn lec_command<'a>(alloc: Global) -> Result<Command<'a>, AllocError>
-    ensures { IfOk result (IsMade lec_app) }
+/// The command with these arguments.
+fn with_arguments<'a>(
+    alloc: Global,
+    start: Command<'a>,
+    arguments: &[Argument],
+) -> Result<Command<'a>, AllocError>
+    ensures { IfOk result (GrowsBy start.entry (map rule_in arguments.now)) }
 {
-    let command = first_file(alloc, Command::new(alloc, "lec"))?;
-    let command = second_file(alloc, command)?;
-    let command = left(alloc, command)?;
-    let command = right(alloc, command)?;
-    limit(alloc, command)
+    let mut command = start;
+    for argument in arguments {
+        match with_argument(alloc, command, argument) {
+            Ok(more) => command = more,
+            Err(error) => return Err(error),
+        }
+    }
+    Ok(command)
 }
 
-/// The command with the arguments that both `opt` and `translate` have.
-fn common<'a>(alloc: Global, command: Command<'a>) -> Result<Command<'a>, AllocError>
-    ensures { IfOk result (GrowsCommon command.entry) }
+/// The command with one more argument.
+fn with_argument<'a>(
+    alloc: Global,
+    command: Command<'a>,
+    argument: &Argument,
+) -> Result<Command<'a>, AllocError>
+    ensures { IfOk result (Grows command.entry (rule_in argument.now)) }
 {
-    let command = file(alloc, command)?;
-    let command = output(alloc, command)?;
-    let command = pipeline(alloc, command)?;
-    let command = passes(alloc, command)?;
-    on_workers(alloc, command)
-}
-
-/// The command with the arguments on workers.
-fn on_workers<'a>(alloc: Global, command: Command<'a>) -> Result<Command<'a>, AllocError>
-    ensures { IfOk result (GrowsWorkers command.entry) }
-{
-    let command = workers(alloc, command)?;
-    threading(alloc, command)
-}
-
-/// The command with FILE.
-fn file<'a>(alloc: Global, command: Command<'a>) -> Result<Command<'a>, AllocError>
-    ensures { IfOk result (Grows command.entry file_rule) }
-{
-    command.arg(Arg::new(alloc, "file"))
-}
-
-/// The command with SEED.
-fn seed<'a>(alloc: Global, command: Command<'a>) -> Result<Command<'a>, AllocError>
-    ensures { IfOk result (Grows command.entry seed_rule) }
-{
-    command.arg(Arg::new(alloc, "seed").required(true))
-}
-
-/// The command with N.
-fn count<'a>(alloc: Global, command: Command<'a>) -> Result<Command<'a>, AllocError>
-    ensures { IfOk result (Grows command.entry count_rule) }
-{
-    command.arg(Arg::new(alloc, "count").required(true))
-}
-
-/// The command with `--verilog`.
-fn verilog<'a>(alloc: Global, command: Command<'a>) -> Result<Command<'a>, AllocError>
-    ensures { IfOk result (Grows command.entry verilog_rule) }
-{
-    let flag = Arg::new(alloc, "verilog").long("verilog");
-    command.arg(flag.action(ArgAction::SetTrue))
-}
-
-/// The command with `-o FILE`.
-fn output<'a>(alloc: Global, command: Command<'a>) -> Result<Command<'a>, AllocError>
-    ensures { IfOk result (Grows command.entry output_rule) }
-{
-    command.arg(Arg::new(alloc, "output").short('o'))
-}
-
-/// The command with `--pass-pipeline=TEXT`.
-fn pipeline<'a>(alloc: Global, command: Command<'a>) -> Result<Command<'a>, AllocError>
-    ensures { IfOk result (Grows command.entry pipeline_rule) }
-{
-    command.arg(Arg::new(alloc, "pass-pipeline").long("pass-pipeline"))
-}
-
-/// The command with `--passes=NAMES`.
-fn passes<'a>(alloc: Global, command: Command<'a>) -> Result<Command<'a>, AllocError>
-    ensures { IfOk result (Grows command.entry passes_rule) }
-{
-    command.arg(Arg::new(alloc, "passes").long("passes"))
-}
-
-/// The command with `--split-input-file`.
-fn split<'a>(alloc: Global, command: Command<'a>) -> Result<Command<'a>, AllocError>
-    ensures { IfOk result (Grows command.entry split_rule) }
-{
-    let flag = Arg::new(alloc, "split-input-file").long("split-input-file");
-    command.arg(flag.action(ArgAction::SetTrue))
-}
-
-/// The command with `--export-verilog`.
-fn export<'a>(alloc: Global, command: Command<'a>) -> Result<Command<'a>, AllocError>
-    ensures { IfOk result (Grows command.entry export_rule) }
-{
-    let flag = Arg::new(alloc, "export-verilog").long("export-verilog");
-    command.arg(flag.action(ArgAction::SetTrue))
-}
-
-/// The command with `--workers N`.
-fn workers<'a>(alloc: Global, command: Command<'a>) -> Result<Command<'a>, AllocError>
-    ensures { IfOk result (Grows command.entry workers_rule) }
-{
-    command.arg(Arg::new(alloc, "workers").long("workers"))
-}
-
-/// The command with `--mlir-disable-threading`.
-fn threading<'a>(alloc: Global, command: Command<'a>) -> Result<Command<'a>, AllocError>
-    ensures { IfOk result (Grows command.entry threading_rule) }
-{
-    let flag = Arg::new(alloc, "mlir-disable-threading").long("mlir-disable-threading");
-    command.arg(flag.action(ArgAction::SetTrue))
-}
-
-/// The command with FILE, which is asked for.
-fn first_file<'a>(alloc: Global, command: Command<'a>) -> Result<Command<'a>, AllocError>
-    ensures { IfOk result (Grows command.entry first_file_rule) }
-{
-    command.arg(Arg::new(alloc, "file").required(true))
-}
-
-/// The command with a second FILE.
-fn second_file<'a>(alloc: Global, command: Command<'a>) -> Result<Command<'a>, AllocError>
-    ensures { IfOk result (Grows command.entry second_file_rule) }
-{
-    command.arg(Arg::new(alloc, "second-file"))
-}
-
-/// The command with `--c1 NAME`.
-fn left<'a>(alloc: Global, command: Command<'a>) -> Result<Command<'a>, AllocError>
-    ensures { IfOk result (Grows command.entry left_rule) }
-{
-    let name = Arg::new(alloc, "c1").long("c1");
-    command.arg(name.required(true))
-}
-
-/// The command with `--c2 NAME`.
-fn right<'a>(alloc: Global, command: Command<'a>) -> Result<Command<'a>, AllocError>
-    ensures { IfOk result (Grows command.entry right_rule) }
-{
-    let name = Arg::new(alloc, "c2").long("c2");
-    command.arg(name.required(true))
-}
-
-/// The command with `--conflict-limit N`.
-fn limit<'a>(alloc: Global, command: Command<'a>) -> Result<Command<'a>, AllocError>
-    ensures { IfOk result (Grows command.entry limit_rule) }
-{
-    command.arg(Arg::new(alloc, "conflict-limit").long("conflict-limit"))
+    command.arg(arg_of(alloc, argument))
 }

@@ -4,7 +4,9 @@ ghost use Rattle.std.specs.Prelude.{◌≡◌, IfOk, IfErr, OnOk, IfSome, ◌≤
 ghost use Rattle.clap.specs.Words.{found_of, rows_of, first_of, fault_of, subcommand_of, subcommand_rows_of, FailsBy};
 ghost use Rattle.pass_pipeline.specs.Pipelines.{passes};
 ghost use Rattle.command_line.specs.Commands.{circt_app};
-ghost use Rattle.command_line.specs.Line.{line, parse, input_in, inputs_in, output_in, items_text, in_items, in_pipeline, in_list, passes_in, is_given_twice, mlir_work, number_in, generated_work, gen_work, limit_in, name_in, is_dash, is_stdin_twice, second_in, lec_work, passes_work, work_in, is_flagged, workers_said, workers_in, command_in};
+ghost use Rattle.command_line.specs.Making.{IsMade};
+ghost use Rattle.command_line.specs.Line.Work.{verilog};
+ghost use Rattle.command_line.specs.Line.{line, parse, require_subcommand, with_files, on_passes, input_in, inputs_in, output_in, items_text, in_items, in_pipeline, in_list, passes_in, is_given_twice, mlir_work, number_in, generated_work, gen_work, limit_in, name_in, is_dash, is_stdin_twice, second_in, lec_work, passes_work, work_in, is_flagged, workers_said, workers_in, command_in};
 ghost use Rattle.command_line.specs.Invocations.{command_of, work_of, Says, SaysWork, SaysPasses, IsFault};
 
 use crate::commands::circt_command;
@@ -14,8 +16,8 @@ use crate::numbers::number_between;
 use crate::recipe::Recipe;
 use crate::usage::UsageKind;
 use crate::workers::Workers;
-use clap::ArgMatches;
 use clap::error::ErrorKind;
+use clap::{ArgMatches, Command};
 use pass_pipeline::pass::Pass;
 use pass_pipeline::pipeline::{Pipeline, PipelineError, PipelineFail, read_pipeline};
 use std::alloc::{AllocError, Global};
@@ -100,10 +102,9 @@ pub fn read_words(alloc: Global, words: &[String], offered: &[Pass]) -> Result<I
 pub fn read_line(alloc: Global, words: &[String], offered: &[Pass]) -> Result<Invocation, LineFail>
     ensures { Says (parse offered.now (map string_bytes words.now)) result }
 {
-    let matches = find_matches(alloc, words)?;
-    match matches.subcommand() {
-        Some((name, rows)) => command_in(alloc, name, rows, offered),
-        None => Err(LineFail::Usage(UsageKind::Words)),
+    match find_matches(alloc, words) {
+        Ok(matches) => found_command(alloc, &matches, offered),
+        Err(fail) => Err(fail),
     }
 }
 
@@ -112,13 +113,38 @@ fn find_matches<'a>(alloc: Global, words: &'a [String]) -> Result<ArgMatches<'a>
     ensures ok { IfOk result (λ m. (fault_of circt_app (map string_bytes words.entry.now) ≡ []) × (subcommand_rows_of m ≡ subcommand_of circt_app (map string_bytes words.entry.now))) }
     ensures err { IfErr result (IsFault (fault_of circt_app (map string_bytes words.entry.now))) }
 {
-    let command = circt_command(alloc)?;
+    match circt_command(alloc) {
+        Ok(command) => matches_of(command, words),
+        Err(_) => Err(LineFail::NoMemory),
+    }
+}
+
+/// The matches that `clap` finds by the program's command.
+fn matches_of<'a>(command: Command<'a>, words: &'a [String]) -> Result<ArgMatches<'a>, LineFail>
+    requires { IsMade circt_app command }
+    ensures ok { IfOk result (λ m. (fault_of circt_app (map string_bytes words.entry.now) ≡ []) × (subcommand_rows_of m ≡ subcommand_of circt_app (map string_bytes words.entry.now))) }
+    ensures err { IfErr result (IsFault (fault_of circt_app (map string_bytes words.entry.now))) }
+{
     match command.try_get_matches_from(words) {
         Ok(matches) => Ok(matches),
         Err(error) => match error.kind() {
             ErrorKind::OutOfMemory => Err(LineFail::NoMemory),
             _ => Err(LineFail::Usage(UsageKind::Words)),
         },
+    }
+}
+
+/// The command that matches say.
+fn found_command(
+    alloc: Global,
+    matches: &ArgMatches<'_>,
+    offered: &[Pass],
+) -> Result<Invocation, LineFail>
+    ensures { Says (require_subcommand offered.now (subcommand_rows_of matches.now)) result }
+{
+    match matches.subcommand() {
+        Some((name, rows)) => command_in(alloc, name, rows, offered),
+        None => Err(LineFail::Usage(UsageKind::Words)),
     }
 }
 
@@ -134,13 +160,45 @@ fn command_in(
     let Some(workers) = workers_in(matches) else {
         return Err(LineFail::Usage(UsageKind::Words));
     };
-    let work = work_in(alloc, name, matches, offered)?;
-    Ok(Invocation {
-        inputs: inputs_in(alloc, matches, &work)?,
-        output: output_in(alloc, matches)?,
-        work,
-        workers,
-    })
+    match work_in(alloc, name, matches, offered) {
+        Ok(work) => with_files(alloc, matches, work, workers),
+        Err(fail) => Err(fail),
+    }
+}
+
+/// A work with the files that are named, and workers.
+fn with_files(
+    alloc: Global,
+    matches: &ArgMatches<'_>,
+    work: Work,
+    workers: Workers,
+) -> Result<Invocation, LineFail>
+    ensures { Says (with_files (rows_of (found_of matches.now)) workers.count (Ok (work_of work))) result }
+{
+    match files_in(alloc, matches, &work) {
+        Ok((inputs, output)) => Ok(Invocation {
+            inputs,
+            output,
+            work,
+            workers,
+        }),
+        Err(_) => Err(LineFail::NoMemory),
+    }
+}
+
+/// The names of the files that are read for a work, and of the one that is written.
+fn files_in(
+    alloc: Global,
+    matches: &ArgMatches<'_>,
+    work: &Work,
+) -> Result<(Vec<String>, Option<String>), AllocError>
+    ensures { IfOk result (λ f. (map string_bytes f.0.items ≡ inputs_in (rows_of (found_of matches.now)) (work_of work.now)) × (option_map string_bytes f.1 ≡ output_in (rows_of (found_of matches.now)))) }
+{
+    let output = output_in(alloc, matches)?;
+    match inputs_in(alloc, matches, work) {
+        Ok(inputs) => Ok((inputs, output)),
+        Err(error) => Err(error),
+    }
 }
 
 /// How many workers are to work modules: as many as are said, or the usual number; one where threads are not wanted.
@@ -233,11 +291,36 @@ fn lec_work(alloc: Global, matches: &ArgMatches<'_>) -> Result<Work, LineFail>
     if is_stdin_twice(matches) {
         return Err(LineFail::Usage(UsageKind::StdinTwice));
     }
-    Ok(Work::Verdict(Comparison {
-        left: String::from_str(alloc, name_in(matches, "c1"))?,
-        right: String::from_str(alloc, name_in(matches, "c2"))?,
+    match comparison_of(
+        alloc,
+        name_in(matches, "c1"),
+        name_in(matches, "c2"),
         conflict_limit,
-    }))
+    ) {
+        Ok(comparison) => Ok(Work::Verdict(comparison)),
+        Err(_) => Err(LineFail::NoMemory),
+    }
+}
+
+/// The comparison of the modules of these names.
+fn comparison_of(
+    alloc: Global,
+    left: &str,
+    right: &str,
+    conflict_limit: u64,
+) -> Result<Comparison, AllocError>
+    requires { 1 ≤ conflict_limit }
+    ensures { IfOk result (λ c. (string_bytes c.left ≡ left.now) × (string_bytes c.right ≡ right.now) × (c.conflict_limit ≡ conflict_limit)) }
+{
+    let left = String::from_str(alloc, left)?;
+    match String::from_str(alloc, right) {
+        Ok(right) => Ok(Comparison {
+            left,
+            right,
+            conflict_limit,
+        }),
+        Err(error) => Err(error),
+    }
 }
 
 /// How many clauses may be learnt.
@@ -288,13 +371,32 @@ fn passes_work(
         return Err(LineFail::Usage(UsageKind::TwoPipelines));
     }
     if name == "opt" {
-        let passes = passes_in(alloc, matches, offered)?;
-        return Ok(mlir_work(is_flagged(matches, "split-input-file"), passes));
+        return opt_work(alloc, matches, offered);
     }
     if is_flagged(matches, "export-verilog") {
-        return Ok(Work::Verilog(passes_in(alloc, matches, offered)?));
+        return verilog_work(alloc, matches, offered);
     }
     Err(LineFail::Usage(UsageKind::NoTranslation))
+}
+
+/// The work of `opt`.
+fn opt_work(alloc: Global, matches: &ArgMatches<'_>, offered: &[Pass]) -> Result<Work, LineFail>
+    ensures { SaysWork (on_passes (mlir_work (is_flagged (codes "split-input-file") (rows_of (found_of matches.now)))) (passes_in offered.now (rows_of (found_of matches.now)))) result }
+{
+    match passes_in(alloc, matches, offered) {
+        Ok(passes) => Ok(mlir_work(is_flagged(matches, "split-input-file"), passes)),
+        Err(fail) => Err(fail),
+    }
+}
+
+/// The work of `translate` to Verilog.
+fn verilog_work(alloc: Global, matches: &ArgMatches<'_>, offered: &[Pass]) -> Result<Work, LineFail>
+    ensures { SaysWork (on_passes verilog (passes_in offered.now (rows_of (found_of matches.now)))) result }
+{
+    match passes_in(alloc, matches, offered) {
+        Ok(passes) => Ok(Work::Verilog(passes)),
+        Err(fail) => Err(fail),
+    }
 }
 
 /// The work of `opt`, on the pieces of the input or on the whole.

@@ -1,6 +1,7 @@
 //! The words of the command line: made regular, read by `clap`, and answered as an invocation.
 #![tactic(auto)]
 
+mod arguments;
 mod commands;
 pub mod comparison;
 pub mod invocation;

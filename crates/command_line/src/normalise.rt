@@ -1,6 +1,6 @@
 //! Words made regular.
 ghost use Rattle.std.specs.Prelude.{◌≡◌, IfOk, IfErr, OnOk, OnErr, ◌++◌, ◌∷◌, [], map, string_bytes, codes, Some, None};
-ghost use Rattle.command_line.specs.Normal.{normal, with_second_dash, wants_dash, characters, is_end, is_reserved, begins, all_dashed, has_reserved, flag_of, flags, without_flags, passes_word, passes_words, with_passes_word, takes_passes, with_passes};
+ghost use Rattle.command_line.specs.Normal.{normal, unless, with_second_dash, wants_dash, characters, is_end, is_reserved, begins, all_dashed, has_reserved, flag_of, flags, without_flags, passes_word, passes_words, with_passes_word, takes_passes, with_passes};
 ghost use Rattle.std.specs.List.{cons_option};
 ghost use Rattle.pass_pipeline.specs.Passes.{pass_name};
 ghost use Rattle.command_line.specs.declared.normalise.WordsFail.TheVariants.{Reserved};
@@ -41,11 +41,28 @@ pub fn normalise(
     ensures ok { IfOk result (λ v. normal offered.now (map string_bytes words.now) ≡ Some (map string_bytes v.items)) }
     ensures reserved { IfErr result (λ e. e ≡ Reserved → normal offered.now (map string_bytes words.now) ≡ None) }
 {
-    let regular = with_dashes(alloc, words)?;
-    if has_reserved(&regular) {
+    match with_dashes(alloc, words) {
+        Ok(dashed) => unless_reserved(alloc, dashed, offered),
+        Err(_) => Err(WordsFail::NoMemory),
+    }
+}
+
+/// Words with their second dashes made regular, unless one is kept for the program itself.
+fn unless_reserved(
+    alloc: Global,
+    words: Vec<String>,
+    offered: &[Pass],
+) -> Result<Vec<String>, WordsFail>
+    ensures ok { IfOk result (λ v. unless (has_reserved (map string_bytes words.items)) (with_passes offered.now (map string_bytes words.items)) ≡ Some (map string_bytes v.items)) }
+    ensures reserved { IfErr result (λ e. e ≡ Reserved → unless (has_reserved (map string_bytes words.items)) (with_passes offered.now (map string_bytes words.items)) ≡ None) }
+{
+    if has_reserved(&words) {
         return Err(WordsFail::Reserved);
     }
-    Ok(with_passes(alloc, regular, offered)?)
+    match with_passes(alloc, words, offered) {
+        Ok(regular) => Ok(regular),
+        Err(_) => Err(WordsFail::NoMemory),
+    }
 }
 
 /// The words with their second dashes.
@@ -172,12 +189,28 @@ fn with_passes_word(
 ) -> Result<Vec<String>, AllocError>
     ensures { IfOk result (λ v. map string_bytes v.items ≡ with_passes_word first.now (flags offered.now (map string_bytes others.now)) (without_flags offered.now (map string_bytes others.now))) }
 {
-    let mut words = Vec::new(alloc);
-    words.push(String::from_str(alloc, first)?)?;
     let passes = flags(alloc, others, offered)?;
-    push_passes(alloc, &mut words, passes.as_slice())?;
-    push_others(alloc, &mut words, others, offered)?;
-    Ok(words)
+    let mut words = Vec::new(alloc);
+    match push_words(alloc, &mut words, first, passes.as_slice(), others, offered) {
+        Ok(()) => Ok(words),
+        Err(error) => Err(error),
+    }
+}
+
+/// Adds the first word, passes as one word, and those of the other words that are no flags of passes.
+fn push_words(
+    alloc: Global,
+    words: &mut Vec<String>,
+    first: &str,
+    passes: &[Pass],
+    others: &[String],
+    offered: &[Pass],
+) -> Result<(), AllocError>
+    ensures { OnOk result (map string_bytes words.new.items ≡ map string_bytes words.old.items ++ with_passes_word first.now passes.now (without_flags offered.now (map string_bytes others.now))) }
+{
+    words.push(String::from_str(alloc, first)?)?;
+    push_passes(alloc, words, passes)?;
+    push_others(alloc, words, others, offered)
 }
 
 /// The passes of flags, in order.

@@ -1,7 +1,0 @@
-use Rattle.std.proofs.Common.{rules}
-use Rattle.command_line.specs.Commands.{pipeline_rule}
-use Rattle.command_line.proofs.Making.{grown}
-use Rattle.command_line.proofs.commands.pipeline.Goals as goal
-
-pub returns : goal.returns
-returns c = grown c.args.command c.long.result pipeline_rule c.arg.result (search rules) (search rules) c.arg.ensures
