@@ -1,6 +1,6 @@
 //! What words of `lec` say.
-use crate::invocations::{ALL, words_of};
-use command_line::invocation::{Invocation, LineFail, Work, read_line};
+use crate::lines::{ALL, invocation_of, none_differs};
+use command_line::invocation::{Invocation, Work};
 use std::alloc::{AllocError, Global};
 use std::test::Fail;
 
@@ -69,17 +69,22 @@ fn compares(invocation: &Invocation, row: &Compared) -> bool {
     }
 }
 
+// Whether the words of a row compare modules as it says.
+fn is_well(alloc: Global, row: &Compared) -> Result<bool, AllocError> {
+    match invocation_of(alloc, row.line, &ALL)? {
+        Ok(invocation) => Ok(compares(&invocation, row)),
+        Err(_) => Ok(false),
+    }
+}
+
 // The first words of `lec` that say something else.
 fn first_other_comparison(
     alloc: Global,
     rows: &[Compared],
 ) -> Result<Option<&'static str>, AllocError> {
     for row in rows {
-        let words = words_of(alloc, row.line)?;
-        match read_line(alloc, words.as_slice(), &ALL) {
-            Ok(invocation) if compares(&invocation, row) => {}
-            Err(LineFail::NoMemory) => return Err(AllocError),
-            _ => return Ok(Some(row.line)),
+        if !is_well(alloc, row)? {
+            return Ok(Some(row.line));
         }
     }
     Ok(None)
@@ -87,6 +92,5 @@ fn first_other_comparison(
 
 #[test]
 fn modules_are_named(rt: HostRuntime) -> Result<(), Fail> {
-    assert_eq!(rt; first_other_comparison(rt.alloc(), &COMPARED)?, None);
-    Ok(())
+    none_differs(&rt, first_other_comparison(rt.alloc(), &COMPARED))
 }

@@ -10,6 +10,8 @@ mod given_passes;
 #[cfg(test)]
 mod invocations;
 #[cfg(test)]
+mod lines;
+#[cfg(test)]
 mod memory;
 #[cfg(test)]
 mod named_files;

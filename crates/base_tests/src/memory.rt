@@ -108,77 +108,164 @@ fn a_text_goes_out_in_pieces_of_4096_bytes(rt: HostRuntime) -> Result<(), Fail> 
     Ok(())
 }
 
+// Whether a sink with room for five bytes takes three, and of three more not all.
+fn fills(sink: &mut MemorySink) -> bool {
+    let takes_first = sink.put(b"abc").is_ok();
+    let takes_second = sink.put(b"def").is_ok();
+    takes_first && !takes_second
+}
+
+// Whether a full sink has taken what fits, and met one fault.
+fn keeps_what_fits(alloc: Global) -> Result<bool, AllocError> {
+    let mut sink = MemorySink::new(alloc, 5)?;
+    Ok(fills(&mut sink) && (sink.contents() == b"abcde".as_slice() && sink.faults() == 1))
+}
+
 #[test]
 fn a_full_sink_keeps_what_fits(rt: HostRuntime) -> Result<(), Fail> {
-    let mut sink = MemorySink::new(rt.alloc(), 5)?;
-    assert!(rt; sink.put(b"abc").is_ok());
-    assert!(rt; sink.put(b"def").is_err());
-    assert_eq!(rt; sink.contents(), b"abcde".as_slice());
-    assert_eq!(rt; sink.faults(), 1);
+    assert!(rt; keeps_what_fits(rt.alloc())?);
     Ok(())
 }
 
-// What is read of a file; nothing where it cannot be read.
-fn read_of(
-    files: &mut MemoryFiles,
-    alloc: Global,
-    name: &str,
+// Files of which there is one.
+fn one_file(alloc: Global, name: &str, bytes: &[u8]) -> Result<MemoryFiles, AllocError> {
+    let file = MemoryFile::of(alloc, name, bytes)?;
+    Ok(MemoryFiles::new(alloc, vec![in alloc; file]?))
+}
+
+/// A reading of a file, whether it succeeds, and what it then gives.
+struct Reading {
+    name: &'static str,
     limit: u64,
-) -> Result<Option<Text>, AllocError> {
-    match files.read(alloc, name, limit) {
-        Ok(text) => Ok(Some(text)),
-        Err(FileFail::Failed) => Ok(None),
+    is_read: bool,
+    bytes: &'static [u8],
+}
+
+const READINGS: [Reading; 4] = [
+    Reading {
+        name: "-",
+        limit: 100,
+        is_read: true,
+        bytes: b"module",
+    },
+    Reading {
+        name: "-",
+        limit: 3,
+        is_read: true,
+        bytes: b"mod",
+    },
+    Reading {
+        name: "-",
+        limit: 100,
+        is_read: false,
+        bytes: b"",
+    },
+    Reading {
+        name: "x.mlir",
+        limit: 100,
+        is_read: false,
+        bytes: b"",
+    },
+];
+
+// Whether a reading gives what it is to give.
+fn reads_well(files: &mut MemoryFiles, alloc: Global, row: &Reading) -> Result<bool, AllocError> {
+    match files.read(alloc, row.name, row.limit) {
+        Ok(text) => Ok(row.is_read && text.as_bytes() == row.bytes),
+        Err(FileFail::Failed) => Ok(!row.is_read),
         Err(FileFail::NoMemory) => Err(AllocError),
     }
 }
 
-// Whether a text is this one, or there is none.
-fn is_text(text: &Option<Text>, wanted: Option<&[u8]>) -> bool {
-    match (text, wanted) {
-        (Some(text), Some(wanted)) => text.as_bytes() == wanted,
-        (None, None) => true,
-        (Some(_), None) | (None, Some(_)) => false,
+// The first reading that gives something else, by its position.
+fn first_other_reading(
+    files: &mut MemoryFiles,
+    alloc: Global,
+    rows: &[Reading],
+) -> Result<Option<usize>, AllocError> {
+    for (at, row) in rows.iter().enumerate() {
+        if !reads_well(files, alloc, row)? {
+            return Ok(Some(at));
+        }
     }
+    Ok(None)
+}
+
+// The first reading of a file that gives something else where the third one is to fail, and how many failed.
+fn first_other_read(alloc: Global) -> Result<(Option<usize>, u64), AllocError> {
+    let failing = vec![in alloc; 2]?;
+    let mut files = one_file(alloc, "-", b"module")?.failing_at(failing);
+    let other = first_other_reading(&mut files, alloc, &READINGS)?;
+    Ok((other, files.read_faults()))
 }
 
 #[test]
 fn files_in_memory_are_read_by_name(rt: HostRuntime) -> Result<(), Fail> {
-    let alloc = rt.alloc();
-    let files = vec![in alloc; MemoryFile::of(alloc, "-", b"module")?]?;
-    let mut files = MemoryFiles::new(alloc, files).failing_at(vec![in alloc; 2]?);
-    for (name, limit, wanted) in [
-        ("-", 100, Some(b"module".as_slice())),
-        ("-", 3, Some(b"mod".as_slice())),
-        ("-", 100, None),
-        ("x.mlir", 100, None),
-    ] {
-        let text = read_of(&mut files, alloc, name, limit)?;
-        assert!(rt; is_text(&text, wanted), "of {name} {limit}");
-    }
-    assert_eq!(rt; files.read_faults(), 2);
+    assert_eq!(rt; first_other_read(rt.alloc())?, (None, 2));
     Ok(())
 }
+
+/// Bytes that are written to a file, and whether they then stand there.
+struct Writing {
+    name: &'static str,
+    bytes: &'static [u8],
+    is_written: bool,
+}
+
+const WRITINGS: [Writing; 4] = [
+    Writing {
+        name: "a.v",
+        bytes: b"new text",
+        is_written: true,
+    },
+    Writing {
+        name: "a.v",
+        bytes: b"lost",
+        is_written: false,
+    },
+    Writing {
+        name: "b.v",
+        bytes: b"",
+        is_written: true,
+    },
+    Writing {
+        name: "a.v",
+        bytes: b"x",
+        is_written: true,
+    },
+];
 
 // Whether these bytes are written to a file.
 fn is_written(files: &mut MemoryFiles, alloc: Global, name: &str, bytes: &[u8]) -> bool {
     files.write(alloc, name, bytes).is_ok() && files.contents(name) == Some(bytes)
 }
 
+// The first writing that goes otherwise, by its position.
+fn first_other_writing(files: &mut MemoryFiles, alloc: Global, rows: &[Writing]) -> Option<usize> {
+    for (at, row) in rows.iter().enumerate() {
+        if is_written(files, alloc, row.name, row.bytes) != row.is_written {
+            return Some(at);
+        }
+    }
+    None
+}
+
+// Whether a file without bytes is there, another one is not, and one writing and no reading failed.
+fn are_left(files: &MemoryFiles) -> bool {
+    let names = files.contents("b.v") == Some(b"".as_slice()) && files.contents("c.v").is_none();
+    names && (files.write_faults() == 1 && files.read_faults() == 0)
+}
+
+// The first writing that goes otherwise where the second one is to fail, and whether the files are then as they should be.
+fn first_other_written(alloc: Global) -> Result<(Option<usize>, bool), AllocError> {
+    let failing = vec![in alloc; 1]?;
+    let mut files = one_file(alloc, "a.v", b"old")?.failing_writes_at(failing);
+    let other = first_other_writing(&mut files, alloc, &WRITINGS);
+    Ok((other, are_left(&files)))
+}
+
 #[test]
 fn files_in_memory_are_written_by_name(rt: HostRuntime) -> Result<(), Fail> {
-    let alloc = rt.alloc();
-    let files = vec![in alloc; MemoryFile::of(alloc, "a.v", b"old")?]?;
-    let mut files = MemoryFiles::new(alloc, files).failing_writes_at(vec![in alloc; 1]?);
-    for (name, bytes, wanted) in [
-        ("a.v", b"new text".as_slice(), true),
-        ("a.v", b"lost", false),
-        ("b.v", b"", true),
-        ("a.v", b"x", true),
-    ] {
-        assert_eq!(rt; is_written(&mut files, alloc, name, bytes), wanted);
-    }
-    assert_eq!(rt; files.contents("b.v"), Some(b"".as_slice()));
-    assert_eq!(rt; files.contents("c.v"), None);
-    assert_eq!(rt; (files.write_faults(), files.read_faults()), (1, 0));
+    assert_eq!(rt; first_other_written(rt.alloc())?, (None, true));
     Ok(())
 }

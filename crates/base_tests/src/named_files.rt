@@ -1,15 +1,15 @@
 //! Files that words name.
-use crate::invocations::words_of;
-use command_line::invocation::{Invocation, LineFail, Work, read_line};
+use crate::lines::{invocation_of, none_differs};
+use command_line::invocation::{Invocation, Work};
 use std::alloc::{AllocError, Global};
 use std::test::Fail;
 
-/// Words, and the command that they are.
+/// Words, and the command that they are; the output is empty where none is named.
 struct Named {
     line: &'static str,
     translates: bool,
     input: &'static str,
-    output: Option<&'static str>,
+    output: &'static str,
 }
 
 const NAMED: [Named; 7] = [
@@ -17,43 +17,43 @@ const NAMED: [Named; 7] = [
         line: "opt",
         translates: false,
         input: "-",
-        output: None,
+        output: "",
     },
     Named {
         line: "opt a.mlir",
         translates: false,
         input: "a.mlir",
-        output: None,
+        output: "",
     },
     Named {
         line: "opt -o b.mlir",
         translates: false,
         input: "-",
-        output: Some("b.mlir"),
+        output: "b.mlir",
     },
     Named {
         line: "opt -o=b.mlir a",
         translates: false,
         input: "a",
-        output: Some("b.mlir"),
+        output: "b.mlir",
     },
     Named {
         line: "opt - -o -",
         translates: false,
         input: "-",
-        output: None,
+        output: "",
     },
     Named {
         line: "translate --export-verilog a -o b",
         translates: true,
         input: "a",
-        output: Some("b"),
+        output: "b",
     },
     Named {
         line: "opt -- -o",
         translates: false,
         input: "-o",
-        output: None,
+        output: "",
     },
 ];
 
@@ -65,30 +65,38 @@ fn is_translation(work: &Work) -> bool {
     }
 }
 
+// Whether an output is this one, or none where that is empty.
+fn is_output(output: &Option<String>, wanted: &str) -> bool {
+    match output {
+        Some(name) => !wanted.is_empty() && name.as_str() == wanted,
+        None => wanted.is_empty(),
+    }
+}
+
 // Whether an invocation has one input and an output of these names.
-fn has_names(invocation: &Invocation, input: &str, output: Option<&str>) -> bool {
+fn has_names(invocation: &Invocation, input: &str, output: &str) -> bool {
     let inputs = invocation.inputs.as_slice();
-    let name = invocation.output.as_ref().map(|name| name.as_str());
-    inputs.len() == 1 && (inputs[0].as_str() == input && name == output)
+    inputs.len() == 1 && (inputs[0].as_str() == input && is_output(&invocation.output, output))
+}
+
+// Whether an invocation is the command of a row.
+fn is_command(invocation: &Invocation, row: &Named) -> bool {
+    is_translation(&invocation.work) == row.translates
+        && has_names(invocation, row.input, row.output)
 }
 
 // Whether the words of a row are its command.
-fn is_command(alloc: Global, row: &Named) -> Result<bool, AllocError> {
-    let words = words_of(alloc, row.line)?;
-    match read_line(alloc, words.as_slice(), &[]) {
-        Ok(invocation) => Ok(
-            is_translation(&invocation.work) == row.translates
-                && has_names(&invocation, row.input, row.output),
-        ),
-        Err(LineFail::Usage(_)) => Ok(false),
-        Err(LineFail::NoMemory) => Err(AllocError),
+fn is_well(alloc: Global, row: &Named) -> Result<bool, AllocError> {
+    match invocation_of(alloc, row.line, &[])? {
+        Ok(invocation) => Ok(is_command(&invocation, row)),
+        Err(_) => Ok(false),
     }
 }
 
 // The first words that are another command.
 fn first_other_command(alloc: Global, rows: &[Named]) -> Result<Option<&'static str>, AllocError> {
     for row in rows {
-        if !is_command(alloc, row)? {
+        if !is_well(alloc, row)? {
             return Ok(Some(row.line));
         }
     }
@@ -97,6 +105,5 @@ fn first_other_command(alloc: Global, rows: &[Named]) -> Result<Option<&'static 
 
 #[test]
 fn files_are_named(rt: HostRuntime) -> Result<(), Fail> {
-    assert_eq!(rt; first_other_command(rt.alloc(), &NAMED)?, None);
-    Ok(())
+    none_differs(&rt, first_other_command(rt.alloc(), &NAMED))
 }

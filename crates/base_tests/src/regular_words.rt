@@ -1,5 +1,5 @@
 //! Words that are made regular.
-use crate::invocations::{ALL, words_of};
+use crate::lines::{ALL, words_of};
 use command_line::normalise::{WordsFail, normalise};
 use pass_pipeline::pass::Pass;
 use std::alloc::{AllocError, Global};
