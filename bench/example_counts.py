@@ -1,6 +1,6 @@
 #!/usr/bin/env python3
 """Writes the files `args` and `stdout` of the crate that checks the examples: the names of the examples, and how many cases
-each file of expected texts has.
+each file of expectations has.
 
     example_counts.py
 """
@@ -8,7 +8,7 @@ import pathlib
 import re
 
 CRATE = pathlib.Path(__file__).resolve().parent.parent / "crates" / "circt_examples"
-ENDINGS = [".opt.mlir", ".v", ".opt.txt", ".v.txt"]
+ENDINGS = [".opt.mlir", ".v", ".opt.txt", ".v.txt", ".lec.txt", ".steps.txt"]
 SEPARATOR = re.compile(rb"^// -----.*\n", re.MULTILINE)
 
 

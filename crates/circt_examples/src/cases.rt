@@ -30,13 +30,18 @@ pub fn cases(alloc: Global, text: &str) -> Result<Vec<String>, AllocError> {
     Ok(cases)
 }
 
-/// The words of the commands that a text names by lines `// RUN: circt WORDS`: of those that begin with this
-/// command, or the command alone where there are none.
-pub fn commands(alloc: Global, text: &str, command: &str) -> Result<Vec<String>, AllocError> {
+/// The words of the commands that a text names by lines `// RUN: circt WORDS`: of those that begin so, or of this command alone where
+/// there are none. The error comes only when out of memory.
+pub fn commands(
+    alloc: Global,
+    text: &str,
+    begin: &str,
+    command: &str,
+) -> Result<Vec<String>, AllocError> {
     let mut commands = Vec::new(alloc);
     for line in text.lines() {
         if let Some(words) = line.strip_prefix(RUN) {
-            if words.starts_with(command) {
+            if words.starts_with(begin) {
                 commands.push(String::from_str(alloc, words)?)?;
             }
         }

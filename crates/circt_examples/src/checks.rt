@@ -1,6 +1,8 @@
 //! Whether the cases of an example give what is expected.
 use crate::cases::{cases, commands};
-use crate::runs::run;
+use crate::runs::{Ended, run};
+use crate::steps::{design_runs, run_of, verilog_runs};
+use crate::verdicts::do_differ;
 use io_edge::file_access::{FileFail, Files};
 use std::alloc::{AllocError, Global};
 use std::thread::Threads;
@@ -8,42 +10,70 @@ use std::thread::Threads;
 // How many bytes of a file are read.
 const LIMIT: u64 = 1 << 20;
 
+// What `lec` prints first of modules that differ.
+const DIFFERENT: &str = "c1 != c2\n";
+
 /// What is expected of a command.
-struct Expectation {
-    /// What the name of the file that has it ends with.
-    ending: &'static str,
-    /// The command: its first word, and the option that names it.
-    command: &'static str,
-    /// Whether the texts are printed; else they are error messages.
-    is_printed: bool,
-    /// Whether the command prints what it printed again unchanged.
-    is_stable: bool,
+#[derive(Clone, Copy, PartialEq, Eq)]
+enum Expected {
+    /// The text that it prints.
+    Output,
+    /// The text that it prints, which `opt` prints again unchanged.
+    StableOutput,
+    /// Its error message.
+    ErrorMessage,
+    /// Its verdict on two modules.
+    Verdict,
+    /// The steps that the text that it prints takes.
+    Steps,
 }
 
-const EXPECTATIONS: [Expectation; 4] = [
+/// A file beside an example.
+struct Expectation {
+    /// What its name ends with.
+    ending: &'static str,
+    /// The command that is run, and what the command of a line begins with that is run in its place.
+    command: &'static str,
+    begin: &'static str,
+    expected: Expected,
+}
+
+const EXPECTATIONS: [Expectation; 6] = [
     Expectation {
         ending: ".opt.mlir",
         command: "opt",
-        is_printed: true,
-        is_stable: true,
+        begin: "opt",
+        expected: Expected::StableOutput,
     },
     Expectation {
         ending: ".v",
         command: "translate --export-verilog",
-        is_printed: true,
-        is_stable: false,
+        begin: "translate",
+        expected: Expected::Output,
     },
     Expectation {
         ending: ".opt.txt",
         command: "opt",
-        is_printed: false,
-        is_stable: false,
+        begin: "opt",
+        expected: Expected::ErrorMessage,
     },
     Expectation {
         ending: ".v.txt",
         command: "translate --export-verilog",
-        is_printed: false,
-        is_stable: false,
+        begin: "translate",
+        expected: Expected::ErrorMessage,
+    },
+    Expectation {
+        ending: ".lec.txt",
+        command: "lec - -c1 p -c2 q",
+        begin: "lec",
+        expected: Expected::Verdict,
+    },
+    Expectation {
+        ending: ".steps.txt",
+        command: "opt",
+        begin: "",
+        expected: Expected::Steps,
     },
 ];
 
@@ -65,7 +95,12 @@ pub fn check_example(
         let ending = expectation.ending;
         if let Some(text) = text_of(alloc, files, name, ending)? {
             let wanted = cases(alloc, text.as_str())?;
-            let lines = commands(alloc, example.as_str(), expectation.command)?;
+            let lines = commands(
+                alloc,
+                example.as_str(),
+                expectation.begin,
+                expectation.command,
+            )?;
             let met = count_met(rt, alloc, expectation, &lines, &sources, &wanted)?;
             println!(rt; "{name}{ending}: {met} of {} cases", sources.len())?;
             if met != sources.len() || met != wanted.len() {
@@ -127,38 +162,65 @@ fn is_met(
     source: &str,
     wanted: &str,
 ) -> anyhow::Result<bool> {
-    let mut is_met = !expectation.is_stable
-        || is_given(rt, alloc, expectation, "opt", wanted, wanted)?;
+    let expected = expectation.expected;
+    let mut is_met = expected != Expected::StableOutput
+        || is_given(rt, alloc, expected, "opt", wanted, wanted)?;
     for line in lines {
-        is_met &= is_given(rt, alloc, expectation, line.as_str(), source, wanted)?;
+        is_met &= is_given(rt, alloc, expected, line.as_str(), source, wanted)?;
     }
     Ok(is_met)
 }
 
-// Whether the command of a line gives this of a text: as its output alone, or as its error message alone. If not,
-// what it gives is shown.
+// Whether the command of a line gives of a text what is expected. If not, what it gives is shown.
 fn is_given(
     rt: &(impl Print + Threads + Sync),
     alloc: Global,
-    expectation: &Expectation,
+    expected: Expected,
     line: &str,
     source: &str,
     wanted: &str,
 ) -> anyhow::Result<bool> {
     let ended = run(rt, alloc, line, source)?;
-    let (given, other) = if expectation.is_printed {
-        (ended.out.contents(), ended.err.contents())
-    } else {
-        (ended.err.contents(), ended.out.contents())
+    let is_given = match expected {
+        Expected::Output | Expected::StableOutput => ended.is(0, wanted, ""),
+        Expected::ErrorMessage => ended.is(1, "", wanted),
+        Expected::Verdict => is_verdict(alloc, &ended, source, wanted)?,
+        Expected::Steps => takes_steps(alloc, &ended, line, wanted)?,
     };
-    let code = u8::from(!expectation.is_printed);
-    let is_given = given == wanted.as_bytes() && other.is_empty() && ended.code == code;
     if !is_given {
-        let shown = String::from_utf8_lossy(alloc, given)?;
+        let out = String::from_utf8_lossy(alloc, ended.out.contents())?;
+        let err = String::from_utf8_lossy(alloc, ended.err.contents())?;
         println!(rt;
-            "{line}: status {} of:\n{source}gives:\n{shown}",
+            "{line}: status {} of:\n{source}gives:\n{out}{err}",
             ended.code
         )?;
     }
     Ok(is_given)
+}
+
+// Whether a run ended with this verdict on modules `p` and `q` of a text; if that is that they differ, they do at the words that are
+// printed.
+fn is_verdict(alloc: Global, ended: &Ended, source: &str, wanted: &str) -> anyhow::Result<bool> {
+    if wanted != DIFFERENT {
+        return Ok(ended.is(0, wanted, ""));
+    }
+    let out = str::from_utf8(ended.out.contents())?;
+    let is_different = ended.code == 3 && ended.err.contents().is_empty();
+    Ok(is_different && out.starts_with(DIFFERENT) && do_differ(alloc, source, out)?)
+}
+
+// Whether a run of a line's command ended well with a text that takes these steps.
+fn takes_steps(alloc: Global, ended: &Ended, line: &str, wanted: &str) -> anyhow::Result<bool> {
+    let Some(run) = run_of(alloc, wanted)? else {
+        return Ok(false);
+    };
+    let text = str::from_utf8(ended.out.contents())?;
+    if ended.code != 0 || !ended.err.contents().is_empty() {
+        return Ok(false);
+    }
+    if line.starts_with("opt") {
+        Ok(design_runs(alloc, text, &run)?)
+    } else {
+        Ok(verilog_runs(alloc, text, &run)?)
+    }
 }

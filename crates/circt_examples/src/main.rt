@@ -4,13 +4,18 @@
 //! are several, a line that begins with `// -----` stands before each. A file beside it has what is
 //! expected of each case, in the same order: `NAME.opt.mlir` what `opt` prints, which `opt` prints
 //! again unchanged, `NAME.v` what `translate --export-verilog` prints, `NAME.opt.txt` and
-//! `NAME.v.txt` the error messages of these commands. Lines `// RUN: circt WORDS` before the first case
+//! `NAME.v.txt` the error messages of these commands, `NAME.lec.txt` the verdict of `lec` on modules `p` and `q` of the case, and
+//! `NAME.steps.txt` the steps that a module of the texts that are printed takes. Lines `// RUN: circt WORDS` before the first case
 //! name the commands, with their options, that are to give it.
 #![tactic(auto)]
 
 mod cases;
 mod checks;
+mod designs;
 mod runs;
+mod steps;
+mod verdicts;
+mod words;
 
 use checks::check_example;
 use io_edge::real_files::RealFiles;

@@ -17,6 +17,15 @@ pub struct Ended {
     pub err: MemorySink,
 }
 
+impl Ended {
+    /// Whether a run ended with this exit status, output and error message.
+    pub fn is(&self, code: u8, out: &str, err: &str) -> bool {
+        self.code == code
+            && self.out.contents() == out.as_bytes()
+            && self.err.contents() == err.as_bytes()
+    }
+}
+
 /// Runs the program with these words, separated by blanks, and this text on standard input.
 pub fn run(
     rt: &(impl Threads + Sync),

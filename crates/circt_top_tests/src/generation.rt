@@ -1,6 +1,7 @@
 //! What `gen` prints: summaries, Verilog, and what its words and a failing output answer.
 use crate::groups::{Group, USAGE, first_other};
 use crate::runs::{Failing, run_long};
+use io_edge::memory_sink::MemorySink;
 use std::alloc::{AllocError, AllocGlobal};
 use std::test::Fail;
 use std::thread::Threads;
@@ -126,6 +127,27 @@ const GROUPS: [Group; 4] = [
     },
 ];
 
+// What the words of a line put on an output that takes long texts; none where the status is not 0.
+fn long_output(
+    rt: &(impl Threads + Sync + AllocGlobal),
+    line: &str,
+) -> Result<Option<MemorySink>, AllocError> {
+    let run = run_long(rt, line, "", &[])?;
+    Ok(if run.code == 0 { Some(run.out) } else { None })
+}
+
+// Whether the words of a line put this on the output.
+fn puts(
+    rt: &(impl Threads + Sync + AllocGlobal),
+    line: &str,
+    wanted: &[u8],
+) -> Result<bool, AllocError> {
+    match long_output(rt, line)? {
+        Some(out) => Ok(out.contents() == wanted),
+        None => Ok(false),
+    }
+}
+
 // The first words of a list that print something else than the first ones.
 fn first_different(
     rt: &(impl Threads + Sync + AllocGlobal),
@@ -134,31 +156,48 @@ fn first_different(
     let Some(first) = lines.first() else {
         return Ok(None);
     };
-    let wanted = run_long(rt, first, &[])?;
+    let Some(wanted) = long_output(rt, first)? else {
+        return Ok(Some(first));
+    };
     for line in lines {
-        let run = run_long(rt, line, &[])?;
-        if run.code != 0 || run.out.contents() != wanted.out.contents() {
+        if !puts(rt, line, wanted.contents())? {
             return Ok(Some(line));
         }
     }
     Ok(None)
 }
 
+// How many bytes the Verilog of 200 modules has.
+fn verilog_length(rt: &(impl Threads + Sync + AllocGlobal)) -> Result<usize, AllocError> {
+    match long_output(rt, "gen 7 200 --verilog")? {
+        Some(out) => Ok(out.contents().len()),
+        None => Ok(0),
+    }
+}
+
 // Whether the summary of 200 modules is as it should be, with the length of the Verilog.
 fn is_summed_up(rt: &(impl Threads + Sync + AllocGlobal)) -> Result<bool, AllocError> {
-    let summary = run_long(rt, "gen 7 200", &[])?;
-    let verilog = run_long(rt, "gen 7 200 --verilog", &[])?;
-    let bytes = verilog.out.contents().len();
+    let bytes = verilog_length(rt)?;
     let wanted = format!(in rt.alloc(); "{FRONT}{bytes}\n")?;
-    Ok(summary.code == 0 && summary.out.contents() == wanted.as_bytes())
+    puts(rt, "gen 7 200", wanted.as_bytes())
+}
+
+// Whether just this front of a text is put on an output of which the second put fails.
+fn is_front(
+    rt: &(impl Threads + Sync + AllocGlobal),
+    line: &str,
+    front: Option<&[u8]>,
+) -> Result<bool, AllocError> {
+    let run = run_long(rt, line, "", &[1])?;
+    Ok(run.code == 6 && front == Some(run.out.contents()))
 }
 
 // Whether of a long text just the first piece goes out, where the second one fails.
 fn is_cut(rt: &(impl Threads + Sync + AllocGlobal)) -> Result<bool, AllocError> {
-    let whole = run_long(rt, "gen 7 200 --verilog", &[])?;
-    let cut = run_long(rt, "gen 7 200 --verilog", &[1])?;
-    let front = whole.out.contents().get(..4096);
-    Ok(cut.code == 6 && front == Some(cut.out.contents()))
+    match long_output(rt, "gen 7 200 --verilog")? {
+        Some(whole) => is_front(rt, "gen 7 200 --verilog", whole.contents().get(..4096)),
+        None => Ok(false),
+    }
 }
 
 #[test]

@@ -1,11 +1,16 @@
-//! Tests of the whole program, on files and sinks in memory: words, pipelines, faults, limits, generated designs, and runs of what is printed. What is
-//! printed of each form of text is checked by the crate `circt_examples`.
+//! Tests of the whole program, on files and sinks in memory: words, pipelines, faults, limits, generated designs, large arrays, and two files
+//! under `lec`. What is printed of each form of text, what `lec` says of two modules, and how designs and their Verilog run is checked by
+//! the crate `circt_examples`.
 #![tactic(auto)]
 
 #[cfg(test)]
 mod generation;
 #[cfg(test)]
 mod groups;
+#[cfg(test)]
+mod large;
+#[cfg(test)]
+mod lec;
 #[cfg(test)]
 mod limits;
 #[cfg(test)]
@@ -16,8 +21,6 @@ mod pieces;
 mod pipelines;
 #[cfg(test)]
 mod runs;
-#[cfg(test)]
-mod verilog_runs;
 #[cfg(test)]
 mod words;
 #[cfg(test)]

@@ -1,6 +1,6 @@
 //! What `opt --split-input-file` prints and refuses.
 use crate::runs::{Failing, run_words};
-use std::alloc::{AllocError, AllocGlobal};
+use std::alloc::{AllocError, AllocGlobal, Global};
 use std::test::Fail;
 use std::thread::Threads;
 
@@ -208,10 +208,7 @@ const ROWS: [Row; 23] = [
 // The number of the first row that ends in another way.
 fn first_other(rt: &(impl Threads + Sync + AllocGlobal)) -> Result<Option<usize>, AllocError> {
     for (number, row) in ROWS.iter().enumerate() {
-        let run = run_words(rt, row.words, row.input, Failing::No)?;
-        let is_printed = run.out.contents() == row.out.as_bytes();
-        let is_told = run.err.contents() == row.err.as_bytes();
-        if !(run.code == row.code && (is_printed && is_told)) {
+        if !run_words(rt, row.words, row.input, Failing::No)?.is(row.code, row.out, row.err) {
             return Ok(Some(number));
         }
     }
@@ -224,30 +221,32 @@ fn pieces_are_printed_or_refused(rt: HostRuntime) -> Result<(), Fail> {
     Ok(())
 }
 
-// The texts go to the file of `-o`, in both orders of the words.
+// Whether the texts go to the file of `-o`.
+fn are_written(rt: &(impl Threads + Sync + AllocGlobal), words: &str) -> Result<bool, AllocError> {
+    let run = run_words(rt, words, TWICE, Failing::No)?;
+    Ok(run.is(0, "", "") && run.files.contents("x.v") == Some(PRINTED_TWICE.as_bytes()))
+}
+
 #[test]
 fn pieces_are_written(rt: HostRuntime) -> Result<(), Fail> {
-    for words in [
-        "opt --split-input-file a.mlir -o x.v",
-        "opt -o x.v a.mlir -split-input-file",
-    ] {
-        let run = run_words(&rt, words, TWICE, Failing::No)?;
-        assert_eq!(rt; run.code, 0);
-        assert_eq!(rt; run.files.contents("x.v"), Some(PRINTED_TWICE.as_bytes()));
-        assert!(rt; run.out.contents().is_empty());
-    }
+    assert!(rt; are_written(&rt, "opt --split-input-file a.mlir -o x.v")?);
+    assert!(rt; are_written(&rt, "opt -o x.v a.mlir -split-input-file")?);
     Ok(())
+}
+
+// A text with one byte more than one may have, whose last line separates pieces.
+fn long_text(alloc: Global) -> Result<Vec<u8>, AllocError> {
+    let mut text = vec![in alloc; b' '; (1usize << 26) - 8]?;
+    text.extend_from_slice(b"\n// -----")?;
+    Ok(text)
 }
 
 // A file that is too long is refused before it is cut into pieces.
 #[test]
 fn a_file_that_is_too_long_is_not_cut(rt: HostRuntime) -> Result<(), Fail> {
-    let mut text = vec![in rt.alloc(); b' '; (1usize << 26) - 7]?;
-    text.extend_from_slice(b"\n// -----")?;
-    assert!(rt; text.len() == (1usize << 26) + 2);
+    let text = long_text(rt.alloc())?;
     let run = run_words(&rt, FLAG, str::from_utf8(text.as_slice())?, Failing::No)?;
     let message = "<stdin>:1:1: error: 'builtin.module' S7: text too long\n";
-    assert_eq!(rt; run.code, 1);
-    assert_eq!(rt; run.err.contents(), message.as_bytes());
+    assert!(rt; run.is(1, "", message));
     Ok(())
 }

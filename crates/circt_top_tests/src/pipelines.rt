@@ -1,7 +1,8 @@
 //! What words with a pipeline of passes answer.
 use crate::runs::{ADDER, ADDER_PRINTED, ADDER_VERILOG, Failing, run_list};
-use std::alloc::{AllocError, Global};
+use std::alloc::{AllocError, AllocGlobal, Global};
 use std::test::Fail;
+use std::thread::Threads;
 
 const UNKNOWN_AT_0: &str = "circt: usage: unknown pass at offset 0\n";
 
@@ -219,19 +220,28 @@ fn words_of(alloc: Global, list: &[&str]) -> Result<Vec<String>, AllocError> {
     Ok(words)
 }
 
+// Whether the words of a row end as it says, with the old text in `x.v`.
+fn is_told(rt: &(impl Threads + Sync + AllocGlobal), row: &Row) -> Result<bool, AllocError> {
+    let words = words_of(rt.alloc(), row.words)?;
+    let run = run_list(rt, words.as_slice(), ADDER, Failing::No)?;
+    Ok(run.is(row.code, row.out, row.err) && run.files.contents("x.v") == Some(b"old".as_slice()))
+}
+
+// The number of the first row that ends in another way.
+fn first_other(
+    rt: &(impl Threads + Sync + AllocGlobal),
+    rows: &[Row],
+) -> Result<Option<usize>, AllocError> {
+    for (number, row) in rows.iter().enumerate() {
+        if !is_told(rt, row)? {
+            return Ok(Some(number));
+        }
+    }
+    Ok(None)
+}
+
 #[test]
 fn pipelines_are_read_or_wrong(rt: HostRuntime) -> Result<(), Fail> {
-    let alloc = rt.alloc();
-    for (number, row) in ROWS.iter().enumerate() {
-        let words = words_of(alloc, row.words)?;
-        let run = run_list(&rt, words.as_slice(), ADDER, Failing::No)?;
-        assert_eq!(rt; run.code, row.code, "of row {number}");
-        assert!(rt; run.out.contents() == row.out.as_bytes(), "of row {number}");
-        assert!(rt; run.err.contents() == row.err.as_bytes(), "of row {number}");
-        assert!(rt;
-            run.files.contents("x.v") == Some(b"old".as_slice()),
-            "of row {number}"
-        );
-    }
+    assert_eq!(rt; first_other(&rt, &ROWS)?, None);
     Ok(())
 }

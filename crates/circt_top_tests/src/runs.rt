@@ -52,6 +52,32 @@ pub const ADDER_PRINTED: &str = "module {
 }
 ";
 
+/// Two instances of a register.
+pub const TWO_REGISTERS: &str =
+    "hw.module private @Reg(in %clk : !seq.clock, in %rst : i1, in %en : i1, in %d : i8, out q : i8) {
+  %z = hw.constant 9 : i8
+  %r = seq.compreg.ce %d, %clk, %en reset %rst, %z : i8
+  hw.output %r : i8
+}
+hw.module @Two(in %clk : !seq.clock, in %rst : i1, in %en : i1, in %d : i8, out a : i8, out b : i8) {
+  %u1.q = hw.instance \"u1\" @Reg(clk: %clk: !seq.clock, rst: %rst: i1, en: %en: i1, d: %d: i8) -> (q: i8)
+  %u2.q = hw.instance \"u2\" @Reg(clk: %clk: !seq.clock, rst: %rst: i1, en: %en: i1, d: %u1.q: i8) -> (q: i8)
+  hw.output %u1.q, %u2.q : i8, i8
+}
+";
+
+/// That with the register in the place of its instances.
+pub const TWO_FLAT: &str = "module {
+  hw.module @Two(in %clk : !seq.clock, in %rst : i1, in %en : i1, in %d : i8, out a : i8, out b : i8) {
+    %c9_i8 = hw.constant 9 : i8
+    %u1_r = seq.compreg.ce %d, %clk, %en reset %rst, %c9_i8 : i8
+    %c9_i8_0 = hw.constant 9 : i8
+    %u2_r = seq.compreg.ce %u1_r, %clk, %en reset %rst, %c9_i8_0 : i8
+    hw.output %u1_r, %u2_r : i8, i8
+  }
+}
+";
+
 /// What is to fail first.
 #[derive(Clone, Copy, PartialEq, Eq)]
 pub enum Failing {
@@ -74,8 +100,17 @@ pub struct Ended {
     pub err: MemorySink,
 }
 
-// The words that stand between blanks.
-fn words_of(alloc: Global, line: &str) -> Result<Vec<String>, AllocError> {
+impl Ended {
+    /// Whether a run ended with this status, output and error message.
+    pub fn is(&self, code: u8, out: &str, err: &str) -> bool {
+        self.code == code
+            && self.out.contents() == out.as_bytes()
+            && self.err.contents() == err.as_bytes()
+    }
+}
+
+/// The words that stand between blanks.
+pub fn words_of(alloc: Global, line: &str) -> Result<Vec<String>, AllocError> {
     let mut words = Vec::new(alloc);
     for word in line.split_whitespace() {
         words.push(String::from_str(alloc, word)?)?;
@@ -154,16 +189,17 @@ fn run_at(
     })
 }
 
-/// The run of the words that stand between the blanks of a line, with an output that takes long texts and of which these puts
-/// fail.
+/// The run of the words that stand between the blanks of a line, with this input and an output that takes long texts and of which
+/// these puts fail.
 pub fn run_long(
     rt: &(impl Threads + Sync + AllocGlobal),
     line: &str,
+    input: &str,
     failing: &[u64],
 ) -> Result<Ended, AllocError> {
     let alloc = rt.alloc();
     let words = words_of(alloc, line)?;
-    let mut files = files_of(alloc, "", Failing::No)?;
+    let mut files = files_of(alloc, input, Failing::No)?;
     let places = Vec::from_slice(alloc, failing)?;
     let mut out = MemorySink::new(alloc, LONG)?.failing_at(places);
     let mut err = sink_of(alloc, false)?;

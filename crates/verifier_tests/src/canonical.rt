@@ -265,12 +265,15 @@ const OPERATIONS: [Row; 5] = [
     },
 ];
 
+// Whether the design of a form is in canonical form.
+fn is_form_canonical(alloc: Global, form: Form) -> Result<bool, AllocError> {
+    Ok(is_canonical(&design_of(alloc, form)?))
+}
+
 // The first row that is told otherwise, by its position.
 fn first_other(alloc: Global, rows: &[Row]) -> Result<Option<usize>, AllocError> {
     for (at, row) in rows.iter().enumerate() {
-        let other = design_of(alloc, row.other)?;
-        let canonical = design_of(alloc, row.canonical)?;
-        if is_canonical(&other) || !is_canonical(&canonical) {
+        if is_form_canonical(alloc, row.other)? || !is_form_canonical(alloc, row.canonical)? {
             return Ok(Some(at));
         }
     }

@@ -1,100 +1,115 @@
-//! Small designs, which are built operation by operation.
+//! Designs of one module, which are built operation by operation.
 use diag::refusal::Place;
-use hw_model::kinds::{Instance, OpKind};
+use hw_model::kinds::{Integer, OpKind};
 use hw_model::types::Ty;
 use io_edge::byte_text::Text;
 use ir_store::body::Body;
 use ir_store::design::{Design, Module, Port, PortList};
 use ir_store::dictionary::Dictionary;
-use ir_store::operation::{NewOp, NewResult, NewResultList, TyList, Value};
+use ir_store::operation::{NewOp, NewResult, NewResultList, OpId, TyList, Value};
 use smallvec::SmallVec;
 use std::alloc::{AllocError, Global};
 
-/// Why a test has no verdict on a design.
-#[derive(Debug, Drop)]
-pub enum NoVerdict {
-    /// Memory ran out.
-    NoMemory,
-    /// The design that the test builds is not in canonical form, so it may not be verified.
-    NotCanonical,
-    /// Two calls that give a verdict differ.
-    Differs,
-}
+/// The names of the ports `in c : !seq.clock, in d : i1, in r : i1, out q : i1`, each at its number.
+const PORTS: [&[u8]; 4] = [b"c", b"d", b"r", b"q"];
+/// The number of the port `c`.
+const CLOCK: u32 = 0;
+/// The number of the port `d`.
+const DATA: u32 = 1;
+/// The number of the port `r`.
+pub const RESET: u32 = 2;
+/// The number of the port `q`, which has no value.
+pub const OUT: u32 = 3;
 
-impl From<AllocError> for NoVerdict {
-    fn from(_error: AllocError) -> NoVerdict {
-        NoVerdict::NoMemory
-    }
-}
-
-/// The types of an operation on bits, and whether the name of its result was defined before.
+/// An operation on bits, in a module with these ports.
 #[derive(Clone, Copy)]
-pub struct Shape {
-    /// How many types it writes.
-    pub types: usize,
-    /// How many results it has.
-    pub results: usize,
-    /// Whether each of them has the mark of a second definition.
-    pub again: bool,
+pub enum Row {
+    /// A constant, which is 1.
+    Constant,
+    /// `comb.and` of the port `d` and the port of a number.
+    And(u32),
+    /// The same, whose result has the mark of a second definition.
+    MarkedAnd(u32),
+    /// `comb.and` of the port `d` and the result of the first operation.
+    AndFirst,
+    /// A register of the port `d`, which the port of a number resets to the result of the first operation.
+    Register(u32),
+    /// The output of the port `d`.
+    Output,
 }
 
-/// The type of a port.
-#[derive(Clone, Copy)]
-pub enum PortType {
-    Clock,
-    /// An integer of so many bits.
-    Int(u32),
-}
-
-/// A port of a module.
-#[derive(Clone, Copy)]
-pub struct HeaderPort {
-    /// Its name.
-    pub name: &'static [u8],
-    /// Whether it is an output.
-    pub out: bool,
-    /// Its type.
-    pub ty: PortType,
-}
-
-// So many types of one bit.
-fn bits(alloc: Global, count: usize) -> Result<TyList, AllocError> {
-    let mut types = Vec::new(alloc);
-    for _ in 0..count {
-        types.push(Ty::Int(1))?;
-    }
-    Ok(TyList::of(types))
-}
-
-// So many results of one bit.
-fn bit_results(alloc: Global, count: usize, again: bool) -> Result<NewResultList, AllocError> {
-    let mut results = Vec::new(alloc);
-    for _ in 0..count {
-        let ty = Ty::Int(1);
-        results.push(NewResult { ty, again })?;
-    }
-    Ok(NewResultList::of(results))
-}
-
-/// An operation on bits that stands on a line.
-pub fn operation(
+// An operation that stands on a line. It has a result for each of the marks, which say whether its name was defined before.
+fn operation(
     alloc: Global,
     line: u32,
     kind: OpKind,
     operands: &[Value],
-    shape: Shape,
+    marks: &[bool],
 ) -> Result<NewOp, AllocError> {
+    let mut types = Vec::new(alloc);
+    types.push(Ty::Int(1))?;
+    let mut results = Vec::new(alloc);
+    for again in marks {
+        let ty = Ty::Int(1);
+        results.push(NewResult { ty, again: *again })?;
+    }
     Ok(NewOp {
         kind,
         operands: SmallVec::from_slice(alloc, operands)?,
-        types: bits(alloc, shape.types)?,
-        results: bit_results(alloc, shape.results, shape.again)?,
-        named: u32::from(shape.results != 0),
+        types: TyList::of(types),
+        results: NewResultList::of(results),
+        named: u32::from(!marks.is_empty()),
         name: Text::new(alloc),
         dictionary: Dictionary::new(alloc),
         bin: false,
         place: Place { line, col: 3 },
     })
+}
+
+// `comb.and` of the port `d` and a value.
+fn and(alloc: Global, line: u32, other: Value, again: bool) -> Result<NewOp, AllocError> {
+    operation(
+        alloc,
+        line,
+        OpKind::And,
+        &[Value::Port(DATA), other],
+        &[again],
+    )
+}
+
+// The operation of a row, on a line.
+fn operation_of(alloc: Global, line: u32, row: Row) -> Result<NewOp, AllocError> {
+    let data = Value::Port(DATA);
+    let first = Value::Result(OpId::nth(0), 0);
+    match row {
+        Row::Constant => {
+            let one = OpKind::Constant(Integer::NonNegative(1));
+            operation(alloc, line, one, &[], &[false])
+        }
+        Row::And(port) => and(alloc, line, Value::Port(port), false),
+        Row::MarkedAnd(port) => and(alloc, line, Value::Port(port), true),
+        Row::AndFirst => and(alloc, line, first, false),
+        Row::Register(port) => {
+            let operands = [data, Value::Port(CLOCK), Value::Port(port), first];
+            operation(alloc, line, OpKind::AsyncFirReg, &operands, &[false])
+        }
+        Row::Output => operation(alloc, line, OpKind::Output, &[data], &[]),
+    }
+}
+
+// The ports of a module of rows.
+fn ports(alloc: Global) -> Result<Vec<Port>, AllocError> {
+    let mut ports = Vec::new(alloc);
+    for (number, name) in PORTS.iter().enumerate() {
+        let is_clock = number == CLOCK as usize;
+        ports.push(Port {
+            name: Text::of(alloc, name)?,
+            out: number == OUT as usize,
+            ty: if is_clock { Ty::Clock } else { Ty::Int(1) },
+            again: false,
+        })?;
+    }
+    Ok(ports)
 }
 
 // The body of some operations.
@@ -108,89 +123,28 @@ fn body(alloc: Global, ops: Vec<NewOp>) -> Result<Body, AllocError> {
     Ok(body)
 }
 
-// The type of a port.
-fn type_of(port: &HeaderPort) -> Ty {
-    match port.ty {
-        PortType::Clock => Ty::Clock,
-        PortType::Int(width) => Ty::Int(width),
-    }
-}
-
-// The ports of a header, in order.
-fn ports_of(alloc: Global, header: &[HeaderPort]) -> Result<PortList, AllocError> {
-    let mut ports = Vec::new(alloc);
-    for port in header {
-        ports.push(Port {
-            name: Text::of(alloc, port.name)?,
-            out: port.out,
-            ty: type_of(port),
-            again: false,
-        })?;
-    }
-    Ok(PortList { ports })
-}
-
-// The names of the ports of one direction.
-fn names(alloc: Global, header: &[HeaderPort], out: bool) -> Result<Vec<Text>, AllocError> {
-    let mut names = Vec::new(alloc);
-    for port in header {
-        if port.out == out {
-            names.push(Text::of(alloc, port.name)?)?;
-        }
-    }
-    Ok(names)
-}
-
-/// An instance of the module of a symbol, as if it had these ports.
-pub fn instance(alloc: Global, symbol: &[u8], header: &[HeaderPort]) -> Result<OpKind, AllocError> {
-    let instance = Instance {
-        name: Text::new(alloc),
-        inner_symbol: None,
-        symbol: Text::of(alloc, symbol)?,
-        inputs: names(alloc, header, false)?,
-        outputs: names(alloc, header, true)?,
-    };
-    Ok(OpKind::Instance(Box::new(alloc, instance)?))
-}
-
-/// The types of such an instance: first of inputs, then of outputs.
-pub fn instance_types(alloc: Global, header: &[HeaderPort]) -> Result<TyList, AllocError> {
-    let mut types = Vec::new(alloc);
-    for out in [false, true] {
-        for port in header {
-            if port.out == out {
-                types.push(type_of(port))?;
-            }
-        }
-    }
-    Ok(TyList::of(types))
-}
-
-/// The module of a symbol with some ports, whose header stands on a line.
-pub fn module(
-    alloc: Global,
-    line: u32,
-    symbol: &[u8],
-    header: &[HeaderPort],
-    ops: Vec<NewOp>,
-) -> Result<Module, AllocError> {
-    Ok(Module {
-        symbol: Text::of(alloc, symbol)?,
+/// The design of one module, `T`, whose header stands on line 1.
+pub fn design(alloc: Global, ports: Vec<Port>, ops: Vec<NewOp>) -> Result<Design, AllocError> {
+    let module = Module {
+        symbol: Text::of(alloc, b"T")?,
         private: false,
-        ports: ports_of(alloc, header)?,
+        ports: PortList { ports },
         dictionary: Dictionary::new(alloc),
         body: body(alloc, ops)?,
-        place: Place { line, col: 1 },
-    })
+        place: Place { line: 1, col: 1 },
+    };
+    let mut design = Design::new(alloc);
+    let _ = design.add_module(module)?;
+    Ok(design)
 }
 
-/// The design of some modules.
-pub fn design(alloc: Global, modules: Vec<Module>) -> Result<Design, AllocError> {
-    let mut design = Design::new(alloc);
-    for module in modules {
-        if design.module_count() < 1000 {
-            let _ = design.add_module(module)?;
-        }
+/// The design of a module of rows, whose operations stand on the lines after its header's.
+pub fn design_of(alloc: Global, rows: &[Row]) -> Result<Design, AllocError> {
+    let mut ops = Vec::new(alloc);
+    let mut line = 1u32;
+    for row in rows {
+        line = line.wrapping_add(1);
+        ops.push(operation_of(alloc, line, *row)?)?;
     }
-    Ok(design)
+    design(alloc, ports(alloc)?, ops)
 }

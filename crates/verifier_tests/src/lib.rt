@@ -5,16 +5,12 @@
 #[cfg(test)]
 mod canonical;
 #[cfg(test)]
-mod definitions;
-#[cfg(test)]
 mod designs;
 #[cfg(test)]
 mod one_operation;
 #[cfg(test)]
-mod reset_ports;
+mod ports;
 #[cfg(test)]
-mod resets;
+mod searches;
 #[cfg(test)]
 mod verdicts;
-#[cfg(test)]
-mod weights;

@@ -1,5 +1,5 @@
 //! Designs of one operation, told by what of them is in canonical form or not.
-use crate::designs::{design, module};
+use crate::designs::design;
 use diag::refusal::Place;
 use hw_model::kinds::{Integer, Literal, LiteralList, OpKind};
 use hw_model::types::Ty;
@@ -166,47 +166,56 @@ fn parts(alloc: Global, number: Integer, depth: u32) -> Result<LiteralList, Allo
     Ok(LiteralList { literals })
 }
 
+// An aggregate constant of a number within so many lists.
+fn aggregate_constant(alloc: Global, number: Integer, depth: u32) -> Result<NewOp, AllocError> {
+    let parts = parts(alloc, number, depth)?;
+    of_bytes(alloc, OpKind::AggregateConstant(parts))
+}
+
+// An operation with these entries.
+fn with_entries(alloc: Global, plain: Plain, said: &[Said]) -> Result<NewOp, AllocError> {
+    let mut op = of_bytes(alloc, kind_of(plain))?;
+    op.dictionary = dictionary(alloc, said)?;
+    Ok(op)
+}
+
+// An operation with an own name.
+fn with_name(alloc: Global, plain: Plain) -> Result<NewOp, AllocError> {
+    let mut op = of_bytes(alloc, kind_of(plain))?;
+    op.name = Text::of(alloc, b"x")?;
+    Ok(op)
+}
+
+// An operation with the mark `bin`.
+fn with_bin(alloc: Global, plain: Plain) -> Result<NewOp, AllocError> {
+    let mut op = of_bytes(alloc, kind_of(plain))?;
+    op.bin = true;
+    Ok(op)
+}
+
+// A wire of so many arrays.
+fn wire_of_arrays(alloc: Global, depth: u32) -> Result<NewOp, AllocError> {
+    let ty = arrays(alloc, depth)?;
+    let given = arrays(alloc, depth)?;
+    operation(alloc, OpKind::Wire, ty, given)
+}
+
 // The operation of a form.
-fn made(alloc: Global, form: Form) -> Result<NewOp, AllocError> {
+fn operation_of(alloc: Global, form: Form) -> Result<NewOp, AllocError> {
     match form {
         Form::Constant(number) => of_bytes(alloc, OpKind::Constant(number)),
-        Form::Parts(number, depth) => {
-            of_bytes(
-                alloc,
-                OpKind::AggregateConstant(parts(alloc, number, depth)?),
-            )
-        }
-        Form::Entries(plain, said) => {
-            let mut op = of_bytes(alloc, kind_of(plain))?;
-            op.dictionary = dictionary(alloc, said)?;
-            Ok(op)
-        }
-        Form::Named(plain) => {
-            let mut op = of_bytes(alloc, kind_of(plain))?;
-            op.name = Text::of(alloc, b"x")?;
-            Ok(op)
-        }
-        Form::Bin(plain) => {
-            let mut op = of_bytes(alloc, kind_of(plain))?;
-            op.bin = true;
-            Ok(op)
-        }
+        Form::Parts(number, depth) => aggregate_constant(alloc, number, depth),
+        Form::Entries(plain, said) => with_entries(alloc, plain, said),
+        Form::Named(plain) => with_name(alloc, plain),
+        Form::Bin(plain) => with_bin(alloc, plain),
         Form::Result(width) => operation(alloc, OpKind::Add, Ty::Int(8), Ty::Int(width)),
         Form::Output(width) => operation(alloc, OpKind::Output, Ty::Int(8), Ty::Int(width)),
-        Form::Arrays(depth) => operation(
-            alloc,
-            OpKind::Wire,
-            arrays(alloc, depth)?,
-            arrays(alloc, depth)?,
-        ),
+        Form::Arrays(depth) => wire_of_arrays(alloc, depth),
     }
 }
 
 // The design of one module of the operation of a form.
 pub(crate) fn design_of(alloc: Global, form: Form) -> Result<Design, AllocError> {
-    let mut ops = Vec::new(alloc);
-    ops.push(made(alloc, form)?)?;
-    let mut modules = Vec::new(alloc);
-    modules.push(module(alloc, 1, b"T", &[], ops)?)?;
-    design(alloc, modules)
+    let op = operation_of(alloc, form)?;
+    design(alloc, Vec::new(alloc), vec![in alloc; op]?)
 }

@@ -1,47 +1,60 @@
 //! The verdicts on designs of one module.
-use crate::definitions::{DATA, Definition, OUT, Operation, RESET, design_of};
-use crate::designs::NoVerdict;
+use crate::designs::{OUT, RESET, Row, design_of};
 use canonical_form::is_canonical;
 use diag::cause::Cause;
 use diag::refusal::Refusal;
 use ir_store::design::Design;
 use op_verifier::{VerifyFail, first_fault, verify};
-use std::alloc::Global;
+use std::alloc::{AllocError, Global};
 use std::test::Fail;
+
+/// Why a test has no verdict on a design.
+#[derive(Debug, Drop)]
+enum NoVerdict {
+    /// Memory ran out.
+    NoMemory,
+    /// The design that the test builds is not in canonical form, so it may not be verified.
+    NotCanonical,
+    /// Two calls that give a verdict differ.
+    Differs,
+}
+
+impl From<AllocError> for NoVerdict {
+    fn from(_error: AllocError) -> NoVerdict {
+        NoVerdict::NoMemory
+    }
+}
 
 /// A body, and the line and the cause of the refusal, where the module is refused.
 struct Case {
-    body: &'static [Operation],
+    body: &'static [Row],
     refused: Option<(u32, Cause)>,
 }
 
-const AND: Operation = Operation::And(DATA, RESET);
-
-const OUTPUT: Operation = Operation::Output;
-
 const CASES: [Case; 5] = [
     Case {
-        body: &[AND, OUTPUT],
+        body: &[Row::And(RESET), Row::Output],
         refused: None,
     },
     // a mark on the result of a name that stands once
     Case {
-        body: &[Operation::MarkedAnd(DATA, OUT), OUTPUT],
+        body: &[Row::MarkedAnd(OUT), Row::Output],
         refused: Some((2, Cause::Redefined)),
     },
     // an output port has no value
     Case {
-        body: &[Operation::And(DATA, OUT), OUTPUT],
+        body: &[Row::And(OUT), Row::Output],
         refused: Some((2, Cause::Undefined)),
+    },
+    // so it resets nothing, and that is a cause of its own
+    Case {
+        body: &[Row::Constant, Row::Register(OUT), Row::Output],
+        refused: Some((3, Cause::Undefined)),
     },
     // an output that is not the last operation
     Case {
-        body: &[OUTPUT, AND],
+        body: &[Row::Output, Row::And(RESET)],
         refused: Some((2, Cause::MissingOutput)),
-    },
-    Case {
-        body: &[AND, AND],
-        refused: Some((1, Cause::MissingOutput)),
     },
 ];
 
@@ -84,11 +97,7 @@ fn is_told(refusal: Option<Refusal>, case: &Case) -> bool {
 // The first case with another verdict, by its position.
 fn first_other(alloc: Global, cases: &[Case]) -> Result<Option<usize>, NoVerdict> {
     for (at, case) in cases.iter().enumerate() {
-        let modules = [Definition {
-            symbol: b"T",
-            ops: case.body,
-        }];
-        let design = design_of(alloc, &modules)?;
+        let design = design_of(alloc, case.body)?;
         if !is_told(refusal_of(alloc, design)?, case) {
             return Ok(Some(at));
         }

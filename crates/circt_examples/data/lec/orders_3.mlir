@@ -1,0 +1,200 @@
+// -----
+hw.module @p(in %a : i3, in %b : i3, in %c : i1, out o : i1) {
+  %0 = comb.icmp eq %a, %b : i3
+  hw.output %0 : i1
+}
+hw.module @q(in %a : i3, in %b : i3, in %c : i1, out o : i1) {
+  %0 = comb.icmp ule %a, %b : i3
+  %1 = comb.icmp ule %b, %a : i3
+  %2 = comb.and %0, %1 : i1
+  hw.output %2 : i1
+}
+// -----
+hw.module @p(in %a : i3, in %b : i3, in %c : i1, out o : i1) {
+  %0 = comb.icmp eq %a, %b : i3
+  hw.output %0 : i1
+}
+hw.module @q(in %a : i3, in %b : i3, in %c : i1, out o : i1) {
+  %0 = comb.icmp ule %a, %b : i3
+  hw.output %0 : i1
+}
+// -----
+hw.module @p(in %a : i3, in %b : i3, in %c : i1, out o : i1) {
+  %0 = comb.icmp ne %a, %b : i3
+  hw.output %0 : i1
+}
+hw.module @q(in %a : i3, in %b : i3, in %c : i1, out o : i1) {
+  %0 = comb.icmp slt %a, %b : i3
+  %1 = comb.icmp slt %b, %a : i3
+  %2 = comb.or %0, %1 : i1
+  hw.output %2 : i1
+}
+// -----
+hw.module @p(in %a : i3, in %b : i3, in %c : i1, out o : i1) {
+  %0 = comb.icmp ne %a, %b : i3
+  hw.output %0 : i1
+}
+hw.module @q(in %a : i3, in %b : i3, in %c : i1, out o : i1) {
+  %0 = comb.icmp slt %a, %b : i3
+  hw.output %0 : i1
+}
+// ----- a sign that is turned makes the one order the other
+hw.module @p(in %a : i3, in %b : i3, in %c : i1, out o : i1) {
+  %0 = comb.icmp slt %a, %b : i3
+  hw.output %0 : i1
+}
+hw.module @q(in %a : i3, in %b : i3, in %c : i1, out o : i1) {
+  %zero = hw.constant 0 : i3
+  %ones = hw.constant -1 : i3
+  %one = comb.sub %zero, %ones : i3
+  %0 = comb.shru %ones, %one : i3
+  %sign = comb.xor %0, %ones : i3
+  %1 = comb.xor %a, %sign : i3
+  %2 = comb.xor %b, %sign : i3
+  %3 = comb.icmp ult %1, %2 : i3
+  hw.output %3 : i1
+}
+// ----- a sign that is turned makes the one order the other
+hw.module @p(in %a : i3, in %b : i3, in %c : i1, out o : i1) {
+  %0 = comb.icmp slt %a, %b : i3
+  hw.output %0 : i1
+}
+hw.module @q(in %a : i3, in %b : i3, in %c : i1, out o : i1) {
+  %0 = comb.icmp ult %a, %b : i3
+  hw.output %0 : i1
+}
+// -----
+hw.module @p(in %a : i3, in %b : i3, in %c : i1, out o : i1) {
+  %0 = comb.icmp sle %a, %b : i3
+  hw.output %0 : i1
+}
+hw.module @q(in %a : i3, in %b : i3, in %c : i1, out o : i1) {
+  %0 = comb.icmp sge %b, %a : i3
+  hw.output %0 : i1
+}
+// -----
+hw.module @p(in %a : i3, in %b : i3, in %c : i1, out o : i1) {
+  %0 = comb.icmp sle %a, %b : i3
+  hw.output %0 : i1
+}
+hw.module @q(in %a : i3, in %b : i3, in %c : i1, out o : i1) {
+  %0 = comb.icmp slt %a, %b : i3
+  hw.output %0 : i1
+}
+// -----
+hw.module @p(in %a : i3, in %b : i3, in %c : i1, out o : i1) {
+  %0 = comb.icmp sgt %a, %b : i3
+  hw.output %0 : i1
+}
+hw.module @q(in %a : i3, in %b : i3, in %c : i1, out o : i1) {
+  %true = hw.constant true
+  %0 = comb.icmp sle %a, %b : i3
+  %1 = comb.xor %0, %true : i1
+  hw.output %1 : i1
+}
+// -----
+hw.module @p(in %a : i3, in %b : i3, in %c : i1, out o : i1) {
+  %0 = comb.icmp sgt %a, %b : i3
+  hw.output %0 : i1
+}
+hw.module @q(in %a : i3, in %b : i3, in %c : i1, out o : i1) {
+  %0 = comb.icmp sge %a, %b : i3
+  hw.output %0 : i1
+}
+// -----
+hw.module @p(in %a : i3, in %b : i3, in %c : i1, out o : i1) {
+  %0 = comb.icmp sge %a, %b : i3
+  hw.output %0 : i1
+}
+hw.module @q(in %a : i3, in %b : i3, in %c : i1, out o : i1) {
+  %true = hw.constant true
+  %0 = comb.icmp slt %a, %b : i3
+  %1 = comb.xor %0, %true : i1
+  hw.output %1 : i1
+}
+// -----
+hw.module @p(in %a : i3, in %b : i3, in %c : i1, out o : i1) {
+  %0 = comb.icmp sge %a, %b : i3
+  hw.output %0 : i1
+}
+hw.module @q(in %a : i3, in %b : i3, in %c : i1, out o : i1) {
+  %0 = comb.icmp uge %a, %b : i3
+  hw.output %0 : i1
+}
+// -----
+hw.module @p(in %a : i3, in %b : i3, in %c : i1, out o : i1) {
+  %0 = comb.icmp ult %a, %b : i3
+  hw.output %0 : i1
+}
+hw.module @q(in %a : i3, in %b : i3, in %c : i1, out o : i1) {
+  %ones = hw.constant -1 : i3
+  %0 = comb.xor %a, %ones : i3
+  %1 = comb.xor %b, %ones : i3
+  %2 = comb.icmp ugt %0, %1 : i3
+  hw.output %2 : i1
+}
+// -----
+hw.module @p(in %a : i3, in %b : i3, in %c : i1, out o : i1) {
+  %0 = comb.icmp ult %a, %b : i3
+  hw.output %0 : i1
+}
+hw.module @q(in %a : i3, in %b : i3, in %c : i1, out o : i1) {
+  %0 = comb.icmp ule %a, %b : i3
+  hw.output %0 : i1
+}
+// -----
+hw.module @p(in %a : i3, in %b : i3, in %c : i1, out o : i1) {
+  %0 = comb.icmp ule %a, %b : i3
+  hw.output %0 : i1
+}
+hw.module @q(in %a : i3, in %b : i3, in %c : i1, out o : i1) {
+  %0 = comb.icmp uge %b, %a : i3
+  hw.output %0 : i1
+}
+// -----
+hw.module @p(in %a : i3, in %b : i3, in %c : i1, out o : i1) {
+  %0 = comb.icmp ule %a, %b : i3
+  hw.output %0 : i1
+}
+hw.module @q(in %a : i3, in %b : i3, in %c : i1, out o : i1) {
+  %0 = comb.icmp ult %a, %b : i3
+  hw.output %0 : i1
+}
+// -----
+hw.module @p(in %a : i3, in %b : i3, in %c : i1, out o : i1) {
+  %0 = comb.icmp ugt %a, %b : i3
+  hw.output %0 : i1
+}
+hw.module @q(in %a : i3, in %b : i3, in %c : i1, out o : i1) {
+  %0 = comb.icmp ult %b, %a : i3
+  hw.output %0 : i1
+}
+// -----
+hw.module @p(in %a : i3, in %b : i3, in %c : i1, out o : i1) {
+  %0 = comb.icmp ugt %a, %b : i3
+  hw.output %0 : i1
+}
+hw.module @q(in %a : i3, in %b : i3, in %c : i1, out o : i1) {
+  %0 = comb.icmp ult %a, %b : i3
+  hw.output %0 : i1
+}
+// -----
+hw.module @p(in %a : i3, in %b : i3, in %c : i1, out o : i1) {
+  %0 = comb.icmp uge %a, %b : i3
+  hw.output %0 : i1
+}
+hw.module @q(in %a : i3, in %b : i3, in %c : i1, out o : i1) {
+  %0 = comb.icmp eq %a, %b : i3
+  %1 = comb.icmp ugt %a, %b : i3
+  %2 = comb.or %0, %1 : i1
+  hw.output %2 : i1
+}
+// -----
+hw.module @p(in %a : i3, in %b : i3, in %c : i1, out o : i1) {
+  %0 = comb.icmp uge %a, %b : i3
+  hw.output %0 : i1
+}
+hw.module @q(in %a : i3, in %b : i3, in %c : i1, out o : i1) {
+  %0 = comb.icmp ugt %a, %b : i3
+  hw.output %0 : i1
+}
