@@ -1,9 +1,9 @@
 -- The leaves of types that are within the limits.
-use Rattle.std.proofs.Common.{◌≡◌, ◌⊎◌, ℕ, zero, suc, ◌≤◌, true, false, ◌==◌, nat_lt, List, refl, ap, ◌∙◌, inl, inr, arith}
+use Rattle.std.proofs.Common.{◌≡◌, ◌⊎◌, ℕ, ◌≤◌, true, false, ◌==◌, nat_lt, refl, ap, ◌∙◌, inl, inr, arith}
 use Rattle.std.proofs.lemmas.Bool.{ltb-false}
 use Rattle.wiring.specs.Wiring.{In}
 use Rattle.wiring.proofs.Members.{In-append_cases}
-use Rattle.hw_model.specs.Types.{HwType, FieldTypes, leaves, leaves_of_fields, list_copies}
+use Rattle.hw_model.specs.Types.{HwType, FieldTypes, leaves, leaves_of_fields}
 use Rattle.hw_model.specs.Types.HwType.{int, clock, array, struct}
 use Rattle.hw_model.specs.Types.FieldTypes.{no_fields, field}
 use Rattle.canonical_form.specs.Limits.{IsAnyType}

@@ -1,10 +1,9 @@
 -- The registers and instances of a lowered design: a register is one for each of its leaves, in order, and instances stay.
-use Rattle.std.proofs.Common.{◌≡◌, ℕ, zero, suc, Bool, cond, List, [], ◌∷◌, ◌++◌, map, flat_map, length, Option, Some, None, is_some, refl, sym, ap, ap₂, ◌∙◌, append_assoc}
+use Rattle.std.proofs.Common.{◌≡◌, ℕ, zero, suc, cond, List, [], ◌∷◌, ◌++◌, map, flat_map, length, Option, Some, None, is_some, refl, sym, ap, ap₂, ◌∙◌, append_assoc}
 use Rattle.std.proofs.lemmas.Grind.{flat_map-append}
 use Rattle.std.proofs.lemmas.List.{append-nil, length-map}
 use mathlib.Core.Path.{fun_ext}
 use Rattle.wiring.specs.Options.{omap}
-use Rattle.wiring.specs.Wiring.{In}
 use Rattle.wiring.proofs.Members.{position_of_In}
 use Rattle.hw_model.specs.Types.{Name, HwType}
 use Rattle.hw_model.specs.Kinds.{Kind, Instance}
@@ -18,11 +17,11 @@ use Rattle.accepted_edits.specs.Keeps.{IsFit}
 use Rattle.pass_laws.specs.PassLaw.{register_types, leaf_types}
 use Rattle.pass_laws.specs.Steady.{instance_held, op_held, body_held}
 use Rattle.pass_laws.proofs.Shapes.{held_types, types_held, held_anchors}
-use Rattle.aggregate_laws.specs.Leaves.{bare, bare_kind, bare_op, leaf_operands, leaf_registers, leaves_of, spread, lower_anchor}
+use Rattle.aggregate_laws.specs.Leaves.{bare_kind, bare_op, leaf_operands, leaf_registers, leaves_of, spread, lower_anchor}
 use Rattle.aggregate_laws.specs.Rules.{lowered_module}
 use Rattle.aggregate_laws.specs.Aggregates.{aggregate_rules}
-use Rattle.aggregate_laws.proofs.Bare.{called_symbol, called_bare, form_bare, is_register_bare, type_bare}
-use Rattle.aggregate_laws.proofs.Anchors.{by_form, bare_form, bare_apart, called_follow}
+use Rattle.aggregate_laws.proofs.Bare.{called_bare, form_bare, is_register_bare, type_bare}
+use Rattle.aggregate_laws.proofs.Anchors.{by_form, bare_form, called_follow}
 use Rattle.aggregate_laws.proofs.Blocks.{anchors_blocks}
 use Rattle.aggregate_accepted.specs.Joins.{joined_design}
 use Rattle.aggregate_accepted.specs.Names.{NamesPorts, NamesInstances}

@@ -5,7 +5,7 @@ use Rattle.std.proofs.lemmas.List.{length-map}
 use Rattle.wiring.specs.Wiring.{In}
 use Rattle.wiring.proofs.Members.{from_In-flat_map}
 use Rattle.hw_model.specs.Types.{HwType, leaves}
-use Rattle.hw_model.specs.Types.HwType.{int, clock, array, struct}
+use Rattle.hw_model.specs.Types.HwType.{array}
 use Rattle.hw_model.specs.Kinds.{Kind, Instance, Reset, RegisterOp}
 use Rattle.hw_model.specs.Kinds.Kind.{instance, output, register, async_firreg}
 use Rattle.hw_model.specs.Opcodes.{opcode_of}

@@ -1,5 +1,5 @@
 -- Leaves of types have no parts, and so no leaves but themselves.
-use Rattle.std.proofs.Common.{◌≡◌, ◌⊎◌, ℕ, zero, suc, true, List, [], ◌∷◌, ◌++◌, map, flat_map, Option, Some, refl, ap, ap₂, ◌∙◌, inl, inr}
+use Rattle.std.proofs.Common.{◌≡◌, ◌⊎◌, ℕ, zero, suc, true, List, [], ◌∷◌, ◌++◌, flat_map, refl, ap, ap₂, inl, inr}
 use Rattle.wiring.specs.Wiring.{In}
 use Rattle.wiring.proofs.Members.{In-append_cases}
 use Rattle.hw_model.specs.Types.{HwType, FieldTypes, leaves, leaves_of_fields, list_copies}

@@ -1,13 +1,12 @@
 -- The names of the leaves of ports: no two are one, and they are bytes.
-use Rattle.std.proofs.Common.{◌≡◌, ℕ, zero, suc, ◌+◌, ◌<◌, ◌≤◌, ◌^◌, Bool, true, false, cond, List, [], ◌∷◌, ◌++◌, length, map, drop, flat_map, slice_get, Option, Some, None, refl, sym, ap, ap₂, subst, ◌∙◌, inl, inr, arith}
+use Rattle.std.proofs.Common.{◌≡◌, ℕ, zero, suc, ◌+◌, ◌<◌, ◌≤◌, ◌^◌, Bool, true, false, cond, List, [], ◌∷◌, ◌++◌, length, map, flat_map, Some, refl, sym, ap, ap₂, subst, ◌∙◌, inl, inr, arith}
 use Rattle.std.proofs.lemmas.List.{length-append, length-map}
 use Rattle.wiring.specs.Wiring.{In}
 use Rattle.wiring.proofs.Members.{position_of_In, from_In-map, from_In-flat_map}
 use Rattle.hw_model.specs.Types.{Name, HwType, FieldTypes, leaves, leaves_of_fields, list_copies}
 use Rattle.hw_model.specs.Types.HwType.{int, clock, array, struct}
 use Rattle.hw_model.specs.Types.FieldTypes.{no_fields, field}
-use Rattle.hw_model.specs.Kinds.{Instance}
-use Rattle.hw_model.specs.Design.{Port, Op, Module, Design, find_module}
+use Rattle.hw_model.specs.Design.{Port, Module, Design}
 use Rattle.hw_model.specs.Weight.{leaf_count, weight_of, module_weight, weight}
 use Rattle.fresh_names.specs.Fresh.{is_taken, with_suffix, free_from, free_name, fresh}
 use Rattle.fresh_names.proofs.Taken.{one_more}
@@ -21,7 +20,7 @@ use Rattle.accepted_edits.proofs.NameCounts.{found_here, light}
 use Rattle.pass_laws.proofs.FreshOnce.{fresh_once}
 use Rattle.aggregate_laws.specs.Leaves.{leaf_port, leaf_ports}
 use Rattle.aggregate_laws.specs.Aggregates.{leaf_names, element_names, field_names}
-use Rattle.aggregate_laws.specs.LeafPorts.{wanted_names, port_leaf_names, with_name, with_names, split_ports}
+use Rattle.aggregate_laws.specs.LeafPorts.{wanted_names, port_leaf_names, with_names, split_ports}
 use Rattle.aggregate_laws.proofs.LeafPorts.{split_bare, leaves_plain}
 use Rattle.aggregate_accepted.specs.Names.{NamesPorts, NamesInstances}
 use Rattle.aggregate_accepted.proofs.NameBytes.{bytes_append, decimal_bytes, each_append, leaf_bytes}

@@ -1,5 +1,5 @@
 -- The law of passes of the lowering of aggregates.
-use Rattle.std.proofs.Common.{◌≡◌, Bool, true, false, cond, List, [], ◌∷◌, map, flat_map, Some, refl, sym, ap, subst, ◌∙◌, arith, ◌≤◌}
+use Rattle.std.proofs.Common.{◌≡◌, Bool, true, false, cond, [], ◌∷◌, map, Some, refl, sym, ap, subst, ◌∙◌, arith}
 use Rattle.wiring.proofs.Lists.{map-map}
 use Rattle.wiring.specs.Options.{omap}
 use Rattle.wiring.specs.Wiring.{In}
@@ -10,15 +10,13 @@ use Rattle.hw_model.specs.Meaning.{machine}
 use Rattle.hw_model.proofs.Finite.{heights_from_no_cycle, settles_with_heights}
 use Rattle.hw_model.proofs.Machines.{same_self}
 use Rattle.port_checks.proofs.Least.{found_module}
-use Rattle.canonical_form.specs.Bytes.{Each}
 use Rattle.op_verifier.specs.Verdict.{IsAccepted}
 use Rattle.op_verifier.proofs.AcceptedDesigns.{accepted_finite, accepted_acyclic}
 use Rattle.printable_designs.specs.Printable.{IsPrintablePort, IsPrintableModule, Printable}
-use Rattle.accepted_edits.specs.Keeps.{IsFit}
 use Rattle.accepted_edits.proofs.Accepted.{each_at, accepted_fit}
 use Rattle.pass_pipeline.specs.declared.pass.Pass.TheVariants.{HwLowerAggregates}
 use Rattle.pass_laws.specs.Remaining.{symbols, IsKept, AreThose}
-use Rattle.pass_laws.specs.PassLaw.{register_types, leaf_types, IsModuleAfter, IsAfter, PassLaw}
+use Rattle.pass_laws.specs.PassLaw.{IsModuleAfter, IsAfter, PassLaw}
 use Rattle.pass_laws.proofs.Those.{all_those}
 use Rattle.pass_laws.proofs.FreshOnce.{fresh_same}
 use Rattle.pass_laws.proofs.LoweredTwice.{named_once}

@@ -1,8 +1,7 @@
 -- The results of the operations of a lowered design have no parts.
-use Rattle.std.proofs.Common.{◌≡◌, ◌⊎◌, ℕ, zero, suc, ◌+◌, ◌*◌, ◌-◌, ◌%◌, Bool, true, false, cond, ◌&&◌, List, [], ◌∷◌, ◌++◌, map, remove, length, flat_map, slice_get, Option, Some, None, refl, sym, ap, ap₂, subst, ◌∙◌, inl, inr}
+use Rattle.std.proofs.Common.{◌≡◌, ℕ, zero, suc, ◌+◌, ◌*◌, ◌-◌, ◌%◌, Bool, true, false, cond, ◌&&◌, List, [], ◌∷◌, ◌++◌, map, remove, length, Option, Some, None, refl, sym, ap, ap₂, subst, ◌∙◌, inl, inr}
 use Rattle.hw_model.specs.Types.{Name, HwType, leaves, width}
-use Rattle.hw_model.specs.Types.HwType.{int}
-use Rattle.hw_model.specs.Kinds.{Kind, Literals}
+use Rattle.hw_model.specs.Kinds.{Kind}
 use Rattle.hw_model.specs.Kinds.Reset.{sync_reset}
 use Rattle.hw_model.specs.Kinds.ArrayOp.{array_create, array_concat, array_get, array_slice, array_inject}
 use Rattle.hw_model.specs.Kinds.StructOp.{struct_create, struct_extract, struct_inject, struct_explode}
@@ -11,20 +10,18 @@ use Rattle.hw_model.specs.Design.{Ref, Port, OpResult, Op, RegisterForm, Module,
 use Rattle.hw_model.specs.Value.{fields, nth_type}
 use Rattle.wiring.specs.Wiring.{In}
 use Rattle.wiring.proofs.Edits.{from_In-remove}
-use Rattle.wiring.proofs.Members.{position_of_In, In-append_cases, from_In-map, from_In-flat_map}
+use Rattle.wiring.proofs.Members.{position_of_In, from_In-map, from_In-flat_map}
 use Rattle.hw_edits.specs.Edit.{retarget}
 use Rattle.hw_edits.specs.Laws.{without, erase_op}
 use Rattle.hw_model.specs.Design.Ref.{result, undefined}
 use Rattle.inline_laws.specs.Unwire.{operand_at, unwire}
 use Rattle.aggregate_laws.specs.Leaves.{in_row, part, bare_result, result_types, leaf_operands, leaves_of}
-use Rattle.aggregate_laws.specs.Rules.{Row, Rules, count_by, blocks}
-use Rattle.aggregate_laws.specs.Rows.{made_op, all_leaves, argument, joined_parts, field_parts, with_field_parts, literals_numbers, number_at, for_each, stays_row, mux_row, join_row, constant_row, spread_row, register_row, register_stays_row}
+use Rattle.aggregate_laws.specs.Rules.{Rules, count_by, blocks}
+use Rattle.aggregate_laws.specs.Rows.{made_op, all_leaves, argument, joined_parts, field_parts, with_field_parts, literals_numbers, number_at, for_each, stays_row, mux_row, join_row, register_row, register_stays_row}
 use Rattle.aggregate_laws.specs.Choices.{tests, test_at, choices, leaf_choices, element_leaf, element_of}
 use Rattle.aggregate_laws.specs.Bitcasts.{Piece, pieces, piece_type, extracts, joined_pieces, joined_end, leaf_pieces, bitcast_row}
 use Rattle.aggregate_laws.specs.Aggregates.{is_scalar, first_type, array_length, element_type, index_bits, own_names, register_by, row_of, IsRegular, HasOne}
-use Rattle.aggregate_laws.specs.LeafPorts.{split_ports}
-use Rattle.aggregate_laws.specs.Scalars.{has_aggregate_port, has_aggregate_type, has_aggregate_result, has_aggregate_value, has_aggregates}
-use Rattle.aggregate_laws.proofs.LeafPorts.{leaves_plain}
+use Rattle.aggregate_laws.specs.Scalars.{has_aggregate_port, has_aggregate_type, has_aggregate_result, has_aggregates}
 use Rattle.aggregate_laws.proofs.Scalars.{leaf_scalar}
 use Rattle.aggregate_accepted.specs.Joins.{only_joins, without_joins, joined_module, joined_design}
 use Rattle.aggregate_lower.proofs.Unaggregated.{both_without, scalar_result}

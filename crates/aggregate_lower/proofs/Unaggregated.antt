@@ -1,7 +1,6 @@
 -- A design without aggregates: its ports are their own leaves, and so are its registers.
 use Rattle.std.proofs.Common.{◌≡◌, ℕ, zero, suc, Bool, true, false, cond, List, [], ◌∷◌, ◌++◌, map, flat_map, length, slice_get, Option, Some, None, is_some, refl, sym, ap, ap₂, subst, ◌∙◌, inl, inr}
 use Rattle.std.proofs.lemmas.Grind.{flat_map-append}
-use mathlib.Core.Path.{fun_ext}
 use Rattle.wiring.specs.Wiring.{In}
 use Rattle.wiring.proofs.Members.{position_of_In}
 use Rattle.hw_model.specs.Types.{Name, HwType}
@@ -13,7 +12,6 @@ use Rattle.port_checks.proofs.Least.{found_module}
 use Rattle.pass_laws.specs.PassLaw.{register_types, leaf_types}
 use Rattle.pass_laws.specs.Steady.{instance_held, op_held, body_held}
 use Rattle.pass_laws.proofs.Shapes.{held_types, types_held}
-use Rattle.aggregate_laws.specs.Leaves.{leaves_of, result_types}
 use Rattle.aggregate_laws.specs.Aggregates.{is_scalar, IsRegular, HasOne}
 use Rattle.aggregate_laws.specs.Scalars.{has_aggregate_port, has_aggregate_type, has_aggregate_result, has_aggregate_value, has_aggregates}
 use Rattle.aggregate_laws.proofs.Bare.{type_listed}

@@ -1,5 +1,5 @@
 //! The lowering of aggregates in a whole design.
-ghost use Rattle.std.specs.Prelude.{◌≡◌, ◌++◌, ℕ, true, cond, length, map, IfOk, OnOk, OnErr};
+ghost use Rattle.std.specs.Prelude.{◌≡◌, true, cond, length, map, IfOk, OnOk, OnErr};
 ghost use Rattle.wiring.specs.Wiring.{In};
 ghost use Rattle.hw_model.specs.KindViews.{kind_of};
 ghost use Rattle.ir_store.specs.Bodies.{ids_of, ops_of, op_id};

@@ -1,7 +1,6 @@
 //! Runs of events by hand: which event is the first that may not come.
 
-ghost use Rattle.std.specs.Prelude.{◌≡◌, [], ◌∷◌, map, true};
-ghost use Rattle.sched_core.specs.Runs.{AreCallees};
+ghost use Rattle.std.specs.Prelude.{[], true};
 
 use sched_core::Event::{self, Claim, Join, PutDone, PutEdge, Report, Split, Take, TakeEdge};
 use sched_core::Sched;

@@ -1,5 +1,5 @@
 //! An operation of a body, as rows read it, and the choices that they make among its operands.
-ghost use Rattle.std.specs.Prelude.{◌≡◌, ◌&&◌, map, cond, option_map, Some, slice_get};
+ghost use Rattle.std.specs.Prelude.{◌≡◌, ◌&&◌, cond, option_map, Some, slice_get};
 ghost use Rattle.fold_laws.specs.Constants.{constant_at, is_constant_where, is_true, is_false};
 ghost use Rattle.fold_laws.specs.Standing.{when, only_operand, first_where, first_operand, of_three_operands, writes_one_type};
 ghost use Rattle.hw_model.specs.Value.{is_high};
@@ -10,7 +10,7 @@ ghost use Rattle.fold_laws.specs.Numbers.{number_where};
 ghost use Rattle.body_edits.specs.FitBodies.{IsOfFit};
 ghost use Rattle.body_edits.specs.Sites.{ops_at, ref_at, refs_at, types_at, IsReadableSite};
 ghost use Rattle.body_edits.specs.Tests.{test_of};
-ghost use Rattle.body_edits.specs.Views.{HasOp, body_ops, position_in, op_seen, value_ref};
+ghost use Rattle.body_edits.specs.Views.{HasOp, body_ops, position_in, op_seen};
 
 use crate::constants::Test;
 use crate::reading::{constant_of, meets};

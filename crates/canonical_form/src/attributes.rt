@@ -1,5 +1,5 @@
 //! Whether attributes can be read: which may stand where, how large integers are, how deep lists are nested.
-ghost use Rattle.std.specs.Prelude.{◌≡◌, ◌↔◌, map, IsTrue};
+ghost use Rattle.std.specs.Prelude.{◌↔◌, map, IsTrue};
 ghost use Rattle.ir_store.specs.DictionaryViews.{attribute_of, attributes_of};
 ghost use Rattle.canonical_form.specs.Limits.{IsAttribute, AreAttributes, IsValue};
 

@@ -1,5 +1,5 @@
 //! Whether constants of integer types are kept as the numbers that their bits are.
-ghost use Rattle.std.specs.Prelude.{◌≡◌, ◌↔◌, map, not, IsTrue};
+ghost use Rattle.std.specs.Prelude.{◌≡◌, ◌↔◌, map, IsTrue};
 ghost use Rattle.hw_model.specs.TypeViews.{type_of};
 ghost use Rattle.hw_model.specs.KindViews.{integer_of, literal_of, literals_of};
 ghost use Rattle.hw_model.specs.FamilyViews.{family_of};

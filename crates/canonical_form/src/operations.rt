@@ -1,5 +1,5 @@
 //! Whether operations are in canonical form.
-ghost use Rattle.std.specs.Prelude.{◌≡◌, ◌↔◌, [], true, false, length, map, IsTrue};
+ghost use Rattle.std.specs.Prelude.{◌≡◌, ◌↔◌, [], true, false, length, IsTrue};
 ghost use Rattle.hw_model.specs.Opcodes.{opcode_of};
 ghost use Rattle.hw_model.specs.KindViews.{kind_of};
 ghost use Rattle.ir_store.specs.Bodies.{ops_of};
@@ -8,7 +8,7 @@ ghost use Rattle.ir_store.specs.Numbered.{ops_by_position};
 ghost use Rattle.ir_store.specs.OperationViews.{types_in, results_in};
 ghost use Rattle.ir_store.specs.ResultTypes.{result_types};
 ghost use Rattle.canonical_form.specs.Alone.{op_alone};
-ghost use Rattle.canonical_form.specs.Bytes.{Each, AreBytes};
+ghost use Rattle.canonical_form.specs.Bytes.{Each};
 ghost use Rattle.canonical_form.specs.Canonical.{IsCanonicalOp};
 ghost use Rattle.canonical_form.specs.Dictionaries.{has_name, takes_bin, string_keys, IsKeptDictionary};
 ghost use Rattle.canonical_form.specs.Kinds.{KeepsConstants, IsWritten};

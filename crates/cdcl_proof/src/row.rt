@@ -1,5 +1,5 @@
 // Clauses and watch lists as propagation works on them.
-ghost use Rattle.std.specs.Prelude.{ℕ, ◌≡◌, ◌<◌, ◌≤◌, ◌++◌, ◌∷◌, ◌-◌, ◌^◌, true, false, [], length, take, swap, swap_remove, OnOk, OnErr, IfOk, slice_index_or, slice_set};
+ghost use Rattle.std.specs.Prelude.{◌≡◌, ◌<◌, ◌≤◌, ◌++◌, ◌∷◌, ◌-◌, ◌^◌, true, false, [], length, take, swap, swap_remove, OnOk, OnErr, IfOk, slice_index_or, slice_set};
 ghost use Rattle.resolution_proof.specs.Clause.{is_within};
 ghost use Rattle.cdcl_proof.specs.Watching.{no_watch};
 

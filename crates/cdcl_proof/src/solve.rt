@@ -1,5 +1,5 @@
 // The solver: conflict-driven clause learning with a log of its resolutions.
-ghost use Rattle.std.specs.Prelude.{ℕ, ◌≡◌, ◌≤◌, ◌<◌, ◌+◌, ◌-◌, ◌++◌, ◌^◌, [], IfOk, OnOk, IfSome, IfNone, IsTrue, IsNone, true, false, length};
+ghost use Rattle.std.specs.Prelude.{◌≡◌, ◌≤◌, ◌<◌, ◌+◌, ◌-◌, ◌++◌, ◌^◌, [], IfOk, OnOk, IfSome, IfNone, IsTrue, IsNone, true, false, length};
 ghost use Rattle.resolution_proof.specs.Literal.{mentions};
 ghost use Rattle.resolution_proof.specs.Clause.{is_among};
 ghost use Rattle.cdcl_proof.specs.Order.{Waits, KeepsWaiting};

@@ -1,13 +1,13 @@
 // The trail of a search: the literals assumed or implied so far, oldest first.
-ghost use Rattle.std.specs.Prelude.{ℕ, ◌≡◌, ◌<◌, ◌≤◌, ◌++◌, ◌∷◌, ◌+◌, ◌-◌, ◌^◌, [], true, false, length, take, drop, None, IsNone, IsSome, OnOk, IfOk, IfSome, IfNone, Bool, List};
+ghost use Rattle.std.specs.Prelude.{ℕ, ◌≡◌, ◌<◌, ◌≤◌, ◌++◌, ◌∷◌, ◌+◌, ◌-◌, ◌^◌, [], true, false, length, take, None, IsNone, IfOk, IfSome, IfNone};
 ghost use Rattle.cdcl_proof.specs.declared.trail.Entry.{Entry};
-ghost use Rattle.resolution_proof.specs.Literal.{is_once, holds, mentions, negation};
+ghost use Rattle.resolution_proof.specs.Literal.{holds, mentions, negation};
 ghost use Rattle.resolution_proof.specs.Clause.{is_among};
 ghost use Rattle.resolution_proof.specs.Fresh.{is_free};
 ghost use Rattle.resolution_proof.specs.Formula.{is_true};
 ghost use Rattle.resolution_proof.specs.declared.literal.Literal.{Literal};
 ghost use Rattle.cdcl_proof.specs.Trail.{Path, literals, entry_at, value_of, is_after, NoDecision, AreApart, sign_of};
-ghost use Rattle.cdcl_proof.specs.Learning.{is_seen, is_seen_entry, seen_negations};
+ghost use Rattle.cdcl_proof.specs.Learning.{is_seen_entry, seen_negations};
 
 use resolution_proof::clause::Clause;
 use resolution_proof::literal::Literal;

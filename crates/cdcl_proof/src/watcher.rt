@@ -1,13 +1,13 @@
 // Propagation by watched literals: a clause is read only when a literal that it watches has become false.
-ghost use Rattle.std.specs.Prelude.{ℕ, List, ◌⊎◌, ◌≡◌, ◌<◌, ◌≤◌, ◌+◌, ◌-◌, ◌++◌, ◌∷◌, true, false, [], length, take, IfOk, OnOk, OnErr, IfSome, IfNone, Some, None, slice_index_or};
+ghost use Rattle.std.specs.Prelude.{◌≡◌, ◌<◌, ◌≤◌, ◌+◌, ◌-◌, ◌++◌, ◌∷◌, true, false, [], length, take, IfOk, OnOk, OnErr, IfSome, IfNone, Some, None};
 ghost use Rattle.resolution_proof.specs.declared.literal.Literal.{Literal};
-ghost use Rattle.resolution_proof.specs.Literal.{negation, holds};
-ghost use Rattle.resolution_proof.specs.Clause.{is_among, is_within, is_clause};
+ghost use Rattle.resolution_proof.specs.Literal.{negation};
+ghost use Rattle.resolution_proof.specs.Clause.{is_among, is_clause};
 ghost use Rattle.resolution_proof.specs.Fresh.{is_free, is_unit};
-ghost use Rattle.cdcl_proof.specs.Trail.{literals, entry_at, is_after, Implies};
+ghost use Rattle.cdcl_proof.specs.Trail.{literals, entry_at, Implies};
 ghost use Rattle.cdcl_proof.specs.Propagation.{IsConflict, IsOutcome};
-ghost use Rattle.cdcl_proof.specs.Watching.{literal_at, watch_at, list_at, AreVisited, Propagates, IsRow, slot_of};
-ghost use Rattle.cdcl_proof.specs.Watcher.{IsWatching, IsRowState, IsVisit};
+ghost use Rattle.cdcl_proof.specs.Watching.{literal_at, watch_at, list_at, AreVisited, Propagates, slot_of};
+ghost use Rattle.cdcl_proof.specs.Watcher.{IsWatching, IsVisit};
 
 use crate::marks::{mark_before, marks_kept, marks_up_to};
 use crate::packed::PackedLiteral;

@@ -1,11 +1,9 @@
 //! The verdict on a module of the first input and one of the last.
-ghost use Rattle.std.specs.Prelude.{◌≡◌, ℕ, List, ◌++◌, codes, string_bytes, IfOk, IfErr, OnOk, Some};
-ghost use Rattle.hw_model.specs.Types.{Name};
-ghost use Rattle.hw_model.specs.Design.{Module, find_module};
+ghost use Rattle.std.specs.Prelude.{◌≡◌, ◌++◌, string_bytes, IfOk, OnOk};
 ghost use Rattle.ir_store.specs.Designs.{design_of};
 ghost use Rattle.command_line.specs.Line.Work.{comparison};
 ghost use Rattle.circt_top.specs.Accepting.{first_input};
-ghost use Rattle.circt_top.specs.Comparing.{last_input, last_number, in_pair, word_text, value_lines, difference_text};
+ghost use Rattle.circt_top.specs.Comparing.{last_input, in_pair, value_lines, difference_text};
 ghost use Rattle.circt_top.specs.Outcome.{Gives};
 ghost use Rattle.circt_top.specs.Conclusions.{IsConcluded};
 

@@ -1,6 +1,5 @@
 //! Where a text goes.
-ghost use Rattle.std.specs.Prelude.{◌≡◌, option_map, IfOk, OnOk, Some};
-ghost use Rattle.io_edge.specs.Faults.{HasRisen};
+ghost use Rattle.std.specs.Prelude.{◌≡◌, option_map, Some};
 ghost use Rattle.circt_top.specs.Answer.{Delivers, DeliversFront};
 ghost use Rattle.circt_top.specs.Delivery.{OnDelivered, OnFault, OnNoMemory, HasOutputFault};
 

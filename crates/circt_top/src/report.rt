@@ -1,5 +1,5 @@
 //! The error message.
-ghost use Rattle.std.specs.Prelude.{◌≡◌, codes, ◌++◌, [], Err, Ok, OnOk, OnErr, option_map};
+ghost use Rattle.std.specs.Prelude.{◌≡◌, Err, Ok, OnOk, OnErr, option_map};
 ghost use Rattle.io_edge.specs.Bytes.{Appends, AppendsFront};
 ghost use Rattle.io_edge.specs.Faults.{HasCause};
 ghost use Rattle.diag.specs.Line.{IsWithin, operation_of};

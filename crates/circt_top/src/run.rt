@@ -1,8 +1,8 @@
 //! The top call.
-ghost use Rattle.std.specs.Prelude.{◌≡◌, ℕ, List, [], Some, None, Ok, Err, map, string_bytes, option_map};
+ghost use Rattle.std.specs.Prelude.{◌≡◌, ℕ, List, Some, None, Ok, Err, map, string_bytes, option_map};
 ghost use Rattle.io_edge.specs.Faults.{HasRisen};
 ghost use Rattle.command_line.specs.Invocations.{command_of, Says};
-ghost use Rattle.circt_top.specs.Words.{line, passes_on_offer, fault_of, ForCommand};
+ghost use Rattle.circt_top.specs.Words.{line, fault_of, ForCommand};
 ghost use Rattle.circt_top.specs.Inputs.{AreContents, IsOneMissing, IsOneRisen, ReadsThen, OnFault, unread_end, name_at, bytes_at};
 ghost use Rattle.circt_top.specs.Outcome.{Verdict, IsAnswer, IsAnswered, verdict_of};
 ghost use Rattle.circt_top.specs.Outcome.Answer.{prints, refuses};

@@ -1,7 +1,6 @@
 //! The row by which an operation of any number of operands has one constant in the place of two (CIRCT, Comb dialect:
 //! canonicalization of its operations).
 ghost use Rattle.std.specs.Prelude.{◌≡◌, ◌<◌, [], true, Some, is_some, position, OnOk, OnErr};
-ghost use Rattle.hw_model.specs.KindViews.{kind_of};
 ghost use Rattle.ir_store.specs.Bodies.{ops_of};
 ghost use Rattle.ir_store.specs.BodyOps.{HasOperand};
 ghost use Rattle.ir_store.specs.OperationViews.{new_parts};

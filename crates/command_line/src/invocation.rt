@@ -1,13 +1,13 @@
 //! What the words of a command line say.
 ghost use Rattle.std.specs.List.{cons_option};
 ghost use Rattle.std.specs.Prelude.{◌≡◌, IfOk, IfErr, OnOk, IfSome, ◌≤◌, ◌++◌, map, string_bytes, option_map, codes, [], Some, Ok, Err};
-ghost use Rattle.clap.specs.Words.{found_of, rows_of, first_of, fault_of, subcommand_of, subcommand_rows_of, FailsBy};
+ghost use Rattle.clap.specs.Words.{found_of, rows_of, first_of, fault_of, subcommand_of, subcommand_rows_of};
 ghost use Rattle.pass_pipeline.specs.Pipelines.{passes};
 ghost use Rattle.command_line.specs.Commands.{circt_app};
 ghost use Rattle.command_line.specs.Making.{IsMade};
 ghost use Rattle.command_line.specs.Line.Work.{verilog};
 ghost use Rattle.command_line.specs.Line.{line, parse, require_subcommand, with_files, on_passes, input_in, inputs_in, output_in, items_text, in_items, in_pipeline, in_list, passes_in, is_given_twice, mlir_work, number_in, generated_work, gen_work, limit_in, name_in, is_dash, is_stdin_twice, second_in, lec_work, passes_work, work_in, is_flagged, workers_said, workers_in, command_in};
-ghost use Rattle.command_line.specs.Invocations.{command_of, work_of, Says, SaysWork, SaysPasses, IsFault};
+ghost use Rattle.command_line.specs.Invocations.{work_of, Says, SaysWork, SaysPasses, IsFault};
 
 use crate::commands::circt_command;
 use crate::comparison::Comparison;

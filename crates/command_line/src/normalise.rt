@@ -1,5 +1,5 @@
 //! Words made regular.
-ghost use Rattle.std.specs.Prelude.{◌≡◌, IfOk, IfErr, OnOk, OnErr, ◌++◌, ◌∷◌, [], map, string_bytes, codes, Some, None};
+ghost use Rattle.std.specs.Prelude.{◌≡◌, IfOk, IfErr, OnOk, ◌++◌, [], map, string_bytes, codes, Some, None};
 ghost use Rattle.command_line.specs.Normal.{normal, unless, with_second_dash, wants_dash, characters, is_end, is_reserved, begins, all_dashed, has_reserved, flag_of, flags, without_flags, passes_word, passes_words, with_passes_word, takes_passes, with_passes};
 ghost use Rattle.std.specs.List.{cons_option};
 ghost use Rattle.pass_pipeline.specs.Passes.{pass_name};

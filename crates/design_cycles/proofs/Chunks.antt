@@ -5,7 +5,7 @@ use Rattle.std.proofs.lemmas.Bool.{eqb-true, eqb-false}
 use Rattle.std.proofs.lemmas.List.{append-nil, length-append, get_or-set_same, get_or-set_other}
 use Rattle.std.proofs.lemmas.Option.{slice_get_within}
 use Rattle.std.proofs.lemmas.Nat.Bits.{bit_at-zero, shr_and_one}
-use Rattle.wiring.specs.Wiring.{In, Chain}
+use Rattle.wiring.specs.Wiring.{In}
 use Rattle.wiring.proofs.Members.{In-append_left, In-append_right, In-append_cases}
 use Rattle.wiring.proofs.Lists.{slice_get-append_left, slice_get-append_right, slice_get-append_past, slice_get-append_some}
 use Rattle.graphs.specs.Graphs.{lists_of, edges}

@@ -1,7 +1,6 @@
 //! Modules within themselves.
 ghost use Rattle.std.specs.Prelude.{◌≡◌, ◌<◌, length, IfOk, MatchBool, None};
 ghost use Rattle.hw_model.specs.Hierarchy.{HasNoRecursion};
-ghost use Rattle.ir_store.specs.Bodies.{ids_of};
 ghost use Rattle.ir_store.specs.Designs.{design_of, modules_of};
 ghost use Rattle.design_cycles.specs.Asked.{HasDistinctSymbols, IsRecursiveAt};
 ghost use Rattle.design_cycles.specs.Calls.{call_lists};

@@ -1,5 +1,5 @@
 //! Summaries of modules: of each output the inputs that it depends on, without expanding an instance.
-ghost use Rattle.std.specs.Prelude.{◌≡◌, ◌<◌, ◌^◌, ℕ, length, map, IfOk};
+ghost use Rattle.std.specs.Prelude.{◌≡◌, ◌<◌, ◌^◌, length, map, IfOk};
 ghost use Rattle.hw_model.specs.Types.{Name};
 ghost use Rattle.hw_model.specs.Design.{output_refs};
 ghost use Rattle.ir_store.specs.Bodies.{ids_of, ops_of, op_id};

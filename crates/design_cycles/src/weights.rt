@@ -1,5 +1,5 @@
 //! Weights: how many operations the flattening of a module and the lowering of its aggregates make, at most.
-ghost use Rattle.std.specs.Prelude.{◌≡◌, ◌<◌, ◌≤◌, ◌+◌, ◌*◌, ℕ, length, map, min, slice_get};
+ghost use Rattle.std.specs.Prelude.{◌≡◌, ◌<◌, ◌≤◌, ◌+◌, ◌*◌, length, map, min, slice_get};
 ghost use Rattle.std.specs.Option.{option_map};
 ghost use Rattle.design_cycles.specs.Sizes.{length_of, leaves_of};
 ghost use Rattle.hw_model.specs.TypeViews.{type_of};

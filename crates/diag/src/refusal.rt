@@ -1,5 +1,5 @@
 //! A refusal and its place.
-ghost use Rattle.std.specs.Prelude.{◌≡◌, ℕ, ◌≤◌, length};
+ghost use Rattle.std.specs.Prelude.{◌≡◌};
 ghost use Rattle.diag.specs.Place.{start_place, next_place, further};
 
 use crate::cause::Cause;

@@ -3,7 +3,7 @@ ghost use Rattle.std.specs.Prelude.{◌≡◌, ◌<◌, ◌+◌, ◌^◌, ◌++�
 ghost use Rattle.hw_model.specs.Design.Ref.{result as result_ref};
 ghost use Rattle.ir_store.specs.Designs.{port_of};
 ghost use Rattle.ir_store.specs.Numbered.{position_of};
-ghost use Rattle.verilog_expr.specs.Scopes.{scope_ports, scope_ops, scope_ids, scope_ref};
+ghost use Rattle.verilog_expr.specs.Scopes.{scope_ids, scope_ref};
 ghost use Rattle.verilog_expr.specs.Named.{named_of};
 ghost use Rattle.verilog_expr.specs.Text.{expr_text};
 ghost use Rattle.verilog_model.specs.Tree.Item.{instance};

@@ -1,7 +1,7 @@
 //! The declarations of a body.
 ghost use Rattle.std.specs.Prelude.{◌≡◌, ◌++◌, [], OnOk};
 ghost use Rattle.ir_store.specs.Numbered.{position_of};
-ghost use Rattle.verilog_expr.specs.Scopes.{scope_ports, scope_ops, scope_ids, scope_ref};
+ghost use Rattle.verilog_expr.specs.Scopes.{scope_ids, scope_ref};
 ghost use Rattle.export_verilog.specs.Layout.{item_text, items_text};
 ghost use Rattle.export_verilog.specs.Values.{value_wire, value_variable, value_wires, declared_items};
 ghost use Rattle.export_verilog.specs.EmissionViews.{emission_seen};

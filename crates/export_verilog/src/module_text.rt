@@ -1,13 +1,10 @@
 //! The text of a module.
-ghost use Rattle.std.specs.Prelude.{◌≡◌, ◌<◌, ◌++◌, [], map, length, OnOk, Some, slice_get};
+ghost use Rattle.std.specs.Prelude.{◌≡◌, ◌<◌, ◌++◌, [], length, OnOk, Some, slice_get};
 ghost use Rattle.hw_model.specs.Design.{Module};
-ghost use Rattle.ir_store.specs.Bodies.{op_id};
-ghost use Rattle.ir_store.specs.Designs.{design_of, modules_of, port_of};
-ghost use Rattle.verilog_expr.specs.Scopes.{scope_ports, scope_ops, scope_ids};
-ghost use Rattle.verilog_expr.specs.PartTables.{AreWires};
+ghost use Rattle.ir_store.specs.Designs.{design_of, modules_of};
+ghost use Rattle.verilog_expr.specs.Scopes.{scope_ports};
 ghost use Rattle.export_verilog.specs.Exported.{symbol_names, vmodule};
 ghost use Rattle.export_verilog.specs.Layout.{module_text};
-ghost use Rattle.export_verilog.specs.ModuleNames.{AreModuleNames};
 ghost use Rattle.export_verilog.specs.ModuleTexts.{module_under};
 ghost use Rattle.export_verilog.specs.ScopeModules.{scope_module};
 ghost use Rattle.export_verilog.specs.WritableDesigns.{IsWritableDesign};

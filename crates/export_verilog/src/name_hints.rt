@@ -1,7 +1,6 @@
 //! What the operations of a body are in Verilog, and the names that are wanted for them.
 ghost use Rattle.std.specs.Prelude.{◌≡◌, slice_get, IfOk};
 ghost use Rattle.hw_model.specs.KindViews.{kind_of, instance_of};
-ghost use Rattle.verilog_expr.specs.Spilling.{is_wire_kind};
 ghost use Rattle.export_verilog.specs.Identifiers.{or_name, name_or_nothing, result_name_hint};
 ghost use Rattle.export_verilog.specs.Held.{emission_by, own_name_hint, op_seen};
 ghost use Rattle.export_verilog.specs.EmissionViews.{emission_seen};

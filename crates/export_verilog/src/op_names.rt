@@ -1,5 +1,5 @@
 //! The names of the things of an operation.
-ghost use Rattle.std.specs.Prelude.{◌≡◌, ◌++◌, ◌∷◌, [], map, length, Some, IfOk, OnOk};
+ghost use Rattle.std.specs.Prelude.{◌≡◌, ◌++◌, ◌∷◌, [], map, Some, IfOk, OnOk};
 ghost use Rattle.hw_model.specs.KindViews.{instance_of};
 ghost use Rattle.name_legalise.specs.Legal.{legal_name, legal_after};
 ghost use Rattle.name_legalise.specs.LegalViews.{legal_names};

@@ -1,5 +1,5 @@
 //! The statements of registers.
-ghost use Rattle.std.specs.Prelude.{◌≡◌, ◌++◌, [], None, Some, true, false, map, option_map, OnOk};
+ghost use Rattle.std.specs.Prelude.{◌≡◌, ◌++◌, [], None, Some, option_map, OnOk};
 ghost use Rattle.hw_model.specs.Flat.{register_in, async_reset_in};
 ghost use Rattle.hw_model.specs.RegisterViews.{reset_by_of, register_of};
 ghost use Rattle.verilog_model.specs.Tree.Item.{always};

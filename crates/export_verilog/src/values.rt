@@ -1,6 +1,6 @@
 //! The expressions of a body's values, written on their own.
 ghost use Rattle.std.specs.Prelude.{◌≡◌, IfOk};
-ghost use Rattle.verilog_expr.specs.Scopes.{scope_ports, scope_ops, scope_ref};
+ghost use Rattle.verilog_expr.specs.Scopes.{scope_ref};
 ghost use Rattle.verilog_expr.specs.Named.{named_of};
 ghost use Rattle.export_verilog.specs.Identifiers.{name_or_nothing};
 ghost use Rattle.export_verilog.specs.Values.{used_text, defined_text, literal_text};

@@ -1,6 +1,6 @@
 //! Flat copies of modules.
-ghost use Rattle.std.specs.Prelude.{◌≡◌, ◌<◌, ℕ, IfOk, length};
-ghost use Rattle.ir_store.specs.Designs.{design_of, modules_of, module_of, numbered_module};
+ghost use Rattle.std.specs.Prelude.{◌≡◌, ◌<◌, IfOk, length};
+ghost use Rattle.ir_store.specs.Designs.{design_of, module_of, numbered_module};
 ghost use Rattle.op_verifier.specs.Answered.{modules_verified};
 ghost use Rattle.flat_copy.specs.FlatCopy.{only_public, is_other, IsOnlyPublicAt, IsFlatCopyAt};
 

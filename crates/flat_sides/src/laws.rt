@@ -1,5 +1,5 @@
 //! Laws of flat modules with their nets in order.
-ghost use Rattle.std.specs.Prelude.{◌≡◌, ℕ, ◌+◌, ◌*◌, ◌≤◌, ◌↔◌, Bool, List, [], length, IsTrue};
+ghost use Rattle.std.specs.Prelude.{ℕ, ◌+◌, ◌*◌, ◌≤◌, ◌↔◌, Bool, List, [], length, IsTrue};
 ghost use Rattle.resolution_proof.specs.Formula.{are_clauses, satisfies};
 ghost use Rattle.bits_core.specs.Word.{Word};
 ghost use Rattle.hw_model.specs.Types.{Name};

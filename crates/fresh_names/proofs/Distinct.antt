@@ -1,5 +1,5 @@
 -- Names that are given in turn are new, each in its turn.
-use Rattle.std.proofs.Common.{◌≡◌, ℕ, ◌+◌, ◌<◌, ◌^◌, false, List, [], ◌∷◌, ◌++◌, length, arith}
+use Rattle.std.proofs.Common.{◌≡◌, ◌+◌, ◌<◌, ◌^◌, false, List, [], ◌∷◌, ◌++◌, length, arith}
 use Rattle.fresh_names.specs.Fresh.{Name, is_taken, free_name, fresh}
 use Rattle.fresh_names.proofs.Taken.{one_more}
 use Rattle.fresh_names.proofs.Free.{name_free}

@@ -1,5 +1,5 @@
 //! Laws about free names, each a clause of a function that does nothing.
-ghost use Rattle.std.specs.Prelude.{◌≡◌, ℕ, ◌+◌, ◌<◌, ◌^◌, List, [], length, Some, slice_get, true, false};
+ghost use Rattle.std.specs.Prelude.{◌≡◌, ℕ, ◌+◌, ◌<◌, ◌^◌, List, length, Some, slice_get, true, false};
 ghost use Rattle.fresh_names.specs.Different.{AreDifferent};
 ghost use Rattle.fresh_names.specs.Fresh.{Name, fresh, free_name, is_taken, with_suffix};
 

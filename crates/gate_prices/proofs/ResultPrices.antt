@@ -1,5 +1,5 @@
 -- The prices of results, one after another.
-use Rattle.std.proofs.Common.{◌≡◌, ℕ, ◌+◌, ◌<◌, min, List, [], ◌∷◌, ◌++◌, length, map, take, get_or, sym, ap, ◌∙◌, arith}
+use Rattle.std.proofs.Common.{◌≡◌, ℕ, ◌+◌, ◌<◌, min, List, [], ◌∷◌, ◌++◌, length, map, take, get_or, sym, arith}
 use Rattle.std.proofs.lemmas.List.{map_more}
 use Rattle.hw_model.specs.Types.{width}
 use Rattle.hw_model.specs.Kinds.{Kind}

@@ -1,7 +1,6 @@
 -- The types of values by positions.
-use Rattle.std.proofs.Common.{◌≡◌, ℕ, zero, suc, ◌≤◌, List, [], ◌∷◌, length, slice_get, Option, Some, None, refl, ap, ◌∙◌, arith}
+use Rattle.std.proofs.Common.{◌≡◌, ℕ, zero, suc, ◌≤◌, List, [], ◌∷◌, length, slice_get, Some, None, refl, ap, arith}
 use Rattle.wiring.specs.Options.{bind}
-use Rattle.hw_model.specs.Types.{HwType}
 use Rattle.hw_model.specs.Design.{Port, Op, result_type}
 use Rattle.hw_model.specs.Design.Ref.{result}
 use Rattle.hw_model.specs.Flat.{width_of}

@@ -1,10 +1,10 @@
 //! The widths of operands.
-ghost use Rattle.std.specs.Prelude.{◌≡◌, ℕ, List, length, map, IfOk, Option, slice_get};
+ghost use Rattle.std.specs.Prelude.{◌≡◌, map, IfOk, slice_get};
 ghost use Rattle.hw_model.specs.Flat.{width_of};
 ghost use Rattle.hw_model.specs.Sound.{input_type, type_in};
 ghost use Rattle.hw_model.specs.Design.{result_type};
 ghost use Rattle.ir_store.specs.Bodies.{ids_of, ops_of};
-ghost use Rattle.ir_store.specs.Designs.{port_of, ports_in};
+ghost use Rattle.ir_store.specs.Designs.{ports_in};
 ghost use Rattle.ir_store.specs.Numbered.{position_of, ref_by, ops_by_position};
 ghost use Rattle.design_cycles.specs.Reading.{op_view};
 ghost use Rattle.miter_rows.specs.Prices.{first_width};

@@ -1,16 +1,16 @@
 //! The price of a body.
-ghost use Rattle.std.specs.Prelude.{◌≡◌, ◌+◌, ◌*◌, false, ℕ, List, length, map, min, IfOk};
-ghost use Rattle.hw_model.specs.Design.{register_form, OpResult};
-ghost use Rattle.hw_model.specs.Flat.{has_async_reset, held_width};
+ghost use Rattle.std.specs.Prelude.{◌≡◌, ◌+◌, ◌*◌, false, ℕ, List, length, min, IfOk};
+ghost use Rattle.hw_model.specs.Design.{register_form};
+ghost use Rattle.hw_model.specs.Flat.{has_async_reset};
 ghost use Rattle.hw_model.specs.KindViews.{kind_of, reset_of};
 ghost use Rattle.hw_model.specs.FamilyViews.{family_of, variadic_of};
-ghost use Rattle.ir_store.specs.Bodies.{ids_of, ops_of};
+ghost use Rattle.ir_store.specs.Bodies.{ops_of};
 ghost use Rattle.ir_store.specs.Designs.{ports_in};
-ghost use Rattle.ir_store.specs.Numbered.{position_of, ref_by, ops_by_position};
+ghost use Rattle.ir_store.specs.Numbered.{ops_by_position};
 ghost use Rattle.ir_store.specs.OperationViews.{results_in};
 ghost use Rattle.design_cycles.specs.Reading.{op_view};
 ghost use Rattle.miter_rows.specs.Prices.{price, pair_price, first_width};
-ghost use Rattle.flat_sides.specs.FlatPrices.{op_price, results_price, operand_widths};
+ghost use Rattle.flat_sides.specs.FlatPrices.{results_price};
 ghost use Rattle.comparison_laws.specs.ComparisonPrices.{choice_price, clock_price, form_price, register_price};
 ghost use Rattle.gate_prices.specs.BodyPrices.{whole_price, body_price};
 

@@ -1,6 +1,6 @@
 //! The clauses of circuits.
 
-ghost use Rattle.std.specs.Prelude.{◌≡◌, IsTrue};
+ghost use Rattle.std.specs.Prelude.{IsTrue};
 ghost use Rattle.gates.specs.Order.{IsGateWithin, AreInOrder};
 
 use crate::circuits::{evaluated, inputs};

@@ -2,7 +2,7 @@
 ghost use Rattle.std.specs.Prelude.{◌≡◌, length, replicate, IfOk};
 ghost use Rattle.gates.specs.Build.{and, or, exclusive, choice};
 ghost use Rattle.gates.specs.Circuits.{Runs};
-ghost use Rattle.gate_words.specs.Rows.{each, choose, masked, flipped, inverses, reduced, any, unlike};
+ghost use Rattle.gate_words.specs.Rows.{each, masked, flipped, inverses, reduced, unlike};
 ghost use Rattle.gate_words.specs.Bitwise.{building_of};
 
 use gates::circuit::Gates;

@@ -1,6 +1,6 @@
 //! Laws of rows: which words they compute, and by how many gates.
 ghost use Rattle.std.specs.Prelude.{◌≡◌, ℕ, ◌+◌, ◌*◌, Bool, not, cond, List, length};
-ghost use Rattle.bits_core.specs.Word.{Word, number, and_words, or_words, xor_words, not_word, parity, add, sub, mul, quotient as quotient_word, rest as rest_word, signed_quotient as signed_quotient_word, signed_rest as signed_rest_word, shift_left, shift_right, shift_right_signed, less as is_less, signed_less as is_signed_less, same_word};
+ghost use Rattle.bits_core.specs.Word.{number, and_words, or_words, xor_words, not_word, parity, add, sub, mul, quotient as quotient_word, rest as rest_word, signed_quotient as signed_quotient_word, signed_rest as signed_rest_word, shift_left, shift_right, shift_right_signed, less as is_less, signed_less as is_signed_less, same_word};
 ghost use Rattle.gates.specs.declared.signal.Gate.{Gate};
 ghost use Rattle.gates.specs.declared.signal.Signal.{Signal};
 ghost use Rattle.gates.specs.Signals.{signal_bit};

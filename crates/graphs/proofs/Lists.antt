@@ -1,5 +1,5 @@
 -- Lists that a part was taken of, and written back to.
-use Rattle.std.proofs.Common.{◌≡◌, ℕ, List, [], ◌∷◌, ◌++◌, length, take, drop, refl, arith}
+use Rattle.std.proofs.Common.{◌≡◌, ℕ, List, [], ◌++◌, length, take, drop, arith}
 use Rattle.std.proofs.lemmas.List.{append-nil, take_all, drop_all}
 
 -- a list that a slice of it was written back to

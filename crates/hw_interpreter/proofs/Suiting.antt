@@ -1,5 +1,5 @@
 -- What suits within a depth, from a settled map, and by the parts of sources.
-use Rattle.std.proofs.Common.{◌≡◌, ℕ, zero, suc, ◌+◌, ◌-◌, ◌<◌, ◌≤◌, List, [], ◌∷◌, map, length, get_or, inl, inr, sym, ap, ap₂, subst, ◌∙◌, arith}
+use Rattle.std.proofs.Common.{◌≡◌, ℕ, zero, suc, ◌-◌, ◌<◌, ◌≤◌, List, [], ◌∷◌, map, length, get_or, sym, ap, ap₂, subst, ◌∙◌, arith}
 use mathlib.Core.Path.{fun_ext}
 use Rattle.wiring.specs.Wiring.{In, IsHeight, greatest}
 use Rattle.wiring.proofs.Members.{map_same, In-map, from_In-map}
@@ -13,7 +13,7 @@ use Rattle.hw_model.specs.Meaning.{needs_of, needs, value, Settled, risen_conten
 use Rattle.hw_interpreter.specs.declared.design.Operand.{Operand}
 use Rattle.hw_interpreter.specs.DesignViews.{ref_of}
 use Rattle.operation_values.specs.Suits.{Suits}
-use Rattle.hw_interpreter.specs.SuitsWithin.{SuitsSource, SuitsFrom, SuitsWithin, SuitsUnder, AlwaysSuits, IsCountedDesign, TakesRefs, TakesStep, SuitsStep, TakesRunAfter, TakesRun}
+use Rattle.hw_interpreter.specs.SuitsWithin.{SuitsSource, SuitsFrom, SuitsWithin, AlwaysSuits, IsCountedDesign, TakesRefs, TakesStep, SuitsStep, TakesRunAfter}
 use Rattle.hw_interpreter.specs.Depth.{value_within, risen_within, content_within, Suffices}
 use Rattle.hw_interpreter.proofs.Counts.{member_of}
 use Rattle.hw_interpreter.proofs.Within.{within_settled}

@@ -1,5 +1,5 @@
 //! What an instance joins to the ports of its module, and what its module gives to its results.
-ghost use Rattle.std.specs.Prelude.{◌≡◌, ◌≤◌, length, take, map, option_map, slice_get};
+ghost use Rattle.std.specs.Prelude.{◌≡◌, ◌≤◌, length, take, map, option_map};
 ghost use Rattle.wiring.specs.Options.{bind};
 ghost use Rattle.hw_model.specs.Flat.{input_count, port_ref, joined_ref, joined_at, given_ref, module_at};
 ghost use Rattle.hw_interpreter.specs.DesignViews.{ref_of, op_of, port_of, module_of};

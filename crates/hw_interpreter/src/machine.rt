@@ -1,11 +1,10 @@
 //! Steps and runs of a module.
-ghost use Rattle.std.specs.Prelude.{ℕ, ◌≡◌, ◌+◌, ◌-◌, ◌∷◌, [], ◌++◌, ◌≤◌, ◌<◌, length, take, drop, map, cond, IfOk, IsErrOf, option_to_list, MatchOption, Option, Some, None, option_map};
-ghost use Rattle.bits_core.specs.Word.{Word, first};
+ghost use Rattle.std.specs.Prelude.{◌≡◌, ◌-◌, [], ◌<◌, take, map, IfOk, IsErrOf, option_to_list, Option, Some, None, option_map};
+ghost use Rattle.bits_core.specs.Word.{first};
 ghost use Rattle.wiring.specs.Wiring.{In};
 ghost use Rattle.hw_model.specs.Flat.{Slot as FlatSlot};
-ghost use Rattle.hw_model.specs.KindViews.{kind_of};
-ghost use Rattle.hw_model.specs.Design.{find_module, register_form};
-ghost use Rattle.hw_model.specs.Flat.{Net, held_width, net, registers, register_in, async_reset_in};
+ghost use Rattle.hw_model.specs.Design.{find_module};
+ghost use Rattle.hw_model.specs.Flat.{held_width, net, registers, register_in, async_reset_in};
 ghost use Rattle.hw_model.specs.Meaning.{value_if_enabled as enabled_word, reset as reset_word, next_value as loaded_word, rise_value as risen_word, next_content, risen_content as risen_contents, outputs_of, outputs, machine};
 ghost use Rattle.hw_model.specs.Machine.{Step, Run};
 ghost use Rattle.hw_model.specs.RegisterViews.{register_of, reset_by_of};

@@ -1,9 +1,7 @@
 //! Modules by symbol and by path, and the bits of content of modules.
-ghost use Rattle.std.specs.Prelude.{ℕ, ◌≡◌, ◌+◌, ◌∷◌, [], ◌≤◌, ◌<◌, length, take, drop, map, cond, IfOk, OnErr, IsTrue, MatchOption, ◌^◌, Option, Some, None, option_map, slice_get, is_some};
-ghost use Rattle.hw_model.specs.TypeViews.{type_of};
+ghost use Rattle.std.specs.Prelude.{◌≡◌, ◌+◌, [], ◌≤◌, ◌<◌, length, take, map, IfOk, OnErr, ◌^◌, Option, Some, None, option_map, slice_get};
 ghost use Rattle.hw_model.specs.KindViews.{kind_of, instance_of};
-ghost use Rattle.hw_model.specs.Types.{width};
-ghost use Rattle.hw_model.specs.Design.{find_module, instance_in, is_instance, is_register, callee, output_refs, result_type};
+ghost use Rattle.hw_model.specs.Design.{find_module, instance_in, is_instance, is_register, callee, output_refs};
 ghost use Rattle.hw_model.specs.Flat.{instances, before_instance, module_at, op_state, body_state, module_state, state, state_before, base, held_width, depth, offset};
 ghost use Rattle.wiring.specs.Options.{bind};
 ghost use Rattle.hw_interpreter.specs.DesignViews.{ref_of, op_of, module_of};

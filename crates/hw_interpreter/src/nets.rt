@@ -1,5 +1,5 @@
 //! The values of nets, their needs followed to a depth.
-ghost use Rattle.std.specs.Prelude.{ℕ, ◌≡◌, ◌+◌, ◌-◌, ◌∷◌, [], ◌≤◌, ◌<◌, length, take, drop, map, cond, IfOk, OnErr, IsErrOf, ◌^◌, MatchOption, Option, Some, None, option_map, slice_get};
+ghost use Rattle.std.specs.Prelude.{◌≡◌, ◌-◌, ◌∷◌, [], ◌<◌, length, take, map, cond, IfOk, OnErr, IsErrOf, Option, Some, None, option_map, slice_get};
 ghost use Rattle.bits_core.specs.Word.{Word, first};
 ghost use Rattle.hw_model.specs.TypeViews.{type_of};
 ghost use Rattle.hw_model.specs.Design.{find_module, result_type, is_output_op};

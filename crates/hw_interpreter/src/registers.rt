@@ -1,7 +1,7 @@
 //! The registers of a module, through its instances.
-ghost use Rattle.std.specs.Prelude.{ℕ, ◌≡◌, ◌+◌, ◌-◌, ◌∷◌, [], ◌++◌, ◌≤◌, ◌<◌, length, take, drop, map, cond, IfOk, OnOk, OnErr, IsErrOf, ◌^◌, suc, true, false, MatchOption, Option, Some, None, option_map};
-ghost use Rattle.hw_model.specs.Design.{find_module, register_form, is_instance};
-ghost use Rattle.hw_model.specs.Flat.{instances, net, module_registers, body_registers, op_registers, registers, register_in, async_reset_in, depth};
+ghost use Rattle.std.specs.Prelude.{◌≡◌, ◌+◌, ◌-◌, [], ◌++◌, ◌<◌, length, map, cond, IfOk, OnOk, OnErr, IsErrOf, ◌^◌, suc, true, Option, Some, None, option_map};
+ghost use Rattle.hw_model.specs.Design.{find_module, is_instance};
+ghost use Rattle.hw_model.specs.Flat.{instances, module_registers, body_registers, op_registers, registers, register_in, async_reset_in, depth};
 ghost use Rattle.hw_model.specs.RegisterViews.{register_of, reset_by_of};
 ghost use Rattle.hw_interpreter.specs.DesignViews.{ref_of, op_of, module_of};
 ghost use Rattle.hw_interpreter.specs.Registers.{slot_of};

@@ -1,5 +1,5 @@
 -- Where the registers of the flattened module take their content: in order, each where its net takes its value.
-use Rattle.std.proofs.Common.{◌≡◌, ℕ, zero, suc, ◌+◌, ◌<◌, ◌≤◌, Bool, cond, List, [], ◌∷◌, ◌++◌, length, map, take, drop, slice_get, Some, refl, sym, ap, ap₂, subst, ◌∙◌, inl, arith, zero-add, append_assoc}
+use Rattle.std.proofs.Common.{◌≡◌, ℕ, zero, suc, ◌+◌, ◌<◌, ◌≤◌, cond, List, [], ◌∷◌, ◌++◌, length, map, take, drop, slice_get, Some, refl, sym, ap, ap₂, subst, ◌∙◌, inl, arith, zero-add, append_assoc}
 use Rattle.std.proofs.lemmas.List.{length-map, drop-drop}
 use Rattle.wiring.specs.Wiring.{In, HasHeights, IsHeight}
 use Rattle.wiring.proofs.Members.{In-append_left, In-append_right}

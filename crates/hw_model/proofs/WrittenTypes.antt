@@ -4,7 +4,7 @@ use Rattle.bits_core.specs.Word.{Word}
 use Rattle.hw_model.specs.Types.{HwType, width}
 use Rattle.hw_model.specs.Types.HwType.{int}
 use Rattle.hw_model.specs.Kinds.{Kind}
-use Rattle.hw_model.specs.Kinds.Variadic.{add, mul, and, or, xor}
+use Rattle.hw_model.specs.Kinds.Variadic.{and}
 use Rattle.hw_model.specs.Kinds.Kind.{variadic, sub, division, shift, icmp, parity, extract, concat, replicate, mux, constant}
 use Rattle.hw_model.specs.IntegerKinds.{TakesWords}
 use Rattle.hw_model.specs.Value.{op_value}

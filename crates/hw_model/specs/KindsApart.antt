@@ -1,6 +1,6 @@
 -- The test of kinds is true of a kind and itself, and of no other.
-use Rattle.std.specs.Prelude.{◌≡◌, ℕ, ◌<◌, ◌==◌, cond, true, ◌&&◌, nat_eq, ℤ, pos, negsuc, List, [], ◌∷◌, Option, Some, None, refl, ◌⊎◌}
-use Rattle.std.proofs.Common.{sym, ap, ◌∙◌, arith, inl, inr}
+use Rattle.std.specs.Prelude.{◌≡◌, ℕ, ◌==◌, cond, true, ◌&&◌, ℤ, pos, negsuc, List, [], ◌∷◌, Option, Some, None, refl, ◌⊎◌}
+use Rattle.std.proofs.Common.{sym, ap, ◌∙◌, inl, inr}
 use Rattle.std.specs.Cmp.Lexicographic.{pointwise}
 use Rattle.std.specs.Cmp.{IsPartialEquivalence, IsEquivalence, partial_equiv_from_equiv}
 use Rattle.hw_model.specs.Types.{Name}

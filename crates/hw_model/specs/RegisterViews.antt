@@ -1,5 +1,5 @@
 -- The registers that registers of code stand for, whose operands are seen as references.
-use Rattle.std.specs.Prelude.{Option, option_map}
+use Rattle.std.specs.Prelude.{option_map}
 use Rattle.hw_model.specs.Design.{Ref}
 use Rattle.hw_model.specs.Flat.{Register, ResetBy}
 use Rattle.hw_model.specs.declared.registers.Register.{Register as CodeRegister}

@@ -1,7 +1,7 @@
 //! The values of operations on integers.
-ghost use Rattle.std.specs.Prelude.{◌≡◌, ◌+◌, ◌*◌, ◌/◌, ◌%◌, ◌≤◌, ◌∷◌, [], length, map, cond, true, false, IsTrue, ◌↔◌};
+ghost use Rattle.std.specs.Prelude.{◌≡◌, ◌+◌, ◌/◌, ◌%◌, ◌≤◌, ◌∷◌, [], length, map, cond, true, false};
 ghost use Rattle.wiring.specs.Lists.{total};
-ghost use Rattle.bits_core.specs.Word.{number, bits, bits_of_ℤ, flag, copies, sub, same_word, less, signed_less, order, parity};
+ghost use Rattle.bits_core.specs.Word.{number, bits, bits_of_ℤ, flag, copies, sub, less, signed_less, parity};
 ghost use Rattle.bits_core.specs.Word.{extract as bits_from};
 ghost use Rattle.hw_model.specs.Types.HwType.{int};
 ghost use Rattle.hw_model.specs.KindViews.{kind_of, predicate_of, integer_of};

@@ -2,7 +2,6 @@
 ghost use Rattle.std.specs.Prelude.{◌≡◌, map};
 ghost use Rattle.std.specs.Cmp.Lexicographic.{pointwise};
 ghost use Rattle.hw_model.specs.Design.{same_name};
-ghost use Rattle.hw_model.specs.Opcodes.{opcode_of};
 ghost use Rattle.hw_model.specs.KindViews.{kind_of, predicate_of, reset_of, integer_of, literal_of, literals_of, literals_in, instance_of};
 ghost use Rattle.hw_model.specs.SameKind.{predicate_number, same_opcode, same_literal, same_literals, same_optional_name, same_instance, is_icmp, is_extract, is_constant, is_aggregate_constant, is_struct_extract, is_struct_inject, is_instance, is_register, is_async_firreg};
 

@@ -1,5 +1,5 @@
 //! Where modules are found whose bodies are put into others.
-ghost use Rattle.std.specs.Prelude.{◌≡◌, ℕ, List, Option, option_map};
+ghost use Rattle.std.specs.Prelude.{◌≡◌, Option, option_map};
 ghost use Rattle.hw_model.specs.Types.{Name};
 ghost use Rattle.hw_model.specs.Design as model;
 ghost use Rattle.ir_store.specs.Designs.{design_of};

@@ -1,5 +1,5 @@
 //! Orders of a design's modules in which each stands after those that it instances.
-ghost use Rattle.std.specs.Prelude.{◌≡◌, ◌<◌, ℕ, [], length, IfOk, MatchBool};
+ghost use Rattle.std.specs.Prelude.{◌≡◌, ◌<◌, ℕ, length, IfOk, MatchBool};
 ghost use Rattle.wiring.specs.Wiring.{In};
 ghost use Rattle.graphs.specs.Graphs.{lists_of};
 ghost use Rattle.hw_model.specs.Hierarchy.{HasNoRecursion};

@@ -1,5 +1,5 @@
 //! Bodies of private modules that came from elsewhere, put where one body instances these modules.
-ghost use Rattle.std.specs.Prelude.{◌≡◌, ℕ, [], length, cond, nat_eq, IfOk, OnOk};
+ghost use Rattle.std.specs.Prelude.{◌≡◌, ℕ, length, IfOk, OnOk};
 ghost use Rattle.ir_store.specs.Designs.{modules_of};
 ghost use Rattle.hw_model.specs.Design as model;
 ghost use Rattle.inline_pass.specs.Received.{held, held_with, AreHeld, received_look};

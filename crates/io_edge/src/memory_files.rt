@@ -1,7 +1,7 @@
 //! Files in memory.
 ghost use Rattle.std.specs.Prelude.{◌≡◌, ◌≤◌, Some, take, length, option_copied, IfOk, OnOk, OnErr};
-ghost use Rattle.io_edge.specs.Reading.{Reads, HasNamedCause, file_at};
-ghost use Rattle.io_edge.specs.Writing.{Writes, with_file, place_in};
+ghost use Rattle.io_edge.specs.Reading.{file_at};
+ghost use Rattle.io_edge.specs.Writing.{with_file, place_in};
 ghost use Rattle.io_edge.specs.FilesState.{without_faults, expected_read, after_read, IsAnswer, fails_next, after_write, IsWriteAnswer};
 ghost use Rattle.io_edge.specs.Listed.{file_list};
 

@@ -1,5 +1,5 @@
 //! Dictionaries: attributes by name (MLIR language reference: attributes).
-ghost use Rattle.std.specs.Prelude.{◌≡◌, [], map, IfOk};
+ghost use Rattle.std.specs.Prelude.{◌≡◌, [], IfOk};
 ghost use Rattle.ir_store.specs.DictionaryViews.{attribute_of, attributes_in, entry_of, entries_in};
 
 use hw_model::kinds::Integer;

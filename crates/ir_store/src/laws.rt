@@ -1,8 +1,6 @@
 //! The laws on what a change of a body does to its operations by positions, each a clause of a function that does nothing.
 
-ghost use Rattle.std.specs.Prelude.{◌≡◌, ℕ, List, [], ◌∷◌, ◌++◌, Some, None, map, Contains, insert, remove, slice_set, slice_get, option_map, option_and_then};
-ghost use Rattle.hw_model.specs.Design.{Ref, find_module};
-ghost use Rattle.hw_model.specs.Types.{Name};
+ghost use Rattle.std.specs.Prelude.{◌≡◌, ℕ, List, [], ◌∷◌, ◌++◌, Some, None, map, Contains, insert, remove, slice_set};
 ghost use Rattle.ir_store.specs.declared.operation.OpId.{OpId};
 ghost use Rattle.ir_store.specs.declared.operation.Value.{Value};
 ghost use Rattle.ir_store.specs.declared.body.Body.{Body};

@@ -1,5 +1,5 @@
 //! The ids of a body: the live ones linked in text order, and those that are free.
-ghost use Rattle.std.specs.Prelude.{◌≡◌, ℕ, ◌-◌, ◌<◌, ◌≤◌, ◌^◌, ◌++◌, false, nat_eq, cond, length};
+ghost use Rattle.std.specs.Prelude.{◌≡◌, ℕ, ◌-◌, ◌<◌, ◌≤◌, ◌^◌, ◌++◌, false, length};
 ghost use Rattle.linked_lists.specs.Ids.{times};
 ghost use Rattle.linked_lists.specs.Links.{none, walk, last_of, IsLinked, IsLinked-prop, is_live_at};
 

@@ -1,12 +1,12 @@
 //! The types of an operation's results, by its kind and the types that it writes (CIRCT: operation references of HW, Comb
 //! and Seq).
-ghost use Rattle.std.specs.Prelude.{◌≡◌, ◌∷◌, [], map, min, drop, length, IfOk, Some};
+ghost use Rattle.std.specs.Prelude.{◌≡◌, map, min, drop, length, IfOk, Some};
 ghost use Rattle.std.specs.Option.{option_map};
 ghost use Rattle.hw_model.specs.Types.HwType.{struct};
 ghost use Rattle.hw_model.specs.TypeViews.{type_of, field_of as field_view, fields_of};
 ghost use Rattle.hw_model.specs.KindViews.{kind_of};
 ghost use Rattle.hw_model.specs.Sound.{field_type, field_list};
-ghost use Rattle.ir_store.specs.ResultTypes.{result_type, result_types, first_type, second_type, joined_width, elements_in, length_joined, joined_length, as_int, as_array, array_of, element_of, field_of as field_in, fields_of as fields_in, kept_size};
+ghost use Rattle.ir_store.specs.ResultTypes.{result_type, result_types, joined_width, elements_in, length_joined, joined_length, array_of, element_of, field_of as field_in, fields_of as fields_in, kept_size};
 
 use hw_model::kinds::OpKind;
 use hw_model::types::{Field, Ty};

@@ -1,12 +1,11 @@
 -- The names of leaves, one after another.
-use Rattle.std.proofs.Common.{◌≡◌, ℕ, zero, suc, ◌+◌, ◌<◌, ◌≤◌, Bool, true, false, cond, List, [], ◌∷◌, ◌++◌, length, drop, get_or, map, filter, Some, None, slice_get, refl, sym, ap, subst, ◌∙◌, arith, append_assoc}
-use Rattle.std.specs.Prelude.{not}
+use Rattle.std.proofs.Common.{◌≡◌, ℕ, zero, suc, ◌+◌, ◌<◌, ◌≤◌, Bool, true, false, cond, List, [], ◌∷◌, ◌++◌, length, drop, get_or, map, filter, Some, None, slice_get, refl, sym, ap, ◌∙◌, arith, append_assoc}
 use Rattle.std.proofs.lemmas.List.{append-nil, drop_more}
 use Rattle.hw_model.specs.Types.{Name}
-use Rattle.hw_model.specs.Design.{Port, Op, Module, Design, is_register}
+use Rattle.hw_model.specs.Design.{Port, Op, is_register}
 use Rattle.ir_store.specs.Designs.{port_of}
 use Rattle.ir_store.specs.declared.design.Port.{Port as Stored}
-use Rattle.lec_tool.specs.LeafNames.{register_name, register_names, input_names, is_output_port, is_output_at}
+use Rattle.lec_tool.specs.LeafNames.{register_name, register_names, input_names, is_output_at}
 
 -- what is left from the element at a position on
 left_from : {A : Type 0} (xs : List A) (i : ℕ) (x : A) → slice_get xs i ≡ Some x → drop i xs ≡ x ∷ drop (suc i) xs

@@ -1,12 +1,11 @@
 -- What is compared is not refused.
-use Rattle.std.proofs.Common.{◌≡◌, ℕ, ◌≤◌, [], ◌∷◌, Some, None, refl, sym, ap, ap₂, subst, ◌∙◌, arith}
+use Rattle.std.proofs.Common.{◌≡◌, ℕ, [], ◌∷◌, Some, None, sym, subst, ◌∙◌, arith}
 use Rattle.diag.specs.declared.refusal.Refusal.{Refusal}
 use Rattle.hw_model.specs.Types.{Name}
 use Rattle.hw_model.specs.Design.{Module, Design, find_module}
 use Rattle.miter_blast.proofs.CopyLaw.{copies_once}
 use Rattle.miter_blast.specs.Comparison.{AreComparable}
-use Rattle.miter_blast.specs.ComparisonPrices.{comparison_price}
-use Rattle.miter_blast.specs.Pairs.{AreFound, HaveSamePorts, IsNoPair, no_left, no_right, ports}
+use Rattle.miter_blast.specs.Pairs.{HaveSamePorts, IsNoPair, no_left, no_right, ports}
 use Rattle.miter_blast.specs.Comparisons.{IsPriceOf, IsComparisonRefusal, no_pair, registers, price}
 use Rattle.lec_tool.specs.Verdicts.{IsAffordable}
 

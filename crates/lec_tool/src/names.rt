@@ -1,5 +1,5 @@
 //! The names of the leaves of a module's inputs and registers, as its Verilog has them.
-ghost use Rattle.std.specs.Prelude.{◌≡◌, ◌++◌, map, length, IfOk, OnOk, Some, cond, [], ◌∷◌};
+ghost use Rattle.std.specs.Prelude.{◌≡◌, ◌++◌, IfOk, OnOk, Some, cond, [], ◌∷◌};
 ghost use Rattle.hw_model.specs.Design.{find_module};
 ghost use Rattle.ir_store.specs.Bodies.{ops_of};
 ghost use Rattle.ir_store.specs.Designs.{design_of, ports_in};

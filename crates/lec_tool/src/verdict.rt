@@ -1,5 +1,5 @@
 //! Verdicts.
-ghost use Rattle.std.specs.Prelude.{◌≡◌, ◌≤◌, IfOk, IfErr};
+ghost use Rattle.std.specs.Prelude.{◌≤◌, IfOk, IfErr};
 ghost use Rattle.ir_store.specs.Designs.{design_of};
 ghost use Rattle.miter_blast.specs.Comparisons.{IsRefusedComparison};
 ghost use Rattle.lec_tool.specs.Verdicts.{IsVerdict};

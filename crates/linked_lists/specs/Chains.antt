@@ -1,5 +1,5 @@
 -- Cells that are linked in chains, each with a head.
-use Rattle.std.specs.Prelude.{◌≡◌, ℕ, zero, suc, ◌<◌, ◌≤◌, ◌^◌, Bool, true, false, cond, nat_eq, List, [], ◌∷◌, ◌++◌, Option, Some, None, length, map, slice_index_or}
+use Rattle.std.specs.Prelude.{◌≡◌, ℕ, zero, suc, ◌<◌, ◌≤◌, ◌^◌, Bool, true, false, cond, nat_eq, List, [], ◌∷◌, Option, Some, None, length, map, slice_index_or}
 use Rattle.linked_lists.specs.declared.links.Link.{Link}
 use Rattle.linked_lists.specs.Ids.{times}
 use Rattle.linked_lists.specs.Links.{none, next_at, first_of, IsLinked}

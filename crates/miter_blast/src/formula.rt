@@ -1,7 +1,6 @@
 //! The formula of a circuit's signal.
-ghost use Rattle.std.specs.Prelude.{◌≡◌, ◌+◌, ◌++◌, length, IfOk, OnOk, IsTrue};
-ghost use Rattle.resolution_proof.specs.Formula.{Formula, are_clauses};
-ghost use Rattle.gates.specs.Clauses.{clauses_from};
+ghost use Rattle.std.specs.Prelude.{◌≡◌, ◌+◌, ◌++◌, IfOk, OnOk, IsTrue};
+ghost use Rattle.resolution_proof.specs.Formula.{are_clauses};
 ghost use Rattle.gates.specs.Order.{AreInOrder};
 ghost use Rattle.net_rows.specs.Miters.{signal_clauses};
 ghost use Rattle.miter_blast.specs.Formulas.{circuit_formula};

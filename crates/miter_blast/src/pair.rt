@@ -1,5 +1,5 @@
 //! The two modules that are compared: whether they are there, with ports of the same types.
-ghost use Rattle.std.specs.Prelude.{◌≡◌, ◌<◌, length, map, IfOk, IfErr, Some, slice_get, ◌&&◌};
+ghost use Rattle.std.specs.Prelude.{◌≡◌, ◌<◌, length, map, IfOk, IfErr, Some, slice_get};
 ghost use Rattle.hw_model.specs.TypeViews.{type_of};
 ghost use Rattle.ir_store.specs.Designs.{design_of, ports_in, module_of, numbered_module};
 ghost use Rattle.ir_store.specs.OperationViews.{place_of};

@@ -6,7 +6,7 @@ ghost use Rattle.ir_store.specs.Designs.{ports_in};
 ghost use Rattle.ir_store.specs.Numbered.{ops_by_position};
 ghost use Rattle.hw_model.specs.Types.{width};
 ghost use Rattle.hw_model.specs.TypeViews.{type_of};
-ghost use Rattle.hw_model.specs.Sound.{input_types, output_types};
+ghost use Rattle.hw_model.specs.Sound.{output_types};
 ghost use Rattle.side_gates.specs.FlatSteps.{content_width};
 ghost use Rattle.miter_blast.specs.Leaves.{held_widths, input_widths};
 

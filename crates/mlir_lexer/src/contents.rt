@@ -1,6 +1,6 @@
 //! What names and strings hold.
-ghost use Rattle.std.specs.Prelude.{◌≡◌, ℕ, ◌+◌, ◌<◌, ◌≤◌, List, [], ◌∷◌, ◌++◌, take, drop, length, OnOk, OnErr};
-ghost use Rattle.mlir_lexer.specs.Contents.{hex_value, unescape_byte, decode, unescape, body_of, content_of, Turns, GetsFront};
+ghost use Rattle.std.specs.Prelude.{◌≡◌, ◌+◌, ◌<◌, ◌≤◌, [], ◌++◌, drop, OnOk, OnErr};
+ghost use Rattle.mlir_lexer.specs.Contents.{hex_value, unescape_byte, unescape, body_of, content_of, Turns, GetsFront};
 
 use crate::classes::{Class, Digit, HexDigit};
 use crate::token::{Token, TokenKind};

@@ -1,6 +1,6 @@
 //! What the bytes of a text begin with.
-ghost use Rattle.std.specs.Prelude.{◌≡◌, ℕ, ◌≤◌, length};
-ghost use Rattle.mlir_lexer.specs.Runs.{run, begins};
+ghost use Rattle.std.specs.Prelude.{◌≡◌, ◌≤◌, length};
+ghost use Rattle.mlir_lexer.specs.Runs.{begins};
 ghost use Rattle.mlir_lexer.specs.Strings.{string_length};
 ghost use Rattle.mlir_lexer.specs.Fronts.{mark_of, mark_front, suffix_length, suffix_token, string_token, is_hex_mark, number_front, symbol_front, hash_front, slash_front, minus_front, sign_front, front_of};
 

@@ -1,5 +1,5 @@
 //! Strings: where one ends.
-ghost use Rattle.std.specs.Prelude.{◌≡◌, ℕ, ◌≤◌, length, IfSome};
+ghost use Rattle.std.specs.Prelude.{◌≡◌, ◌≤◌, length, IfSome};
 ghost use Rattle.mlir_lexer.specs.Strings.{is_escape_letter, reading_after, string_length};
 
 use crate::classes::{Class, HexDigit};

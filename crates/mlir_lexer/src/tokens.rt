@@ -1,5 +1,5 @@
 //! The tokens of a text, one at a time.
-ghost use Rattle.std.specs.Prelude.{◌≡◌, ℕ, ◌+◌, ◌<◌, ◌≤◌, List, ◌∷◌, take, drop, length};
+ghost use Rattle.std.specs.Prelude.{◌≡◌, ◌+◌, ◌<◌, ◌≤◌, take, drop, length};
 ghost use Rattle.diag.specs.Place.{place_of, below, further};
 ghost use Rattle.mlir_lexer.specs.Tokens.{tokens, tokens_left, Gives, Reads, lexeme_of, bad_byte};
 

@@ -1,11 +1,10 @@
 //! Instances in a text (CIRCT, HW dialect: `hw.instance`).
 ghost use Rattle.std.specs.Prelude.{◌≡◌, ◌≤◌, ◌++◌, map, length, OnOk, IfOk};
-ghost use Rattle.hw_model.specs.TypeViews.{field_of, type_of};
-ghost use Rattle.hw_model.specs.KindViews.{instance_of};
+ghost use Rattle.hw_model.specs.TypeViews.{field_of};
 ghost use Rattle.ir_store.specs.OperationViews.{types_in};
 ghost use Rattle.mlir_lexer.specs.declared.token.TokenKind.TheVariants as kind;
 ghost use Rattle.mlir_syntax.specs.Reads.{some_items, items_until};
-ghost use Rattle.mlir_operations.specs.ElementText.{input_text, inputs_text, output_text, outputs_text, instance_text, instance_with, with_instance, element_text};
+ghost use Rattle.mlir_operations.specs.ElementText.{input_text, inputs_text, output_text, outputs_text, instance_text, element_text};
 ghost use Rattle.mlir_operations.specs.ElementHeads.{joined_of};
 ghost use Rattle.mlir_syntax.specs.Views.{ReadsAs};
 ghost use Rattle.mlir_operations.specs.Views.{gathered_of, operand_of};

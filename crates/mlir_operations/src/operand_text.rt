@@ -1,7 +1,6 @@
 //! Operands and the names of results in a text (MLIR language reference: "Identifiers and keywords",
 //! "Operations").
-ghost use Rattle.std.specs.Prelude.{◌≡◌, ◌≤◌, length, map, OnOk};
-ghost use Rattle.mlir_syntax.specs.Numerals.{number_in, below, count_limit};
+ghost use Rattle.std.specs.Prelude.{◌≤◌, length, map, OnOk};
 ghost use Rattle.mlir_syntax.specs.Reads.{some_items};
 ghost use Rattle.mlir_operations.specs.OperandText.{value_name, pack_number, operand_text, names_after, results_text, maybe_results};
 ghost use Rattle.mlir_syntax.specs.Views.{ReadsAs};

@@ -1,7 +1,6 @@
 //! Names of operations in a text.
-ghost use Rattle.std.specs.Prelude.{◌≡◌, ◌≢◌, List, ℕ, map, IfSome, IfNone};
+ghost use Rattle.std.specs.Prelude.{◌≡◌, ◌≢◌, map, IfSome, IfNone};
 ghost use Rattle.opcode.specs.Listed.{name_of_listed};
-ghost use Rattle.hw_model.specs.Design.{same_name};
 ghost use Rattle.mlir_syntax.specs.AttributeText.{is_among};
 ghost use Rattle.mlir_operations.specs.OperationText.{class_of, class_of_listed, class_of_other, is_foreign, is_last};
 ghost use Rattle.mlir_operations.specs.NameClasses.{class_seen};

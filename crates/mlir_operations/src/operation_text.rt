@@ -4,7 +4,6 @@ ghost use Rattle.std.specs.Option.{option_map};
 ghost use Rattle.ir_store.specs.DictionaryViews.{entries_in};
 ghost use Rattle.mlir_lexer.specs.Tokens.{lexeme_of};
 ghost use Rattle.mlir_syntax.specs.AttributeHeads.{keys_of};
-ghost use Rattle.mlir_operations.specs.ModuleText.{header};
 ghost use Rattle.mlir_operations.specs.NameClasses.{class_seen};
 ghost use Rattle.mlir_operations.specs.OperationText.{bin_text, form_text, late_dictionary, named_operation, classed_operation, operation_after, operation_text, misplaced_refusal, no_operation, is_outside, other_name};
 ghost use Rattle.mlir_operations.specs.ElementText.{gathered_nothing};

@@ -1,5 +1,5 @@
 //! The types that stand after the colon of an operation (CIRCT: assembly formats of the operations of HW, Comb and Seq).
-ghost use Rattle.std.specs.Prelude.{◌≡◌, ◌≤◌, ◌++◌, ◌∷◌, [], length, Ok, OnOk};
+ghost use Rattle.std.specs.Prelude.{◌≤◌, ◌++◌, ◌∷◌, [], length, Ok, OnOk};
 ghost use Rattle.ir_store.specs.OperationViews.{types_in};
 ghost use Rattle.mlir_lexer.specs.declared.token.TokenKind.TheVariants as kind;
 ghost use Rattle.mlir_operations.specs.ElementText.{further_types, types_text, element_text};

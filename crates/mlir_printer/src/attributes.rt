@@ -1,10 +1,8 @@
 //! Attributes and dictionaries, as they are printed.
-ghost use Rattle.std.specs.Prelude.{◌≡◌, ◌++◌, map, codes, OnOk};
+ghost use Rattle.std.specs.Prelude.{◌≡◌, ◌++◌, map, OnOk};
 ghost use Rattle.hw_model.specs.TypeViews.{type_of};
 ghost use Rattle.hw_model.specs.KindViews.{integer_of};
 ghost use Rattle.ir_store.specs.DictionaryViews.{attribute_of, attributes_of, entry_of};
-ghost use Rattle.mlir_printer.specs.Types.{type_bytes};
-ghost use Rattle.printable_designs.specs.Numbers.{integer_bytes};
 ghost use Rattle.mlir_printer.specs.Attributes.{attribute_bytes, attributes_from, value_bytes, entry_bytes, typed_bytes};
 
 use crate::commas::push_comma;

@@ -2,7 +2,7 @@
 ghost use Rattle.std.specs.Prelude.{◌≡◌, map, drop};
 ghost use Rattle.hw_model.specs.TypeViews.{type_of};
 ghost use Rattle.hw_model.specs.KindViews.{kind_of, reset_of};
-ghost use Rattle.mlir_printer.specs.Elements.{operands_taken, types_taken, left_after};
+ghost use Rattle.mlir_printer.specs.Elements.{operands_taken, types_taken};
 ghost use Rattle.mlir_printer.specs.Texts.{reset_inherent, inherent_shown};
 ghost use Rattle.mlir_printer.specs.Views.{inherent_of};
 

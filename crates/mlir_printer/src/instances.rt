@@ -1,5 +1,5 @@
 //! Instances, as they are printed: what they and their modules are called, their inputs and outputs.
-ghost use Rattle.std.specs.Prelude.{◌≡◌, ◌++◌, map, drop, OnOk};
+ghost use Rattle.std.specs.Prelude.{◌≡◌, ◌++◌, map, OnOk};
 ghost use Rattle.hw_model.specs.TypeViews.{type_of};
 ghost use Rattle.hw_model.specs.KindViews.{instance_of};
 ghost use Rattle.mlir_printer.specs.Commas.{commas};

@@ -1,5 +1,5 @@
 //! The constants of aggregates, as they are printed.
-ghost use Rattle.std.specs.Prelude.{◌≡◌, ◌++◌, map, codes, OnOk};
+ghost use Rattle.std.specs.Prelude.{◌≡◌, ◌++◌, map, OnOk};
 ghost use Rattle.hw_model.specs.TypeViews.{type_of};
 ghost use Rattle.hw_model.specs.KindViews.{integer_of, literal_of, literals_of};
 ghost use Rattle.printable_designs.specs.Numbers.{shown_integer, shown_literal, shown_literals};

@@ -1,5 +1,5 @@
 //! The body of a module in a text, whose names are resolved as they are read (CIRCT, HW dialect: `hw.module`).
-ghost use Rattle.std.specs.Prelude.{◌≡◌, ◌≤◌, length, Ok, OnOk};
+ghost use Rattle.std.specs.Prelude.{◌≤◌, length, Ok, OnOk};
 ghost use Rattle.mlir_operations.specs.ModuleText.{body_text};
 ghost use Rattle.mlir_operations.specs.OperationText.{operations_text};
 ghost use Rattle.mlir_syntax.specs.Views.{ReadsFor};

@@ -1,12 +1,12 @@
 //! The names that a module's text defines, in order.
-ghost use Rattle.std.specs.Prelude.{◌≡◌, ◌<◌, ◌+◌, ◌^◌, ◌++◌, ◌∷◌, replicate, length, map, IfOk, OnOk, All};
+ghost use Rattle.std.specs.Prelude.{◌≡◌, ◌<◌, ◌+◌, ◌^◌, ◌++◌, ◌∷◌, replicate, length, map, IfOk, OnOk};
 ghost use Rattle.std.specs.Option.{option_map};
 ghost use Rattle.hw_model.specs.TypeViews.{type_of, field_of, fields_of};
 ghost use Rattle.hw_model.specs.Sound.{field_list};
-ghost use Rattle.ir_store.specs.ResultTypes.{first_type, field_count, result_count};
+ghost use Rattle.ir_store.specs.ResultTypes.{field_count, result_count};
 ghost use Rattle.mlir_operations.specs.OperandText.{named_count};
 ghost use Rattle.mlir_operations.specs.OperandText.ResultNames.{pack};
-ghost use Rattle.mlir_reader.specs.Resolving.{kind_named, inherent_instance, names_from, with_definitions, port_definition, names_defined, operation_definitions, body_definitions, marks, is_marked};
+ghost use Rattle.mlir_reader.specs.Resolving.{kind_named, inherent_instance, names_from, with_definitions, port_definition, names_defined, operation_definitions, marks, is_marked};
 ghost use Rattle.mlir_operations.specs.Views.{names_of, inherent_of, operation_of};
 ghost use Rattle.mlir_reader.specs.Meanings.{meanings_of, HasFewNames};
 

@@ -1,7 +1,7 @@
 //! What is kept of the dictionary that a text gives, and the names that it holds.
-ghost use Rattle.std.specs.Prelude.{◌≡◌, ◌++◌, map, IfOk, Some};
+ghost use Rattle.std.specs.Prelude.{◌≡◌, map, IfOk};
 ghost use Rattle.ir_store.specs.DictionaryViews.{entry_of, entries_in};
-ghost use Rattle.mlir_reader.specs.Resolving.{without, kept_entries, kept_module_entries, sort_entries};
+ghost use Rattle.mlir_reader.specs.Resolving.{without, kept_entries, sort_entries};
 ghost use Rattle.canonical_form.specs.Dictionaries.{is_dropped};
 
 use canonical_form::dictionaries::is_dropped;

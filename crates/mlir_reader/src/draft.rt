@@ -1,9 +1,8 @@
 //! The body of a module while its text is read.
 ghost use Rattle.std.specs.Prelude.{◌≡◌, ◌≤◌, ◌+◌, ◌∷◌, ◌++◌, [], drop, length, map, IfOk, IfSome, OnOk};
-ghost use Rattle.hw_model.specs.Design.{Op};
 ghost use Rattle.ir_store.specs.Bodies.{ops_of, gaps};
 ghost use Rattle.ir_store.specs.Numbered.{ref_by, op_by};
-ghost use Rattle.mlir_reader.specs.Drafts.{operation_of_draft, found_count};
+ghost use Rattle.mlir_reader.specs.Drafts.{found_count};
 ghost use Rattle.mlir_reader.specs.Held.{IsNumbered, IsSettled, AreSettled, with_operands};
 ghost use Rattle.mlir_reader.specs.Marked.{operation_marked};
 ghost use Rattle.mlir_reader.specs.Meanings.{meanings_of, op_of, HasFewNames};

@@ -1,7 +1,7 @@
 //! The own names of registers and wires.
-ghost use Rattle.std.specs.Prelude.{◌≡◌, map, IfOk};
+ghost use Rattle.std.specs.Prelude.{◌≡◌, IfOk};
 ghost use Rattle.std.specs.Option.{option_map};
-ghost use Rattle.ir_store.specs.DictionaryViews.{attribute_of, entry_of, entries_in};
+ghost use Rattle.ir_store.specs.DictionaryViews.{attribute_of, entries_in};
 ghost use Rattle.mlir_reader.specs.Resolving.{text_in, given_name, unless_digits, first_name, own_name_of};
 ghost use Rattle.mlir_operations.specs.Views.{names_of};
 

@@ -1,9 +1,9 @@
 //! A text as it is read, token by token.
-ghost use Rattle.std.specs.Prelude.{◌≡◌, ◌<◌, ◌≤◌, length, cond, OnOk, IsTrue};
+ghost use Rattle.std.specs.Prelude.{◌≡◌, ◌<◌, length, cond, OnOk, IsTrue};
 ghost use Rattle.std.specs.Option.{option_map};
 ghost use Rattle.mlir_lexer.specs.Tokens.{lexeme_of};
 ghost use Rattle.mlir_syntax.specs.Stream.{stream_of, is_word, first, is_next, is_first, after, refusal_at, unexpected_refusal, refusal, cause_of_first, is_end};
-ghost use Rattle.mlir_lexer.specs.TokenKinds.{tag, is_kind};
+ghost use Rattle.mlir_lexer.specs.TokenKinds.{is_kind};
 ghost use Rattle.mlir_syntax.specs.Heads.{stream_left, symbols};
 ghost use Rattle.mlir_syntax.specs.Reads.{want, want_word};
 ghost use Rattle.mlir_syntax.specs.Views.{ReadsAs};

@@ -8,7 +8,7 @@ ghost use Rattle.mlir_lexer.specs.Tokens.{lexeme_of};
 ghost use Rattle.mlir_lexer.specs.declared.token.TokenKind.TheVariants as kind;
 ghost use Rattle.mlir_syntax.specs.Stream.{first};
 ghost use Rattle.mlir_syntax.specs.Reads.{some_items, items_until};
-ghost use Rattle.mlir_syntax.specs.TypeText.{type_text, any_type, array_text, element_type, element_after, glued_element, width_type, width_digits, after_x, x_rest, named_type, bare_type, type_head, is_name, name_text, field_text, struct_text};
+ghost use Rattle.mlir_syntax.specs.TypeText.{type_text, any_type, array_text, element_type, element_after, glued_element, width_type, width_digits, after_x, x_rest, named_type, type_head, is_name, name_text, field_text, struct_text};
 ghost use Rattle.mlir_syntax.specs.TypeHeads.{head_of};
 ghost use Rattle.mlir_syntax.specs.Views.{ReadsAs};
 

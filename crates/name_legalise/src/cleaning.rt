@@ -1,5 +1,5 @@
 //! Wanted names with the bytes of Verilog names alone.
-ghost use Rattle.std.specs.Prelude.{◌≡◌, ◌++◌, IfOk, IsTrue, map, take};
+ghost use Rattle.std.specs.Prelude.{◌≡◌, IfOk, IsTrue, map};
 ghost use Rattle.verilog_model.specs.Tokens.{is_name_start, is_name_byte};
 ghost use Rattle.verilog_model.specs.Numerals.{all_bytes};
 ghost use Rattle.verilog_model.specs.Checks.{starts_name};

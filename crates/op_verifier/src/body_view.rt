@@ -1,5 +1,5 @@
 //! A module's ports and operations, by which the values of its body are found.
-ghost use Rattle.std.specs.Prelude.{◌≡◌, ℕ, ◌+◌, ◌^◌, ◌<◌, cond, nat_eq, map, length, slice_index_or, IfOk, OnOk};
+ghost use Rattle.std.specs.Prelude.{◌≡◌, ℕ, ◌+◌, ◌^◌, ◌<◌, cond, nat_eq, map, slice_index_or, IfOk, OnOk};
 ghost use Rattle.ir_store.specs.BodyOps.{ids_in};
 ghost use Rattle.ir_store.specs.Bodies.{ops_of};
 ghost use Rattle.op_verifier.specs.Tables.{IsTable};

@@ -1,5 +1,5 @@
 //! The operations of a body as checks go over them: each with its id and the types that it settles for its results.
-ghost use Rattle.std.specs.Prelude.{◌≡◌, [], map, length, IfOk};
+ghost use Rattle.std.specs.Prelude.{◌≡◌, [], map, IfOk};
 ghost use Rattle.ir_store.specs.Bodies.{ops_of, read_op};
 
 use crate::settled_types::Settled;

@@ -1,6 +1,6 @@
 //! Words of any number of bits.
-ghost use Rattle.std.specs.Prelude.{◌≡◌, ◌+◌, ◌-◌, ◌++◌, ◌≤◌, ◌<◌, [], length, take, drop, map, min, IfOk, OnOk, OnErr, MatchOption, IfSome};
-ghost use Rattle.bits_core.specs.Word.{number, zeros, extract, first};
+ghost use Rattle.std.specs.Prelude.{◌≡◌, ◌+◌, ◌-◌, ◌++◌, ◌<◌, [], IfOk, OnOk, OnErr};
+ghost use Rattle.bits_core.specs.Word.{number, zeros, first};
 ghost use Rattle.operation_values.specs.Suits.{IsInteger};
 
 use crate::refusal::Refusal;

@@ -1,6 +1,6 @@
 //! The laws of passes, each a clause of a function that does nothing.
 
-ghost use Rattle.std.specs.Prelude.{◌≡◌, ◌≤◌, ℕ, true, false, List, [], ◌∷◌, ◌++◌, set, Some, slice_get};
+ghost use Rattle.std.specs.Prelude.{◌≡◌, ◌≤◌, ℕ, true, false, List, ◌++◌, set, Some, slice_get};
 ghost use Rattle.hw_model.specs.Types.{Name};
 ghost use Rattle.hw_model.specs.Design.{Ref, Op, Module, Design, is_register, result_type};
 ghost use Rattle.hw_model.specs.Weight.{weight};

@@ -10,7 +10,6 @@ use Rattle.hw_model.specs.Hierarchy.{callee_symbols}
 use Rattle.sched_core.specs.State.{callees_of}
 use Rattle.shared_schedule.specs.Copies.{AreReceived}
 use Rattle.ir_store.specs.declared.body.Body.{Body}
-use Rattle.ir_store.specs.BodyOps.{BodyOp}
 use Rattle.ir_store.specs.Bodies.{ops_of}
 use Rattle.ir_store.specs.Designs.{StoredModule, numbered_module}
 use Rattle.ir_store.specs.Numbered.{ops_by_position}

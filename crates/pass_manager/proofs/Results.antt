@@ -23,11 +23,11 @@ use Rattle.cse_pass.proofs.Following.{changes_follow}
 use Rattle.cse_pass.proofs.Leading.{cse_leads}
 use Rattle.cse_pass.proofs.Once.{once as cse_once}
 use Rattle.aggregate_lower.proofs.LoweringLaw.{lowering_is_after}
-use Rattle.inline_pass.proofs.FlatteningLaw.{flattening_is_after, flattened_once, flattened_fit}
+use Rattle.inline_pass.proofs.FlatteningLaw.{flattening_is_after, flattened_once}
 use Rattle.seq_lower.specs.Lowered.{IsLoweredOf, Lowers}
 use Rattle.seq_lower.proofs.Following.{lowering_keeps}
 use Rattle.seq_lower.proofs.Plain.{lowered_leads}
-use Rattle.inline_pass.proofs.DeadModulesGone.{dce_is_after, without_dead_once, without_dead_fit}
+use Rattle.inline_pass.proofs.DeadModulesGone.{dce_is_after, without_dead_once}
 use Rattle.pass_manager.specs.Results.{IsChosen, IsResult}
 use Rattle.pass_manager.proofs.ChangedBodies.{changed_keeps, modules_once}
 

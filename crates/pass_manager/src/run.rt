@@ -1,5 +1,5 @@
 //! Runs of passes over a design.
-ghost use Rattle.std.specs.Prelude.{◌≡◌, ◌≤◌, IfOk, OnOk};
+ghost use Rattle.std.specs.Prelude.{◌≤◌, IfOk, OnOk};
 ghost use Rattle.ir_store.specs.Designs.{design_of};
 ghost use Rattle.accepted_edits.specs.Keeps.{IsFit};
 ghost use Rattle.pass_pipeline.specs.declared.pass.Pass.TheVariants.{HwLowerAggregates};

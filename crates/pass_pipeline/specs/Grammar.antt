@@ -1,5 +1,5 @@
 -- Whole pipelines, as the symbols of a text (MLIR documentation, "Pass infrastructure": textual pass pipeline specification).
-use Rattle.std.specs.Prelude.{◌≡◌, ℕ, zero, suc, ◌-◌, true, cond, List, [], ◌∷◌, ◌++◌, length, Option, Some, codes}
+use Rattle.std.specs.Prelude.{◌≡◌, ℕ, zero, suc, ◌-◌, true, cond, List, [], ◌∷◌, ◌++◌, length, Some, codes}
 use Rattle.pass_pipeline.specs.Passes.{pass_name, runs_on, pass_named}
 use Rattle.pass_pipeline.specs.Symbols.{is_space, symbol_in}
 use Rattle.pass_pipeline.specs.declared.pass.Pass.{Pass}

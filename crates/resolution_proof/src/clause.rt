@@ -1,7 +1,7 @@
 // Clauses: sets of literals with no variable twice.
 ghost use Rattle.std.specs.Prelude.{◌≡◌, ◌↔◌, List, [], IsTrue, IsSome, IfSome, IfOk};
 ghost use Rattle.resolution_proof.specs.Literal.{holds, mentions, is_once};
-ghost use Rattle.resolution_proof.specs.Clause.{is_within, is_subset};
+ghost use Rattle.resolution_proof.specs.Clause.{is_within};
 
 use crate::literal::Literal;
 use std::alloc::{AllocError, Global};

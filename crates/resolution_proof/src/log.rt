@@ -1,5 +1,5 @@
 // Logs of a solver: learnt clauses, each with the resolutions that give it.
-ghost use Rattle.std.specs.Prelude.{◌≡◌, List, []};
+ghost use Rattle.std.specs.Prelude.{◌≡◌, List};
 
 use crate::clause::Clause;
 use std::alloc::Global;

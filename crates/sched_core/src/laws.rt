@@ -1,6 +1,6 @@
 //! The laws on runs of events, each a clause of a function that does nothing.
 
-ghost use Rattle.std.specs.Prelude.{◌≡◌, ℕ, ◌<◌, ◌≤◌, true, List, [], ◌∷◌, ◌++◌, length};
+ghost use Rattle.std.specs.Prelude.{◌≡◌, ℕ, ◌<◌, ◌≤◌, List, [], ◌∷◌, ◌++◌, length};
 ghost use Rattle.sched_core.specs.declared.event.Event.{Event};
 ghost use Rattle.sched_core.specs.declared.event.Event.TheVariants.{Take};
 ghost use Rattle.sched_core.specs.Sums.{one_if};

@@ -1,8 +1,8 @@
 //! The tables of a new scheduler.
 
-ghost use Rattle.std.specs.Prelude.{◌≡◌, ℕ, ◌+◌, ◌*◌, ◌^◌, ◌<◌, ◌≤◌, length, map, replicate, slice_index_or, slice_set, IfOk, OnOk, cond, [], ◌∷◌, ◌++◌};
+ghost use Rattle.std.specs.Prelude.{◌≡◌, ℕ, ◌+◌, ◌^◌, ◌<◌, length, map, replicate, slice_index_or, slice_set, IfOk, OnOk, cond, [], ◌∷◌, ◌++◌};
 ghost use Rattle.sched_core.specs.declared.parts.Stage.TheVariants.{Waiting};
-ghost use Rattle.sched_core.specs.State.{callees_of, leaves, new_edge, new_worker, no_worker};
+ghost use Rattle.sched_core.specs.State.{leaves, new_edge, new_worker, no_worker};
 ghost use Rattle.sched_core.specs.Counts.{times_in, uses_of};
 ghost use Rattle.sched_core.specs.Runs.{AreCallees};
 

@@ -1,6 +1,6 @@
 //! Whole runs, with their workers in threads: each module is worked once, and the results are those of its number.
 
-ghost use Rattle.std.specs.Prelude.{◌≡◌, ℕ, ◌+◌, ◌<◌, ◌≤◌, IsTrue, IfOk, Some, true, map, length};
+ghost use Rattle.std.specs.Prelude.{◌≡◌, ◌+◌, ◌<◌, ◌≤◌, IsTrue, IfOk, Some, true, map, length};
 ghost use Rattle.shared_schedule.specs.Views.{callees_in};
 ghost use Rattle.sched_core.specs.Runs.{AreCallees};
 ghost use Rattle.sched_core.proofs.Falling.{all_below};

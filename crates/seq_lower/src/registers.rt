@@ -1,5 +1,5 @@
 //! The lowering of registers: muxes in the place of enables and synchronous resets.
-ghost use Rattle.std.specs.Prelude.{◌≡◌, ◌&&◌, ◌∷◌, [], is_none, map, option_map, OnOk, OnErr};
+ghost use Rattle.std.specs.Prelude.{◌≡◌, ◌&&◌, ◌∷◌, is_none, map, option_map, OnOk, OnErr};
 ghost use Rattle.hw_model.specs.RegisterViews.{register_of};
 ghost use Rattle.ir_store.specs.Bodies.{ids_of, ops_of, op_id, first_id};
 ghost use Rattle.body_edits.specs.FitBodies.{IsOfFit};

@@ -1,10 +1,9 @@
 -- The tables of a new schedule: the slots of first edges, and the edges from each module.
-use Rattle.std.proofs.Common.{◌≡◌, ◌≢◌, ℕ, zero, suc, ◌+◌, ◌*◌, ◌^◌, ◌<◌, ◌≤◌, ◌⊎◌, Bool, true, false, ◌&&◌, List, [], ◌∷◌, ◌++◌, map, length, get_or, set, slice_index, refl, sym, ap, subst, ◌∙◌, inl, inr, get_or-set_same, get_or-set_other, mul-le-mul_right, arith}
+use Rattle.std.proofs.Common.{◌≡◌, ◌≢◌, ℕ, zero, suc, ◌+◌, ◌*◌, ◌^◌, ◌<◌, ◌≤◌, ◌⊎◌, Bool, true, false, ◌&&◌, List, [], ◌∷◌, ◌++◌, map, length, get_or, set, slice_index, refl, sym, ap, ◌∙◌, inl, inr, get_or-set_same, get_or-set_other, mul-le-mul_right, arith}
 use Rattle.std.specs.Prelude.{◌==◌, nat_lt}
 use Rattle.std.proofs.lemmas.Bool.{cases_eq, eq-eqb, ne_eqb, lt-ltb, le-ltb}
-use Rattle.std.proofs.lemmas.List.{length-map}
 use lib.Seq.{map-set}
-use Rattle.sched_core.specs.Sums.{sum_below, one_if}
+use Rattle.sched_core.specs.Sums.{one_if}
 use Rattle.sched_core.specs.State.{callees_of, callee}
 use Rattle.sched_core.specs.Runs.{AreCallees}
 use Rattle.sched_core.proofs.EdgeSums.{sum_below-le_each}

@@ -1,5 +1,5 @@
 -- A slot that was lent, exchanged, and is given back.
-use Rattle.std.proofs.Common.{◌≡◌, ℕ, List, [], ◌∷◌, refl, sym, ap, ◌∙◌}
+use Rattle.std.proofs.Common.{◌≡◌, ℕ, List, [], ◌∷◌, sym, ap, ◌∙◌}
 use Rattle.std.specs.Prelude.{Option}
 use Rattle.atomic_table.specs.Table.{Me, rest}
 use Rattle.shared_schedule.specs.declared.slot.Slot.TheVariants.{Stored, Copied}

@@ -4,7 +4,7 @@ use Rattle.std.proofs.lemmas.Bool.{true≢false, false≢true, cases_eq}
 use mathlib.Core.Option.{some, none}
 use lib.ListN.{get_elem?}
 use Rattle.atomic_table.specs.Table as table
-use Rattle.atomic_table.specs.Table.{Me, Act, gives, Valid, Allows, step, rest, put_back}
+use Rattle.atomic_table.specs.Table.{Me, gives, Allows, step, rest, put_back}
 use Rattle.atomic_table.proofs.Lists.{set_here, set_else}
 use Rattle.sched_core.specs.declared.parts.Stage.{Stage}
 use Rattle.sched_core.specs.declared.parts.Stage.TheVariants.{Owed, Taken, Done}
@@ -24,10 +24,10 @@ use Rattle.shared_schedule.specs.declared.view.Hold.{Hold}
 use Rattle.shared_schedule.specs.declared.view.Hold.TheVariants.{Due, Begun, Over}
 use Rattle.shared_schedule.specs.declared.view.Place.TheVariants.{Nowhere, Body, Edge}
 use Rattle.shared_schedule.specs.declared.view.View.{View}
-use Rattle.shared_schedule.specs.Views.{callees_in, last_move, hold_of, is_held, is_over, has_edge, Tells}
+use Rattle.shared_schedule.specs.Views.{callees_in, last_move, hold_of, is_held, has_edge, Tells}
 use Rattle.shared_schedule.specs.Rule.{edge_slot, slots_of, handles_edge, handles_body, Lies, home, BodyFits, EdgeFits, Shows, Rule}
 use Rattle.shared_schedule.specs.Plays.{moved, cleared, GivesBody, GivesEdge}
-use Rattle.shared_schedule.proofs.Staying.{Quiet, told_by, body_still, edge_still, Goes, goes}
+use Rattle.shared_schedule.proofs.Staying.{Quiet, told_by, body_still, edge_still, goes}
 use Rattle.shared_schedule.proofs.Stages.{due-stage, begun-stage, owed-other, taken-other, done-other, quiet-stage, tells-taken, tells-done}
 use Rattle.shared_schedule.proofs.Drawing.{Next, tells-now}
 use Rattle.shared_schedule.proofs.Places.{edge_slot-past, edge_slot-apart, edge_slot-lt, edge-cases, set-read, put_edge-here, put_edge-other}

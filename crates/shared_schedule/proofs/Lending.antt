@@ -6,7 +6,7 @@ use mathlib.Core.Option.{some, none, some-injective}
 use lib.ListN.{get_elem?}
 use prog.Atomic.{either}
 use Rattle.atomic_table.specs.Table as table
-use Rattle.atomic_table.specs.Table.{Me, Act, takes, Valid, Allows, step}
+use Rattle.atomic_table.specs.Table.{Me, takes, Allows, step}
 use Rattle.atomic_table.proofs.Lists.{set_here, set_else, exchanged}
 use Rattle.sched_core.specs.declared.parts.Stage.{Stage}
 use Rattle.sched_core.specs.declared.parts.Stage.TheVariants.{Waiting, Owed, Taken, Done}

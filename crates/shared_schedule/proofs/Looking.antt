@@ -1,21 +1,19 @@
 -- A look at the table changes nothing, and shows that the lists of a view agree.
-use Rattle.std.proofs.Common.{◌≡◌, ◌≢◌, ℕ, Bool, true, false, cond, ◌&&◌, List, set, Option, Some, slice_index, refl, sym, ap, subst, ◌∙◌}
-use Rattle.std.proofs.lemmas.Bool.{true≢false, false≢true, false_from_ne_true}
-use mathlib.Core.Option.{some, none}
-use lib.ListN.{get_elem?}
+use Rattle.std.proofs.Common.{◌≡◌, ◌≢◌, ℕ, Bool, true, false, ◌&&◌, set, Option, Some, refl, sym, ap, subst, ◌∙◌}
+use Rattle.std.proofs.lemmas.Bool.{false≢true, false_from_ne_true}
+use mathlib.Core.Option.{none}
 use Rattle.atomic_table.specs.Table as table
 use Rattle.atomic_table.specs.Table.{Me, keeps, Allows, step}
 use Rattle.atomic_table.proofs.Lists.{set_again}
 use Rattle.sched_core.specs.declared.parts.Stage.{Stage}
 use Rattle.sched_core.specs.declared.parts.Stage.TheVariants.{Waiting, Owed, Taken, Done}
-use Rattle.sched_core.specs.State.{State, callee, IsEdge, is_waiting, is_begun, is_emptied}
+use Rattle.sched_core.specs.State.{State, callee, is_waiting, is_begun, is_emptied}
 use Rattle.sched_core.specs.Sound.{Sound}
 use Rattle.sched_core.proofs.Edges.{reported_unless_waiting}
 use Rattle.shared_schedule.specs.declared.plan.Plan.{Plan}
 use Rattle.shared_schedule.specs.declared.slot.Slot.{Slot}
-use Rattle.shared_schedule.specs.declared.view.Hold.TheVariants.{Due}
 use Rattle.shared_schedule.specs.declared.view.View.{View}
-use Rattle.shared_schedule.specs.Views.{callees_in, last_move, hold_of, is_held, is_over, has_edge, Tells}
+use Rattle.shared_schedule.specs.Views.{callees_in, hold_of, is_held, is_over, has_edge, Tells}
 use Rattle.shared_schedule.specs.Rule.{Shows, Rule}
 use Rattle.shared_schedule.specs.Seats.{Agrees}
 use Rattle.shared_schedule.specs.Plays.{Looks}

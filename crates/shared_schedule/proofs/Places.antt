@@ -1,9 +1,9 @@
 -- The slots of modules and of edges are apart.
-use Rattle.std.proofs.Common.{◌≡◌, ◌≢◌, ℕ, zero, suc, ◌+◌, ◌<◌, ◌≤◌, ◌⊎◌, List, [], ◌∷◌, length, get_or, set, refl, sym, ap, ◌∙◌, inl, inr, arith}
-use Rattle.std.proofs.lemmas.Bool.{cases_eq, cases_order}
+use Rattle.std.proofs.Common.{◌≡◌, ◌≢◌, ℕ, zero, suc, ◌+◌, ◌<◌, ◌≤◌, ◌⊎◌, List, [], ◌∷◌, length, get_or, set, refl, ap, ◌∙◌, inl, inr, arith}
+use Rattle.std.proofs.lemmas.Bool.{cases_eq}
 use Rattle.sched_core.specs.Sums.{sum_below}
 use Rattle.sched_core.specs.declared.parts.Edge.{Edge}
-use Rattle.sched_core.specs.State.{callees_of, callee, IsEdge}
+use Rattle.sched_core.specs.State.{callees_of, IsEdge}
 use Rattle.sched_core.proofs.EdgeSums.{edge_within}
 use Rattle.sched_core.proofs.Edges.{put_edge, put_edge_cases}
 use Rattle.sched_core.proofs.Puts.{put-here}

@@ -1,20 +1,20 @@
 -- An edge is reported, with a copy put on it: that keeps the rule.
-use Rattle.std.proofs.Common.{◌≡◌, ◌≢◌, ℕ, zero, suc, ◌+◌, ◌-◌, ◌%◌, ◌<◌, ◌≤◌, ◌⊎◌, Bool, true, false, cond, ◌&&◌, List, [], ◌∷◌, length, get_or, set, Option, Some, slice_index, refl, sym, ap, subst, ◌∙◌, inl, inr, length-set, get_or-set_same, get_or-set_other, mod-eq_of_lt, arith}
+use Rattle.std.proofs.Common.{◌≡◌, ◌≢◌, ℕ, zero, suc, ◌+◌, ◌-◌, ◌%◌, ◌<◌, ◌⊎◌, true, false, ◌&&◌, List, [], ◌∷◌, length, set, Option, Some, slice_index, refl, sym, ap, subst, ◌∙◌, inl, inr, length-set, get_or-set_same, get_or-set_other, mod-eq_of_lt, arith}
 use Rattle.std.specs.Prelude.{◌==◌}
-use Rattle.std.proofs.lemmas.Bool.{true≢false, false≢true, cases_eq, eq-eqb, ne_eqb, cond-true, cond-false}
+use Rattle.std.proofs.lemmas.Bool.{true≢false, cases_eq, eq-eqb, ne_eqb, cond-true, cond-false}
 use native.Mathlib.Nat.{add-mod_right}
 use mathlib.Core.Option.{some, none}
 use lib.ListN.{get_elem?}
 use Rattle.atomic_table.specs.Table as table
-use Rattle.atomic_table.specs.Table.{Me, Act, gives, Valid, Allows, step, rest, put_back}
+use Rattle.atomic_table.specs.Table.{Me, gives, Allows, step, rest, put_back}
 use Rattle.atomic_table.proofs.Lists.{set_here, set_else}
 use Rattle.sched_core.specs.declared.parts.Stage.{Stage}
 use Rattle.sched_core.specs.declared.parts.Stage.TheVariants.{Waiting, Owed, Done}
 use Rattle.sched_core.specs.declared.parts.Fill.TheVariants.{Empty, Full}
 use Rattle.sched_core.specs.declared.parts.Edge.{Edge as EdgeState}
-use Rattle.sched_core.specs.declared.event.Event.TheVariants.{PutEdge, Report}
+use Rattle.sched_core.specs.declared.event.Event.TheVariants.{PutEdge}
 use Rattle.sched_core.specs.Sums.{put}
-use Rattle.sched_core.specs.State.{State, callee, IsEdge, is_waiting, is_emptied}
+use Rattle.sched_core.specs.State.{State, callee, IsEdge, is_emptied}
 use Rattle.sched_core.specs.Events.{step as step_of, stages_after_report}
 use Rattle.sched_core.specs.Sound.{Sound}
 use Rattle.sched_core.proofs.EdgeSums.{edge_within}
@@ -31,8 +31,8 @@ use Rattle.shared_schedule.specs.declared.view.View.{View}
 use Rattle.shared_schedule.specs.Views.{callees_in, last_move, hold_of, is_held, is_over, has_edge, Tells}
 use Rattle.shared_schedule.specs.Rule.{edge_slot, handles_edge, Lies, home, BodyFits, EdgeFits, Shows, Rule}
 use Rattle.shared_schedule.specs.Plays.{reported, Reports}
-use Rattle.shared_schedule.proofs.Staying.{Quiet, tells_still, told_by, body_still, edge_still, Goes, goes}
-use Rattle.shared_schedule.proofs.Stages.{over-stage, owed-other, done-own, done-other, tells-owed}
+use Rattle.shared_schedule.proofs.Staying.{Quiet, tells_still, told_by, body_still, edge_still, goes}
+use Rattle.shared_schedule.proofs.Stages.{over-stage, owed-other, done-other, tells-owed}
 use Rattle.shared_schedule.proofs.Drawing.{Next, tells-now}
 use Rattle.shared_schedule.proofs.Places.{edge_slot-past, edge_slot-apart, edge-cases, put_edge-here, put_edge-other}
 use Rattle.shared_schedule.proofs.Filling.{quiet-edge, tells-told}

@@ -1,5 +1,5 @@
 -- What each step of a worker changes in its view, and what it tells.
-use Rattle.std.specs.Prelude.{◌≡◌, ℕ, ◌+◌, Bool, true, cond, ◌==◌, List, [], ◌∷◌, Option, Some, None, slice_get}
+use Rattle.std.specs.Prelude.{◌≡◌, ℕ, ◌+◌, Bool, true, cond, ◌==◌, ◌∷◌, Option, Some, None, slice_get}
 use Rattle.atomic_table.specs.Table.{Step, Me, rest}
 use Rattle.sched_core.specs.State.{callee, leaves}
 use Rattle.shared_schedule.specs.declared.plan.Plan.{Plan}

@@ -1,5 +1,5 @@
 -- The rule of the shared table: what holds between any two steps.
-use Rattle.std.specs.Prelude.{◌≡◌, ◌≢◌, ℕ, ◌+◌, ◌<◌, ◌⊎◌, Bool, true, false, cond, List, [], ◌∷◌, Option, Some, None, length, map, slice_index, sum_by}
+use Rattle.std.specs.Prelude.{◌≡◌, ℕ, ◌+◌, ◌<◌, Bool, true, false, cond, List, Option, length, slice_index, sum_by}
 use mathlib.Core.Option.{none, some}
 use lib.ListN.{get_elem?}
 use Rattle.atomic_table.specs.Table as table
@@ -15,7 +15,7 @@ use Rattle.shared_schedule.specs.declared.plan.Plan.{Plan}
 use Rattle.shared_schedule.specs.declared.slot.Slot.{Slot}
 use Rattle.shared_schedule.specs.declared.slot.Slot.TheVariants.{Stored, Away, Made, Bare, Copied, Cleared}
 use Rattle.shared_schedule.specs.declared.view.Place.{Place}
-use Rattle.shared_schedule.specs.declared.view.Place.TheVariants.{Nowhere, Body, Edge}
+use Rattle.shared_schedule.specs.declared.view.Place.TheVariants.{Body, Edge}
 use Rattle.shared_schedule.specs.declared.view.View.{View}
 use Rattle.shared_schedule.specs.Views.{callees_in, hold_of, is_held, is_over, ToldBy}
 

@@ -1,6 +1,6 @@
 //! Workers in threads, and the whole run.
 
-ghost use Rattle.std.specs.Prelude.{◌≡◌, ℕ, ◌+◌, ◌-◌, ◌<◌, ◌≤◌, true, false, [], Some, length, map, slice_get, IfOk};
+ghost use Rattle.std.specs.Prelude.{◌≡◌, ℕ, ◌+◌, ◌-◌, ◌<◌, ◌≤◌, true, [], Some, length, map, slice_get, IfOk};
 ghost use Rattle.std.specs.Thread.{IsSync};
 ghost use Rattle.sched_core.specs.Runs.{AreCallees};
 ghost use Rattle.shared_schedule.specs.Views.{callees_in};

@@ -10,7 +10,6 @@ ghost use Rattle.sched_core.specs.Runs.{AreCallees};
 ghost use Rattle.shared_schedule.specs.declared.slot.Slot.TheVariants.{Made};
 ghost use Rattle.shared_schedule.specs.Views.{callees_in, new_view, done_times};
 ghost use Rattle.shared_schedule.specs.Seats.{IsIdle, IsFinished};
-ghost use Rattle.shared_schedule.specs.Opened.{AreFirstWords, AreFirstSlots};
 
 use crate::making;
 use crate::pieces::Pieces;

@@ -1,10 +1,10 @@
 //! A worker's loop.
 
-ghost use Rattle.std.specs.Prelude.{◌≡◌, ℕ, ◌+◌, ◌<◌, true, false, cond, [], ◌∷◌, ◌++◌, List, Some, length, map, slice_index_or, IfOk, OnOk};
+ghost use Rattle.std.specs.Prelude.{◌≡◌, ℕ, ◌+◌, ◌<◌, false, cond, [], ◌∷◌, ◌++◌, List, Some, length, map, slice_index_or, IfOk, OnOk};
 ghost use Rattle.sched_core.specs.State.{IsEdge, callees_of};
 ghost use Rattle.shared_schedule.specs.declared.view.Hold.TheVariants.{Begun};
 ghost use Rattle.shared_schedule.specs.Views.{callees_in, last_move, has_edge};
-ghost use Rattle.shared_schedule.specs.Seats.{IsIdle, IsFinished};
+ghost use Rattle.shared_schedule.specs.Seats.{IsIdle};
 ghost use Rattle.shared_schedule.specs.Copies.{AreReceived, AreCopies};
 ghost use Rattle.shared_schedule.specs.Working.{IsBetween, IsTelling, GoesOn, IsEmptied, IsReady, IsDone, open_modules};
 

@@ -1,5 +1,5 @@
 //! An order of a body's operations in which each stands after those whose results it takes.
-ghost use Rattle.std.specs.Prelude.{◌≡◌, ◌<◌, ℕ, List, length, map, IfOk, MatchBool, slice_get};
+ghost use Rattle.std.specs.Prelude.{◌≡◌, ◌<◌, ℕ, length, map, IfOk, MatchBool, slice_get};
 ghost use Rattle.std.specs.List.{list_all};
 ghost use Rattle.wiring.specs.Wiring.{In};
 ghost use Rattle.ir_store.specs.Bodies.{ids_of, ops_of};

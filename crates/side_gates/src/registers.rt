@@ -1,5 +1,5 @@
 //! What the registers of a flat body hold: once asynchronous resets have loaded them, and after a step.
-ghost use Rattle.std.specs.Prelude.{◌≡◌, ℕ, ◌<◌, ◌≤◌, ◌+◌, length, map, take, drop, slice_get, slice_index_or, IfOk, Some, option_map};
+ghost use Rattle.std.specs.Prelude.{◌≡◌, ◌<◌, ◌≤◌, length, take, drop, slice_get, slice_index_or, IfOk, Some, option_map};
 ghost use Rattle.gates.specs.Circuits.{Runs};
 ghost use Rattle.hw_model.specs.Flat.{held_width, width_of, async_reset_in};
 ghost use Rattle.wiring.specs.Options.{omap};

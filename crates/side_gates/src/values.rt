@@ -1,7 +1,7 @@
 //! The signals of the values of a flat body.
-ghost use Rattle.std.specs.Prelude.{◌≡◌, ◌<◌, ◌+◌, [], length, map, take, drop, replicate, slice_get, slice_index_or, IfOk, ◌∷◌};
+ghost use Rattle.std.specs.Prelude.{◌≡◌, ◌<◌, [], length, map, take, drop, slice_get, slice_index_or, IfOk};
 ghost use Rattle.gates.specs.Circuits.{Runs};
-ghost use Rattle.hw_model.specs.Design.{is_register, is_output_op};
+ghost use Rattle.hw_model.specs.Design.{is_register};
 ghost use Rattle.hw_model.specs.Flat.{held_width};
 ghost use Rattle.ir_store.specs.Bodies.{ids_of, ops_of};
 ghost use Rattle.ir_store.specs.Numbered.{position_of, ref_by, ops_by_position};

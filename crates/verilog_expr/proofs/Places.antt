@@ -10,7 +10,7 @@ use Rattle.verilog_expr.specs.Signs.{is_signed_order, is_unsigned_place}
 use Rattle.verilog_expr.specs.declared.form.Operator.{Operator}
 use Rattle.verilog_expr.specs.declared.form.Operator.TheVariants as signs
 use Rattle.verilog_expr.specs.declared.form.Form.{Form}
-use Rattle.verilog_expr.specs.declared.form.Form.TheVariants.{Same, Chain, UnsignedShift, SignedShift, UnsignedDivision, SignedDivision, Parity, Braces, Copies, Choice}
+use Rattle.verilog_expr.specs.declared.form.Form.TheVariants.{Same, Chain, Parity, Braces, Copies, Choice}
 use Rattle.verilog_expr.specs.declared.template.Template.TheVariants.{Missing, Select, Operands}
 
 module _ (f : Form) (i : ℕ) (other : f ≡ Same → ⊥) where

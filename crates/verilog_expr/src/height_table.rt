@@ -1,5 +1,5 @@
 //! Heights of a body's operations: how deep the expression of each would be.
-ghost use Rattle.std.specs.Prelude.{◌≡◌, ◌<◌, ◌≤◌, ℕ, length, None, Some, is_some, true, IfOk, slice_index_or};
+ghost use Rattle.std.specs.Prelude.{◌≡◌, ◌<◌, ℕ, length, None, Some, is_some, true, IfOk};
 ghost use Rattle.wiring.specs.Wiring.{IsAcyclic};
 ghost use Rattle.hw_model.specs.Design.Ref.{result as result_of};
 ghost use Rattle.verilog_expr.specs.Scopes.{scope_ports, scope_ops, scope_ref};

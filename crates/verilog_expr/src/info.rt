@@ -2,7 +2,6 @@
 ghost use Rattle.std.specs.Prelude.{◌≡◌, ◌++◌, [], option_map, false, None, OnOk};
 ghost use Rattle.verilog_model.specs.Grammar.{level};
 ghost use Rattle.verilog_model.specs.Expression.{is_signed};
-ghost use Rattle.verilog_expr.specs.Scopes.{scope_ports, scope_ops};
 ghost use Rattle.verilog_expr.specs.Templates.{template_signed, template_level, form_signed, form_level};
 ghost use Rattle.verilog_expr.specs.ExprNode.{expr_at, exprs_at, sole_name, IsOnly, name_of_one, wrap_for, open_text, close_text};
 

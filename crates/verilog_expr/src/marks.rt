@@ -1,8 +1,7 @@
 //! Which values of a body are used twice, cut or joined to an instance, by one pass over all operands.
 ghost use Rattle.std.specs.Prelude.{◌≡◌, ◌<◌, ℕ, length, map, IfOk, is_some};
-ghost use Rattle.hw_model.specs.Design.{result_type, instance_in};
+ghost use Rattle.hw_model.specs.Design.{instance_in};
 ghost use Rattle.hw_model.specs.Design.Ref.{result as result_of};
-ghost use Rattle.hw_model.specs.Flat.{width_of};
 ghost use Rattle.hw_model.specs.KindViews.{kind_of};
 ghost use Rattle.verilog_expr.specs.Spilling.{is_narrower};
 ghost use Rattle.verilog_expr.specs.Expressions.{value_width};

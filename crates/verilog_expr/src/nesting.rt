@@ -1,5 +1,5 @@
 //! What the operations of a body are to those that use them.
-ghost use Rattle.std.specs.Prelude.{◌≡◌, ◌<◌, ◌||◌, not, ℕ, length, map, IfOk, is_some, codes};
+ghost use Rattle.std.specs.Prelude.{◌≡◌, ◌<◌, ◌||◌, not, length, map, IfOk, is_some, codes};
 ghost use Rattle.hw_model.specs.Design.{register_form, instance_in, is_output_kind};
 ghost use Rattle.hw_model.specs.KindViews.{kind_of};
 ghost use Rattle.ir_store.specs.DictionaryViews.{entry_of, attribute_of};

@@ -1,5 +1,5 @@
 //! The names of a body's values, as they are printed.
-ghost use Rattle.std.specs.Prelude.{◌≡◌, option_map, slice_get};
+ghost use Rattle.std.specs.Prelude.{◌≡◌, option_map};
 ghost use Rattle.verilog_expr.specs.Scopes.{scope_ref};
 ghost use Rattle.verilog_expr.specs.Named.{name_in, result_name};
 

@@ -1,6 +1,5 @@
 //! Values of expressions (IEEE 1364-2005, 5.4: bit lengths; 5.5: signed expressions), by the widths and signs of their parts.
 //! Words have 1 to 128 bits.
-ghost use Rattle.std.specs.Prelude.{◌≡◌, length};
 
 use crate::fault::{Fault, require_some};
 use crate::shapes::{Shape, own_shapes, pushed_shapes};

@@ -1,6 +1,6 @@
 -- A register of eight bits with an asynchronous reset: its text, tree and steps, computed, and those of one whose reset is
 -- asked at the rise of its clock.
-use Rattle.std.proofs.Common.{◌≡◌, ℕ, zero, suc, Bool, true, false, List, [], ◌∷◌, Some, None, refl, codes}
+use Rattle.std.proofs.Common.{◌≡◌, ℕ, zero, suc, Bool, true, false, List, [], ◌∷◌, None, refl, codes}
 use Rattle.bits_core.specs.Word.{Word, bits}
 use Rattle.verilog_model.specs.Tree.{Load, Block, Tree}
 use Rattle.verilog_model.specs.Tree.Expr.{name, literal}

@@ -1,5 +1,4 @@
 //! Worked runs of registers with a second event (IEEE 1364-2005, 9.7.2 and 9.7.3: event control, event `or`).
-ghost use Rattle.std.specs.Prelude.{◌≡◌, length};
 
 use bits_core::Bits;
 use std::alloc::{AllocGlobal, Global};

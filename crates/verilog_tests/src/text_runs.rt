@@ -1,5 +1,4 @@
 //! Worked values of texts (IEEE 1364-2005, 5.1, 5.4, 5.5, 6.1, 9.2.2, 12.3), in hexadecimal.
-ghost use Rattle.std.specs.Prelude.{◌≡◌, length};
 
 use bits_core::Bits;
 use std::alloc::{AllocGlobal, Global};

@@ -7,7 +7,7 @@ use Rattle.hw_model.specs.Kinds.{Instance}
 use Rattle.hw_model.specs.Design.{Ref, Port, OpResult, Op, Module, Design, RegisterForm, same_name, find_module, instance_in, register_form, result_type, output_refs}
 use Rattle.hw_model.specs.Design.Ref.{result}
 use Rattle.hw_model.specs.Equality.{name_self, name_from}
-use Rattle.hw_model.specs.Flat.{Path, width_of, module_at, instance_state, op_state, body_state, module_state, state_of, state, base, before_instance, state_before, held_width, Register, ResetBy, register_in, async_reset_in}
+use Rattle.hw_model.specs.Flat.{Path, width_of, module_at, instance_state, op_state, body_state, module_state, state_of, state, base, before_instance, state_before, held_width, Register, register_in, async_reset_in}
 use Rattle.hw_model.proofs.Sorts.{Sort, sort_of}
 use Rattle.hw_model.proofs.Sorts.Sort.{a_register, an_instance as is_an_instance, an_output, a_made}
 use Rattle.hw_model.proofs.Content.{before_position}
@@ -20,7 +20,7 @@ use Rattle.export_verilog.specs.Identifiers.Identifier.{port_identifier, value_i
 use Rattle.export_verilog.specs.Identifiers.Emission.{inline, as_wire, as_reg, as_instance}
 use Rattle.export_verilog.specs.Exported.{symbol_name, expression, result_wires, declared_as, declares, module_block, always_of, instance_of, stated_as, states, output_assigns, expr_or_none, others, vitems, vmodule, tree_of}
 use Rattle.export_verilog.proofs.names.IdentifierNames.{AreNames, texts_apart}
-use Rattle.export_verilog.proofs.names.IdentifiersOf.{emission_of_register, emission_of_instance, emission_of_output, emission_of_made, instance_of_emission, register_of_emission, variable_in, instance_in_identifiers}
+use Rattle.export_verilog.proofs.names.IdentifiersOf.{emission_of_register, emission_of_instance, emission_of_output, emission_of_made, instance_of_emission, variable_in, instance_in_identifiers}
 use Rattle.export_verilog.proofs.names.Symbols.{vmodule_found}
 use Rattle.export_verilog.proofs.items.Lookups.{width_under}
 use Rattle.export_verilog.proofs.items.Settings.{Setting, Called, called_by_emission, module_ok, result_at_first}

@@ -9,14 +9,13 @@ use Rattle.hw_model.specs.Types.{Name, HwType, width}
 use Rattle.hw_model.specs.Design.{Ref, Port, Op, Module, Design, find_module, instance_in, register_form, result_type, output_refs, callee}
 use Rattle.hw_model.specs.Design.Ref.{port, result, undefined}
 use Rattle.hw_model.specs.Value.{op_value}
-use Rattle.hw_model.specs.Flat.{Path, Net, net as at, Source, source, module_at, instances, width_of, input_width, input_of, input_source, copy_of, joined_ref, joined_at, operand_for, input_count, given_ref, held_of, made_of, result_source, offset}
+use Rattle.hw_model.specs.Flat.{Path, Net, net as at, source, module_at, instances, input_width, input_of, input_source, copy_of, joined_ref, joined_at, operand_for, input_count, held_of, made_of, result_source, offset}
 use Rattle.hw_model.specs.Flat.Source.{nowhere, op_result, input as from_input}
 use Rattle.hw_model.specs.Meaning.{needs, needs_of, Settled}
 use Rattle.hw_model.specs.Sound.{type_in, input_type, output_types}
 use Rattle.hw_model.proofs.Sorts.{Sort, sort_of}
 use Rattle.hw_model.proofs.Sorts.Sort.{a_register, an_instance as is_an_instance, an_output, a_made}
-use Rattle.verilog_model.specs.Hierarchy.{VPath, VNet, vnet, Drive, drive, drive_at, vmodule_at, width_at}
-use Rattle.verilog_model.specs.Hierarchy.Drive.{nothing}
+use Rattle.verilog_model.specs.Hierarchy.{VNet, vnet}
 use Rattle.verilog_model.specs.Meaning.{names_at, drive_value, TreeSettled}
 use Rattle.verilog_expr.specs.Spilling.{is_pure}
 use Rattle.verilog_expr.specs.Values.{is_division, HoldConstants}
@@ -24,7 +23,7 @@ use Rattle.verilog_expr.proofs.Bodies.{gives_values-pure, map_map}
 use Rattle.export_verilog.specs.Identifiers.{Identifier, emission_of, module_identifiers, identifier_text, value_name}
 use Rattle.export_verilog.specs.Identifiers.Identifier.{port_identifier, value_identifier, instance_identifier}
 use Rattle.export_verilog.specs.Identifiers.Emission.{as_wire}
-use Rattle.export_verilog.specs.Exported.{symbol_name, expression, vmodule, tree_of}
+use Rattle.export_verilog.specs.Exported.{symbol_name, vmodule, tree_of}
 use Rattle.export_verilog.proofs.names.IdentifiersOf.{Owner, owner_of, register_of_emission, instance_of_emission, port_in, net_in}
 use Rattle.export_verilog.proofs.names.IdentifiersOf.Owner.{a_port, a_net, a_variable, an_instance, a_result}
 use Rattle.export_verilog.proofs.items.Items.{output_count}

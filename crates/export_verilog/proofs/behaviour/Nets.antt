@@ -7,7 +7,7 @@ use Rattle.hw_model.specs.Design.{Port, OpResult, Op, Module, Design, same_name,
 use Rattle.hw_model.specs.Design.Ref.{result}
 use Rattle.hw_model.specs.Equality.{name_self, name_from}
 use Rattle.hw_model.specs.Flat.{Path, module_at, width_of, base, body_state, state, input_count, input_width}
-use Rattle.verilog_model.specs.Tree.{Expr, VPort, VModule, Connection}
+use Rattle.verilog_model.specs.Tree.{Expr, VModule}
 use Rattle.verilog_model.specs.Hierarchy.{VPath, vnet, Drive, drive, drive_at, drive_in, inner_drive, drive_or_nothing, input_drive, connection_drive, drive_of_connection, find_port, find_instance, find_connection, vmodule_at, width_in, width_at, range_width, input_width_before}
 use Rattle.verilog_model.specs.Hierarchy.Drive.{nothing, input, held, expression as driven_by, net as driven_from}
 use Rattle.verilog_expr.specs.Numerals.{high_of}

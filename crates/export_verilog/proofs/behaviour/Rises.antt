@@ -12,7 +12,7 @@ use Rattle.hw_model.specs.Meaning.{rise_value, rise_in, risen_content}
 use Rattle.hw_model.specs.Sound.{type_in}
 use Rattle.verilog_model.specs.Tree.{Expr}
 use Rattle.verilog_model.specs.Hierarchy.{VNet, VSlot}
-use Rattle.verilog_model.specs.Meaning.{names_at, load_value, slot_width, second_event, event_value, slot_rise, risen_vcontent}
+use Rattle.verilog_model.specs.Meaning.{names_at, load_value, second_event, event_value, slot_rise, risen_vcontent}
 use Rattle.verilog_expr.specs.Expressions.{constant_expr}
 use Rattle.export_verilog.specs.Identifiers.{identifier_text}
 use Rattle.export_verilog.specs.Identifiers.Identifier.{value_identifier}

@@ -1,5 +1,4 @@
-use Rattle.std.proofs.Common.{sym, ◌∙◌}
-use Rattle.design_cycles.proofs.Ordered.{after_or_late, register_after, not_register}
+use Rattle.design_cycles.proofs.Ordered.{after_or_late, not_register}
 use Rattle.design_cycles.proofs.in_order.stands_after.Goals as goal
 
 pub returns : goal.returns

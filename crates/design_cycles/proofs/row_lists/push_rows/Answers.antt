@@ -1,4 +1,4 @@
-use Rattle.std.proofs.Common.{map, length, Some, option_map, ap, sym, ◌∙◌, arith}
+use Rattle.std.proofs.Common.{map, Some, option_map, ap, sym, ◌∙◌, arith}
 use Rattle.std.proofs.lemmas.List.{length-map}
 use Rattle.std.proofs.lemmas.Option.{slice_get-map, slice_get-get_or}
 use Rattle.ir_store.specs.declared.operation.Value.TheVariants.{Port}

@@ -3,7 +3,7 @@ use Rattle.std.proofs.lemmas.List.{length-map, take-append-drop}
 use Rattle.wiring.specs.Wiring.{In}
 use Rattle.graphs.specs.Graphs.{lists_of}
 use Rattle.design_cycles.specs.Nodes.{value_node}
-use Rattle.design_cycles.specs.Rows.{AreRows, AddsRows}
+use Rattle.design_cycles.specs.Rows.{AreRows}
 use Rattle.design_cycles.proofs.Chunks.{listed_none, listed_more}
 use Rattle.design_cycles.proofs.row_lists.row_lists.Goals as goal
 

@@ -1,4 +1,4 @@
-use Rattle.std.proofs.Common.{length, arith, ap, sym, ◌∙◌}
+use Rattle.std.proofs.Common.{arith}
 use Rattle.design_cycles.proofs.BitRows.{rows_given}
 use Rattle.design_cycles.proofs.rows.rows_of.Goals as goal
 

@@ -1,4 +1,4 @@
-use Rattle.std.proofs.Common.{◌<◌, length, subst}
+use Rattle.std.proofs.Common.{◌<◌, subst}
 use Rattle.graphs.specs.Graphs.{lists_of}
 use Rattle.design_cycles.proofs.BitRows.{settled}
 use Rattle.graphs.proofs.Marking.{length-lists}

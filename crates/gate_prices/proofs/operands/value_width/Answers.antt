@@ -1,11 +1,11 @@
-use Rattle.std.proofs.Common.{◌≡◌, ◌∙◌, sym, ap, subst, arith}
+use Rattle.std.proofs.Common.{◌≡◌, sym, subst, arith}
 use Rattle.std.specs.Prelude.{IfOk}
 use Rattle.hw_model.specs.Design.Ref.{result}
 use Rattle.hw_model.specs.Flat.{width_of}
 use Rattle.hw_model.specs.Sound.{type_in}
-use Rattle.ir_store.specs.Bodies.{ids_of, ops_of}
+use Rattle.ir_store.specs.Bodies.{ops_of}
 use Rattle.ir_store.specs.Designs.{ports_in}
-use Rattle.ir_store.specs.Numbered.{position_of, ref_by, ops_by_position}
+use Rattle.ir_store.specs.Numbered.{ops_by_position}
 use Rattle.design_cycles.specs.Reading.{op_view}
 use Rattle.gate_prices.proofs.Values.{typed_at, untyped_past}
 use Rattle.gate_prices.proofs.operands.value_width.Goals as goal

@@ -1,4 +1,4 @@
-use Rattle.std.proofs.Common.{◌≡◌, ap, min, map, ◌∙◌, arith}
+use Rattle.std.proofs.Common.{ap, min, map, ◌∙◌, arith}
 use Rattle.std.proofs.lemmas.List.{take_all}
 use Rattle.wiring.specs.Lists.{total}
 use Rattle.ir_store.specs.Bodies.{ops_of}

@@ -1,4 +1,4 @@
-use Rattle.std.proofs.Common.{◌≡◌, ap₂, min, ◌∙◌}
+use Rattle.std.proofs.Common.{ap₂, min, ◌∙◌}
 use Rattle.hw_model.specs.KindViews.{kind_of}
 use Rattle.miter_rows.specs.Prices.{price}
 use Rattle.gate_prices.proofs.ResultPrices.{results_more}

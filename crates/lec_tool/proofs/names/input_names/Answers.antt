@@ -1,4 +1,4 @@
-use Rattle.std.proofs.Common.{rules, ◌≡◌, ◌+◌, ◌∷◌, [], ◌++◌, length, drop, sym, ap, ◌∙◌, arith}
+use Rattle.std.proofs.Common.{rules, ◌≡◌, ◌∷◌, length, ap, arith}
 use Rattle.ir_store.specs.Designs.{ports_in}
 use Rattle.lec_tool.specs.LeafNames.{input_names}
 use Rattle.lec_tool.proofs.LeafLists.{name_step}

@@ -1,5 +1,4 @@
-use Rattle.std.proofs.Common.{◌≡◌, ap, map, ◌∙◌, sym, subst, Some, length, slice_get, ◌<◌, arith}
-use Rattle.hw_model.specs.Design.{Module, Design}
+use Rattle.std.proofs.Common.{◌≡◌, ap, map, ◌∙◌, subst, Some, length, slice_get, arith}
 use Rattle.ir_store.specs.Designs.{design_of, modules_of, module_of, numbered_module}
 use Rattle.printable_designs.proofs.VerifiedDesigns.{canonical_designs_are_printable}
 use Rattle.miter_blast.specs.Pairs.{IsFoundAt}

@@ -1,4 +1,4 @@
-use Rattle.std.proofs.Common.{◌≡◌, ◌<◌, ◌^◌, map, drop, length, arith}
+use Rattle.std.proofs.Common.{◌≡◌, map, length, arith}
 use Rattle.std.proofs.lemmas.List.{length-map}
 use Rattle.sched_core.proofs.Falling.{AreCallees-falling}
 use Rattle.schedule_tests.proofs.Ordered.{falls-end}

@@ -1,10 +1,9 @@
-use Rattle.std.proofs.Common.{◌≡◌, ◌<◌, ◌^◌, ◌&&◌, ◌+◌, ℕ, [], map, length, get_or, ap, sym, subst, ◌∙◌, arith}
+use Rattle.std.proofs.Common.{◌≡◌, ◌<◌, ◌^◌, ◌&&◌, ◌+◌, map, length, get_or, ap, sym, subst, ◌∙◌, arith}
 use Rattle.std.specs.Prelude.{nat_lt, slice_index, ◌==◌}
 use Rattle.std.proofs.lemmas.List.{length-map}
 use Rattle.sched_core.specs.Sums.{one_if}
 use Rattle.sched_core.specs.State.{callees_of}
 use Rattle.sched_core.proofs.Counting.{callees_of-map, entry-lt}
-use Rattle.shared_schedule.specs.Working.{edge_times, goes_from}
 use Rattle.shared_schedule.proofs.Callers.{caller-more, callers-all}
 use Rattle.shared_schedule.proofs.making.callers.Goals as goal
 

@@ -1,4 +1,3 @@
-use Rattle.std.proofs.Common.{◌∙◌, ap}
 use Rattle.shared_schedule.proofs.Callers.{rows-pushed}
 use Rattle.shared_schedule.proofs.making.push_caller.Goals as goal
 

@@ -1,4 +1,4 @@
-use Rattle.std.proofs.Common.{◌≡◌, ◌<◌, slice_index, refl, map, length, set, ap, sym, ◌∙◌, length-set, arith}
+use Rattle.std.proofs.Common.{◌≡◌, ◌<◌, slice_index, refl, map, length, ap, ◌∙◌, length-set, arith}
 use Rattle.std.proofs.lemmas.List.{length-map}
 use Rattle.shared_schedule.proofs.Callers.{row-pushed}
 use Rattle.shared_schedule.proofs.making.push_row.Goals as goal

@@ -1,5 +1,5 @@
-use Rattle.std.proofs.Common.{◌≡◌, ap, sym, ◌∙◌, rules, arith}
-use mathlib.Core.Option.{some, some-injective}
+use Rattle.std.proofs.Common.{ap, sym, ◌∙◌, rules, arith}
+use mathlib.Core.Option.{some-injective}
 use lib.ListN.{get_elem?}
 use Rattle.std.specs.Slots.{slots_items}
 use Rattle.shared_schedule.specs.declared.slot.Slot.TheVariants.{Made}

@@ -1,4 +1,4 @@
-use Rattle.std.proofs.Common.{◌≡◌, ◌∷◌, ◌++◌, [], Some, ap, sym, subst, ◌∙◌}
+use Rattle.std.proofs.Common.{◌∷◌, ◌++◌, [], ap, sym, subst, ◌∙◌}
 use Rattle.shared_schedule.specs.Views.{callees_in}
 use Rattle.shared_schedule.specs.Working.{IsBetween}
 use Rattle.shared_schedule.proofs.Working.{drawn-between, drawn-less}

@@ -1,8 +1,6 @@
 use Rattle.std.proofs.Common.{◌≡◌, true, false, sym, ap, ◌∙◌}
 use Rattle.std.specs.Prelude.{is_some}
-use Rattle.fresh_names.specs.TakenViews.{taken_names}
 use Rattle.fresh_names.proofs.Taken.{position_taken, position_none}
-use Rattle.fresh_names.proofs.Free.{name_suffixed}
 use Rattle.fresh_names.proofs.taken_names.TakenNames.add_again.Goals as goal
 
 pub add_suffixed-requires : goal.add_suffixed-requires

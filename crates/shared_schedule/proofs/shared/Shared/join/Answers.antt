@@ -1,4 +1,4 @@
-use Rattle.std.proofs.Common.{◌≡◌, Some, ap, sym, subst, ◌∙◌, arith}
+use Rattle.std.proofs.Common.{Some, ap, sym, subst, ◌∙◌, arith}
 use Rattle.shared_schedule.specs.Views.{callees_in}
 use Rattle.shared_schedule.specs.Seats.{IsFinished}
 use Rattle.shared_schedule.proofs.Joining.{joins}

@@ -1,4 +1,4 @@
-use Rattle.std.proofs.Common.{rules, ◌≡◌, ◌∷◌, ◌++◌, replicate, ◌<◌, ◌≤◌, ◌+◌, ◌^◌, ℕ, map, length, slice_index, ap, sym, ◌∙◌, arith}
+use Rattle.std.proofs.Common.{rules, ◌≡◌, ◌∷◌, ◌++◌, replicate, ◌+◌, map, length, slice_index, ap, sym, ◌∙◌, arith}
 use Rattle.std.proofs.lemmas.List.{length-map}
 use Rattle.sched_core.specs.Sums.{one_if}
 use Rattle.shared_schedule.specs.declared.slot.Slot.TheVariants.{Bare}

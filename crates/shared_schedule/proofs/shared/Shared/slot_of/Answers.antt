@@ -1,4 +1,4 @@
-use Rattle.std.proofs.Common.{◌≡◌, ◌<◌, ◌+◌, slice_index, length, arith}
+use Rattle.std.proofs.Common.{◌≡◌, ◌<◌, slice_index, length, arith}
 use Rattle.std.proofs.lemmas.List.{get_or_read}
 use Rattle.sched_core.proofs.EdgeSums.{edge_within}
 use Rattle.shared_schedule.specs.Views.{callees_in}

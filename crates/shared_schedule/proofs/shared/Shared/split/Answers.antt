@@ -1,4 +1,4 @@
-use Rattle.std.proofs.Common.{◌≡◌, Some, ap, sym, subst, ◌∙◌, arith}
+use Rattle.std.proofs.Common.{Some, ap, sym, subst, ◌∙◌, arith}
 use Rattle.atomic_table.specs.Table.{Splits}
 use Rattle.shared_schedule.specs.Views.{new_view}
 use Rattle.shared_schedule.specs.Rule.{Rule}

@@ -1,16 +1,12 @@
-use Rattle.std.proofs.Common.{◌≡◌, ◌<◌, ◌+◌, Some, None, [], ◌∷◌, length, refl, ap, sym, subst, ◌∙◌, arith}
-use Rattle.atomic_table.specs.Table.{Me, rest}
+use Rattle.std.proofs.Common.{Some, [], ◌∷◌, refl, ap, sym, subst, ◌∙◌, arith}
+use Rattle.atomic_table.specs.Table.{rest}
 use Rattle.sched_core.specs.State.{callee, IsEdge}
-use Rattle.shared_schedule.specs.declared.slot.Slot.{Slot}
-use Rattle.shared_schedule.specs.declared.slot.Slot.TheVariants.{Stored, Away, Made, Bare, Copied, Cleared}
-use Rattle.shared_schedule.specs.declared.view.Hold.TheVariants.{Due, Begun, Over}
-use Rattle.shared_schedule.specs.declared.view.View.{View}
-use Rattle.shared_schedule.specs.Views.{callees_in, last_move, is_held, is_over, has_edge}
+use Rattle.shared_schedule.specs.declared.slot.Slot.TheVariants.{Copied, Cleared}
+use Rattle.shared_schedule.specs.Views.{callees_in, last_move, has_edge}
 use Rattle.shared_schedule.specs.Rule.{edge_slot}
-use Rattle.shared_schedule.specs.Plays.{lent_body, lent_edge, moved, cleared, reported, BodyIs}
-use Rattle.shared_schedule.proofs.Lending.{lends-body, lends-copy, lends-bare}
-use Rattle.shared_schedule.proofs.Giving.{gives-begun, gives-over, gives-edge}
-use Rattle.shared_schedule.proofs.Telling.{reports}
+use Rattle.shared_schedule.specs.Plays.{lent_edge, cleared}
+use Rattle.shared_schedule.proofs.Lending.{lends-copy}
+use Rattle.shared_schedule.proofs.Giving.{gives-edge}
 use Rattle.shared_schedule.proofs.Exchanging.{exchangeable, exchanged, came-out, copied-same}
 use Rattle.sched_core.proofs.EdgeSums.{edge_within}
 use Rattle.shared_schedule.proofs.shared.Shared.take_edge.Goals as goal
