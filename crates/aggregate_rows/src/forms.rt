@@ -19,7 +19,7 @@ use io_edge::byte_text::Text;
 use ir_store::body::Op;
 
 /// The operands of a register, but for data and clock: whether it has an enable, and what resets it.
-#[derive(Clone, Copy, Debug)]
+#[derive(Clone, Copy)]
 pub struct RegisterForm {
     /// Whether it has an enable.
     pub enable: bool,
@@ -28,7 +28,7 @@ pub struct RegisterForm {
 }
 
 /// What becomes of an operation.
-#[derive(Clone, Copy, Debug)]
+#[derive(Clone, Copy)]
 pub enum Form<'k> {
     /// The operation with other operands.
     Stays,

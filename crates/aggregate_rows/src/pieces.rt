@@ -9,7 +9,7 @@ use hw_model::types::Ty;
 use std::alloc::{AllocError, Global};
 
 /// Bits of one of some values.
-#[derive(Clone, Copy, Debug)]
+#[derive(Clone, Copy)]
 pub struct Piece {
     /// The number of the value.
     pub value: u32,
@@ -20,7 +20,7 @@ pub struct Piece {
 }
 
 /// Values of which some bits are cut off.
-#[derive(Clone, Copy, Debug)]
+#[derive(Clone, Copy)]
 pub struct Rest<'t> {
     /// The types of those that are left.
     pub types: &'t [Ty],

@@ -2,7 +2,7 @@
 use mlir_lexer::token::TokenKind;
 
 /// A word with a meaning of its own within an operation.
-#[derive(Clone, Copy, Debug, PartialEq, Eq)]
+#[derive(Clone, Copy, PartialEq, Eq)]
 pub enum Keyword {
     /// `from`
     From,
@@ -11,7 +11,7 @@ pub enum Keyword {
 }
 
 /// A piece of the text of an operation after its name.
-#[derive(Clone, Copy, Debug, PartialEq, Eq)]
+#[derive(Clone, Copy, PartialEq, Eq)]
 pub enum FormatElement {
     /// A token that is always the same.
     Mark(TokenKind),
@@ -48,7 +48,7 @@ pub enum FormatElement {
 }
 
 /// What may stand after an operation's name: pieces before a dictionary, and pieces after it.
-#[derive(Clone, Copy, Debug, PartialEq, Eq)]
+#[derive(Clone, Copy, PartialEq, Eq)]
 pub enum Format {
     /// One operand or more of one type.
     Variadic,

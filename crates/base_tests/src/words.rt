@@ -33,7 +33,7 @@ fn widths_and_values_that_are_words(rt: HostRuntime) {
 }
 
 /// An operation on two words of one width.
-#[derive(Clone, Copy, Debug, PartialEq, Eq)]
+#[derive(Clone, Copy, PartialEq, Eq)]
 enum Operation {
     Add,
     Sub,

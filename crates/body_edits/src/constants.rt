@@ -15,7 +15,7 @@ use hw_model::types::Ty;
 use ir_store::operation::{NewResult, NewResultList};
 
 /// A test of the word of a constant.
-#[derive(Clone, Copy, Debug)]
+#[derive(Clone, Copy)]
 pub enum Test {
     /// All bits are 0.
     Zero,

@@ -20,7 +20,7 @@ use ir_store::body::{Body, Op};
 use ir_store::operation::{OpId, Value};
 
 /// The kinds of operations that one of a kind takes in.
-#[derive(Clone, Copy, Debug)]
+#[derive(Clone, Copy)]
 pub enum InnerKind {
     /// An operation of any number of operands.
     Variadic(Variadic),

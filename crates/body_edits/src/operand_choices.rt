@@ -22,7 +22,7 @@ use ir_store::body::Body;
 use ir_store::operation::{OpId, UsePlace, Value, is_same};
 
 /// The positions of two equal operands.
-#[derive(Clone, Copy, Debug)]
+#[derive(Clone, Copy)]
 struct Repeat {
     first: usize,
     second: usize,

@@ -16,7 +16,7 @@ use ir_store::operation::OpId;
 use std::alloc::AllocError;
 
 /// A change of the operands of an operation.
-#[derive(Clone, Copy, Debug)]
+#[derive(Clone, Copy)]
 pub enum OperandEdit {
     /// The operand of a position goes.
     Drop(usize),

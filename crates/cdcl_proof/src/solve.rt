@@ -25,7 +25,7 @@ use resolution_proof::log::{HintList, Log, Step};
 use std::alloc::{AllocError, Global};
 
 /// What the solver found of a formula.
-#[derive(Drop, Debug)]
+#[derive(Drop)]
 pub enum Answer {
     /// No assignment satisfies it: the log ends in the empty clause.
     Refuted(Log),

@@ -8,7 +8,7 @@ use io_edge::sinks::{Sink, put_all};
 use std::alloc::Global;
 
 /// How a delivery ended.
-#[derive(Clone, Copy, Debug, PartialEq, Eq)]
+#[derive(Clone, Copy, PartialEq, Eq)]
 pub enum Delivery {
     /// The whole text went out.
     Whole,

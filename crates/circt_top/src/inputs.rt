@@ -14,7 +14,7 @@ use std::alloc::Global;
 const READ_LIMIT: u64 = MOST_BYTES as u64 + 1;
 
 /// Why the inputs were not read.
-#[derive(Clone, Copy, Debug)]
+#[derive(Clone, Copy)]
 pub(crate) enum Unread<'a> {
     /// The file of this name could not be read.
     Fault(&'a str),

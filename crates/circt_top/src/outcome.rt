@@ -67,7 +67,7 @@ pub(crate) struct Means<'a, R, G> {
 }
 
 /// What a text that is printed says of what was asked.
-#[derive(Debug, Drop)]
+#[derive(Drop)]
 pub enum Finding {
     /// Nothing was asked but the text itself, or modules agree.
     Given,
@@ -78,7 +78,7 @@ pub enum Finding {
 }
 
 /// A text, and what it says.
-#[derive(Debug, Drop)]
+#[derive(Drop)]
 pub struct Made {
     /// The text.
     pub text: Text,
@@ -87,7 +87,7 @@ pub struct Made {
 }
 
 /// Why no text was made.
-#[derive(Clone, Copy, Debug, PartialEq, Eq)]
+#[derive(Clone, Copy, PartialEq, Eq)]
 pub enum OutcomeFail {
     /// The input is refused.
     Refused(Refusal),

@@ -11,7 +11,7 @@ use std::alloc::{AllocError, Global};
 const SEPARATOR: [u8; 8] = *b"// -----";
 
 /// A piece of a text, and what stands before it there.
-#[derive(Clone, Copy, Debug)]
+#[derive(Clone, Copy)]
 pub(crate) struct Piece<'a> {
     /// What stands before it in the text.
     pub(crate) before: &'a [u8],

@@ -15,7 +15,7 @@ use io_edge::sinks::{Failed, Sink, put_all};
 use itoa::Buffer;
 
 /// What the line on a wrong end may name.
-#[derive(Clone, Copy, Debug)]
+#[derive(Clone, Copy)]
 pub(crate) struct Subject<'a> {
     /// The name of an input.
     pub(crate) input: &'a str,

@@ -8,7 +8,7 @@ use lec_tool::Input;
 use resolution_proof::log::Log;
 
 /// How a run of the program ended.
-#[derive(Debug, Drop)]
+#[derive(Drop)]
 pub enum Status {
     /// The whole output went out.
     Done,

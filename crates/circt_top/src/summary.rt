@@ -12,7 +12,7 @@ use itoa::Buffer;
 use std::alloc::{AllocError, Global};
 
 /// The numbers of a design before any pass.
-#[derive(Clone, Copy, Debug)]
+#[derive(Clone, Copy)]
 pub(crate) struct Counts {
     /// How many modules there are.
     pub(crate) modules: u32,
@@ -23,7 +23,7 @@ pub(crate) struct Counts {
 }
 
 /// The numbers of a summary.
-#[derive(Clone, Copy, Debug)]
+#[derive(Clone, Copy)]
 pub(crate) struct Summary {
     /// Those of the design.
     pub(crate) counts: Counts,

@@ -24,7 +24,7 @@ use ir_store::operation::{NewOp, OpId, Value};
 use std::alloc::{AllocError, Global};
 
 /// The positions of two operands.
-#[derive(Clone, Copy, Debug)]
+#[derive(Clone, Copy)]
 struct Two {
     first: usize,
     second: usize,

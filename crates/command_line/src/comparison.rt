@@ -2,7 +2,7 @@
 ghost use Rattle.std.specs.Prelude.{◌≤◌};
 
 /// Two modules that are compared, and how many clauses may be learnt before that is given up, 1 at least.
-#[derive(Debug, Drop)]
+#[derive(Drop)]
 pub struct Comparison {
     /// The name of the module of the first input.
     pub left: String,

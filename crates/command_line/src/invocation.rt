@@ -29,7 +29,7 @@ const MOST_MODULES: u64 = 10_000;
 const USUAL_LIMIT: u64 = 1_000_000;
 
 /// What is made of the inputs.
-#[derive(Debug, Drop)]
+#[derive(Drop)]
 pub enum Work {
     /// MLIR text of the design that these passes make.
     Mlir(Pipeline),
@@ -46,7 +46,7 @@ pub enum Work {
 }
 
 /// A command with its values.
-#[derive(Debug, Drop)]
+#[derive(Drop)]
 pub struct Invocation {
     /// The names of the input files in order; `-` is standard input.
     pub inputs: Vec<String>,
@@ -59,7 +59,7 @@ pub struct Invocation {
 }
 
 /// Why words were not answered by an invocation.
-#[derive(Clone, Copy, Debug, PartialEq, Eq)]
+#[derive(Clone, Copy, PartialEq, Eq)]
 pub enum LineFail {
     /// They are wrong.
     Usage(UsageKind),

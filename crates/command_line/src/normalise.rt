@@ -9,7 +9,7 @@ use pass_pipeline::pass::{Pass, pass_named};
 use std::alloc::{AllocError, Global};
 
 /// Why words were not made regular.
-#[derive(Clone, Copy, Debug, PartialEq, Eq)]
+#[derive(Clone, Copy, PartialEq, Eq)]
 pub enum WordsFail {
     /// A word is kept for the program itself.
     Reserved,

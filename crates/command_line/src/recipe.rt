@@ -2,7 +2,7 @@
 ghost use Rattle.std.specs.Prelude.{◌≤◌};
 
 /// What a design is generated from: a seed, and a number of modules, 1 to 10,000.
-#[derive(Clone, Copy, Debug)]
+#[derive(Clone, Copy)]
 pub struct Recipe {
     /// The seed of what is drawn.
     pub seed: u32,

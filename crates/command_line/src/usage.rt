@@ -5,7 +5,7 @@ ghost use Rattle.command_line.specs.Usage.{usage_text, offset_of};
 use pass_pipeline::pipeline::PipelineFail;
 
 /// What is wrong with the words of a command line.
-#[derive(Clone, Copy, Debug, PartialEq, Eq)]
+#[derive(Clone, Copy, PartialEq, Eq)]
 pub enum UsageKind {
     /// They are no command with its arguments.
     Words,

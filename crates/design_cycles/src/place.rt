@@ -2,7 +2,7 @@
 use ir_store::operation::OpId;
 
 /// An operation of a module.
-#[derive(Clone, Copy, Debug, PartialEq, Eq)]
+#[derive(Clone, Copy, PartialEq, Eq)]
 pub struct OpPlace {
     /// The module's number.
     pub module: u32,

@@ -7,14 +7,14 @@ use opcode::listed::Listed;
 
 /// A place in a text: its line, and its column in bytes, both from 1. Each saturates at the end
 /// of a u32, which a text of less than 2^32 bytes does not reach.
-#[derive(Clone, Copy, Debug, PartialEq, Eq)]
+#[derive(Clone, Copy, PartialEq, Eq)]
 pub struct Place {
     pub line: u32,
     pub col: u32,
 }
 
 /// The operation at which something is refused.
-#[derive(Clone, Copy, Debug, PartialEq, Eq)]
+#[derive(Clone, Copy, PartialEq, Eq)]
 pub enum OpName {
     /// A listed operation.
     Listed(Listed),
@@ -25,7 +25,7 @@ pub enum OpName {
 }
 
 /// A refusal: the number of its file, the place there, the operation and the cause.
-#[derive(Clone, Copy, Debug, PartialEq, Eq)]
+#[derive(Clone, Copy, PartialEq, Eq)]
 pub struct Refusal {
     pub file: u32,
     pub place: Place,

@@ -9,7 +9,7 @@ use io_edge::byte_text::Text;
 use std::alloc::AllocError;
 
 /// What resets a register, and to what, as expressions that are already written.
-#[derive(Clone, Copy, Debug)]
+#[derive(Clone, Copy)]
 pub struct Reset<'t> {
     /// What resets it.
     pub signal: &'t [u8],
@@ -18,7 +18,7 @@ pub struct Reset<'t> {
 }
 
 /// What a register does where its clock rises, as expressions that are already written.
-#[derive(Clone, Copy, Debug)]
+#[derive(Clone, Copy)]
 pub struct Clocked<'t> {
     /// The register's name.
     pub target: &'t [u8],

@@ -12,7 +12,7 @@ use std::alloc::{AllocError, Global};
 use verilog_expr::hint_in;
 
 /// How an operation is emitted in Verilog.
-#[derive(Clone, Copy, Debug)]
+#[derive(Clone, Copy)]
 pub enum Emission {
     /// Nothing by itself: the module's output, or a value that is written where it is used.
     Inline,

@@ -11,7 +11,7 @@ use std::alloc::{AllocError, Global};
 const MOST_KEPT: usize = 64;
 
 /// What names a taken name.
-#[derive(Clone, Copy, Debug)]
+#[derive(Clone, Copy)]
 pub struct NameId {
     pub(crate) index: u32,
 }

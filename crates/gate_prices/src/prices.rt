@@ -58,7 +58,7 @@ fn whole_price(body: &Typed<'_>, op: &Op<'_>) -> Result<u64, AllocError>
 }
 
 // How many operands there are, and how wide the first one is.
-#[derive(Clone, Copy, Debug)]
+#[derive(Clone, Copy)]
 struct Operands {
     count: u64,
     first: u64,

@@ -10,7 +10,7 @@ use gates::signal::Signal;
 use std::alloc::{AllocError, Global};
 
 /// What is built of two bits: the and, the or, the exclusive or, or the first where a condition is 1 and else the second.
-#[derive(Clone, Copy, Debug)]
+#[derive(Clone, Copy)]
 pub enum Bitwise {
     And,
     Or,

@@ -11,7 +11,7 @@ use gates::signal::Signal;
 use std::alloc::{AllocError, Global};
 
 /// Where a word is shifted: up, with bits of 0 from below, or down, with copies of a signal from above.
-#[derive(Clone, Copy, Debug)]
+#[derive(Clone, Copy)]
 pub enum Direction {
     Up,
     Down(Signal),

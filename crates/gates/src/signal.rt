@@ -17,14 +17,14 @@ pub enum Signal {
 }
 
 /// An and of two pins, as in the AIGER format for circuits of such gates.
-#[derive(Clone, Copy, Debug, PartialEq, Eq, Hash)]
+#[derive(Clone, Copy, PartialEq, Eq, Hash)]
 pub struct Gate {
     pub first: Pin,
     pub second: Pin,
 }
 
 /// What a full adder gives.
-#[derive(Clone, Copy, Debug)]
+#[derive(Clone, Copy)]
 pub struct Sum {
     pub sum: Signal,
     pub carry: Signal,

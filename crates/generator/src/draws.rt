@@ -3,13 +3,13 @@ ghost use Rattle.std.specs.Prelude.{◌≡◌};
 ghost use Rattle.generator.specs.Draws.{next_state};
 
 /// A linear congruential generator, by its state.
-#[derive(Clone, Copy, Debug)]
+#[derive(Clone, Copy)]
 pub struct Draws {
     pub(crate) state: u32,
 }
 
 /// The numbers that one module draws.
-#[derive(Clone, Copy, Debug)]
+#[derive(Clone, Copy)]
 pub struct Drawn {
     /// Its constant.
     pub constant: u32,

@@ -5,7 +5,7 @@ use hw_model::types::Ty;
 use io_edge::byte_text::Text;
 
 /// An operand of an operation.
-#[derive(Clone, Copy, Debug)]
+#[derive(Clone, Copy)]
 pub enum Operand {
     /// A port of the module, by its position.
     Port(u32),
@@ -16,7 +16,7 @@ pub enum Operand {
 }
 
 /// A port of a module.
-#[derive(Debug, Drop)]
+#[derive(Drop)]
 pub struct Port {
     /// Its name.
     pub name: Text,
@@ -27,7 +27,7 @@ pub struct Port {
 }
 
 /// An operation.
-#[derive(Debug, Drop)]
+#[derive(Drop)]
 pub struct Operation {
     /// Its kind.
     pub kind: OpKind,
@@ -40,7 +40,7 @@ pub struct Operation {
 }
 
 /// A module.
-#[derive(Debug, Drop)]
+#[derive(Drop)]
 pub struct Module {
     /// Its symbol.
     pub symbol: Text,
@@ -53,7 +53,7 @@ pub struct Module {
 }
 
 /// A module in its design, with the bits of its inputs and of its registers.
-#[derive(Clone, Copy, Debug)]
+#[derive(Clone, Copy)]
 pub struct Setting<'a> {
     /// The modules of the design.
     pub modules: &'a [Module],

@@ -27,7 +27,7 @@ use operation_values::word_parts::bits_after;
 use std::alloc::Global;
 
 /// What a step gives.
-#[derive(Debug, Drop)]
+#[derive(Drop)]
 pub struct Stepped {
     /// The bits of the outputs, in port order.
     pub outputs: BitString,

@@ -29,7 +29,7 @@ use operation_values::word_parts::{bits_after, first_bits};
 use std::alloc::{AllocError, Global};
 
 /// A range of bits.
-#[derive(Clone, Copy, Debug)]
+#[derive(Clone, Copy)]
 pub struct Range {
     /// Where it begins.
     pub start: u64,

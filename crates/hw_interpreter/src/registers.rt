@@ -16,7 +16,7 @@ use operation_values::refusal::Refusal;
 use std::alloc::Global;
 
 /// A register of a module: the path of instances to it, the innermost first, and its operation.
-#[derive(Debug, Drop)]
+#[derive(Drop)]
 pub struct Slot<'a> {
     /// The path.
     pub path: Vec<u32>,

@@ -10,7 +10,7 @@ use io_edge::byte_text::Text;
 use opcode::listed::Listed;
 
 /// An operation of any number of operands of one type (CIRCT, Comb dialect).
-#[derive(Clone, Copy, Debug)]
+#[derive(Clone, Copy)]
 pub enum Variadic {
     /// `comb.add`
     Add,
@@ -25,7 +25,7 @@ pub enum Variadic {
 }
 
 /// A quotient or a remainder (CIRCT, Comb dialect).
-#[derive(Clone, Copy, Debug)]
+#[derive(Clone, Copy)]
 pub enum Division {
     /// `comb.divu`
     Divu,
@@ -38,7 +38,7 @@ pub enum Division {
 }
 
 /// A shift (CIRCT, Comb dialect).
-#[derive(Clone, Copy, Debug)]
+#[derive(Clone, Copy)]
 pub enum Shift {
     /// `comb.shl`
     Shl,
@@ -49,7 +49,7 @@ pub enum Shift {
 }
 
 /// An operation on arrays (CIRCT, HW dialect).
-#[derive(Clone, Copy, Debug)]
+#[derive(Clone, Copy)]
 pub enum ArrayOp {
     /// `hw.array_create`
     Create,
@@ -64,7 +64,7 @@ pub enum ArrayOp {
 }
 
 /// An operation on structs (CIRCT, HW dialect).
-#[derive(Clone, Copy, Debug)]
+#[derive(Clone, Copy)]
 pub enum StructOp<'k> {
     /// `hw.struct_create`
     Create,
@@ -77,7 +77,7 @@ pub enum StructOp<'k> {
 }
 
 /// A register (CIRCT, Seq dialect).
-#[derive(Clone, Copy, Debug)]
+#[derive(Clone, Copy)]
 pub enum RegisterOp {
     /// `seq.compreg`
     CompReg,
@@ -101,7 +101,7 @@ impl RegisterOp {
 
 /// The family of an operation: what its types, operands and text have in common with those of others, with what its
 /// kind says besides.
-#[derive(Clone, Copy, Debug)]
+#[derive(Clone, Copy)]
 pub enum Family<'k> {
     /// Any number of operands of one type.
     Variadic(Variadic),

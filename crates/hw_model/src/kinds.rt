@@ -7,7 +7,7 @@ use io_edge::byte_text::Text;
 use std::alloc::{AllocError, Global};
 
 /// The predicates of `comb.icmp`.
-#[derive(Clone, Copy, Debug)]
+#[derive(Clone, Copy)]
 pub enum Predicate {
     /// Equal.
     Eq,
@@ -40,7 +40,7 @@ pub enum Predicate {
 }
 
 /// What resets a register.
-#[derive(Clone, Copy, Debug)]
+#[derive(Clone, Copy)]
 pub enum Reset {
     /// Nothing.
     No,
@@ -49,7 +49,7 @@ pub enum Reset {
 }
 
 /// An integer, by its sign and a distance, as in the integers of CBOR (RFC 8949, 3.1).
-#[derive(Clone, Copy, Debug)]
+#[derive(Clone, Copy)]
 pub enum Integer {
     /// The number itself.
     NonNegative(u128),
@@ -59,7 +59,7 @@ pub enum Integer {
 
 /// A constant of an aggregate type.
 #[cycle(literal)]
-#[derive(Debug, Drop)]
+#[derive(Drop)]
 pub enum Literal {
     /// A number of a type.
     Leaf(Integer, Ty),
@@ -69,14 +69,14 @@ pub enum Literal {
 
 /// The constants of the parts of an aggregate, the highest bits first.
 #[cycle(literal)]
-#[derive(Debug, Drop)]
+#[derive(Drop)]
 pub struct LiteralList {
     /// The constants.
     pub literals: Vec<Literal>,
 }
 
 /// What an instance says besides its operands and types.
-#[derive(Debug, Drop)]
+#[derive(Drop)]
 pub struct Instance {
     /// Its own name.
     pub name: Text,
@@ -91,7 +91,7 @@ pub struct Instance {
 }
 
 /// The kind of an operation of the hw, comb or seq dialect (CIRCT: operation references).
-#[derive(Debug, Drop)]
+#[derive(Drop)]
 pub enum OpKind {
     /// `comb.add`
     Add,

@@ -9,7 +9,7 @@ ghost use Rattle.hw_model.specs.RegisterViews.{reset_by_of, register_of};
 use crate::kinds::{OpKind, Reset};
 
 /// What resets a register, and to what.
-#[derive(Clone, Copy, Debug)]
+#[derive(Clone, Copy)]
 pub struct ResetBy<V> {
     /// The signal.
     pub signal: V,
@@ -18,7 +18,7 @@ pub struct ResetBy<V> {
 }
 
 /// The operands of a register.
-#[derive(Clone, Copy, Debug)]
+#[derive(Clone, Copy)]
 pub struct Register<V> {
     /// The next value.
     pub next: V,

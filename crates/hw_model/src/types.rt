@@ -12,7 +12,7 @@ use std::alloc::{AllocError, Global};
 /// The type of a value (CIRCT, HW dialect: types). Contracts see it by `type_of`, as data
 /// without pointers.
 #[cycle(ty)]
-#[derive(Debug, Drop)]
+#[derive(Drop)]
 pub enum Ty {
     /// An integer of a number of bits.
     Int(u32),
@@ -26,7 +26,7 @@ pub enum Ty {
 
 /// A field of a struct type.
 #[cycle(ty)]
-#[derive(Debug, Drop)]
+#[derive(Drop)]
 pub struct Field {
     /// The name, by which operations tell it.
     pub name: Text,
@@ -36,7 +36,7 @@ pub struct Field {
 
 /// The fields of a struct type, in order.
 #[cycle(ty)]
-#[derive(Debug, Drop)]
+#[derive(Drop)]
 pub struct FieldList {
     /// The fields.
     pub fields: Vec<Field>,

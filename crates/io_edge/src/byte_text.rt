@@ -15,7 +15,7 @@ use std::hash::{Hash, Hasher};
 use std::marker::Model;
 
 /// A text: bytes in order, which need not be UTF-8. At most 22 of them take no memory. Contracts see it as its list of bytes.
-#[derive(Debug, Drop)]
+#[derive(Drop)]
 pub struct Text {
     bytes: SmallVec<u8, 22, Global>,
 }

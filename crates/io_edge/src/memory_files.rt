@@ -11,7 +11,7 @@ use std::alloc::{AllocError, Global};
 use std::marker::Model;
 
 /// A file: its name and its bytes.
-#[derive(Debug, Drop)]
+#[derive(Drop)]
 pub struct MemoryFile {
     pub name: Text,
     pub bytes: Text,
@@ -31,7 +31,7 @@ impl MemoryFile {
 }
 
 /// Stated files, of which stated reads and writes fail. They are told.
-#[derive(Debug, Drop)]
+#[derive(Drop)]
 pub struct MemoryFiles {
     files: Vec<MemoryFile>,
     failing: Vec<u64>,

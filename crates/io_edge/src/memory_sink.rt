@@ -8,7 +8,7 @@ use std::marker::Model;
 
 /// A sink that holds what it was sent, up to its room, and of which stated puts fail. It tells
 /// what it holds.
-#[derive(Debug, Drop)]
+#[derive(Drop)]
 pub struct MemorySink {
     held: Vec<u8>,
     room: usize,

@@ -7,7 +7,7 @@ use crate::cells::Cells;
 use crate::operation::{OpId, UsePlace, Value};
 
 /// Where the operands of an operation stand: so many cells from one on.
-#[derive(Clone, Copy, Debug)]
+#[derive(Clone, Copy)]
 pub struct Block {
     pub(crate) start: u32,
     pub(crate) len: u32,

@@ -14,7 +14,7 @@ use std::alloc::{AllocError, Global};
 use std::mem;
 
 /// A port of a module.
-#[derive(Debug, Drop)]
+#[derive(Drop)]
 pub struct Port {
     /// Its name.
     pub name: Text,
@@ -27,7 +27,7 @@ pub struct Port {
 }
 
 /// Ports in order.
-#[derive(Debug, Drop)]
+#[derive(Drop)]
 pub struct PortList {
     /// The ports.
     pub ports: Vec<Port>,

@@ -10,7 +10,7 @@ use std::alloc::{AllocError, Global};
 /// The value of an entry of a dictionary. Contracts see it by `attribute_of`, as data without
 /// pointers.
 #[cycle(attribute)]
-#[derive(Debug, Drop)]
+#[derive(Drop)]
 pub enum Attribute {
     /// Nothing: the key alone.
     Unit,
@@ -28,14 +28,14 @@ pub enum Attribute {
 
 /// Attributes in order.
 #[cycle(attribute)]
-#[derive(Debug, Drop)]
+#[derive(Drop)]
 pub struct AttributeList {
     /// The attributes.
     pub attributes: Vec<Attribute>,
 }
 
 /// An entry of a dictionary.
-#[derive(Debug, Drop)]
+#[derive(Drop)]
 pub struct Entry {
     /// The key.
     pub key: Text,
@@ -44,7 +44,7 @@ pub struct Entry {
 }
 
 /// A dictionary: its entries in order.
-#[derive(Debug, Drop)]
+#[derive(Drop)]
 pub struct Dictionary {
     /// The entries.
     pub entries: Vec<Entry>,

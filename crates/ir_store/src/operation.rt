@@ -13,13 +13,13 @@ use smallvec::SmallVec;
 use std::alloc::{AllocError, Global};
 
 /// What names an operation of a body while the body has it.
-#[derive(Clone, Copy, Debug, PartialEq, Eq)]
+#[derive(Clone, Copy, PartialEq, Eq)]
 pub struct OpId {
     pub(crate) index: u32,
 }
 
 /// An operand.
-#[derive(Clone, Copy, Debug, Default, PartialEq, Eq)]
+#[derive(Clone, Copy, Default, PartialEq, Eq)]
 pub enum Value {
     /// A port of the module, by its position.
     Port(u32),
@@ -31,7 +31,7 @@ pub enum Value {
 }
 
 /// A place in a body where a value is used.
-#[derive(Clone, Copy, Debug, PartialEq, Eq)]
+#[derive(Clone, Copy, PartialEq, Eq)]
 pub struct UsePlace {
     /// The operation that uses the value.
     pub op: OpId,
@@ -40,13 +40,13 @@ pub struct UsePlace {
 }
 
 /// A use of a value in a body, until the body changes.
-#[derive(Clone, Copy, Debug, PartialEq, Eq)]
+#[derive(Clone, Copy, PartialEq, Eq)]
 pub struct UseId {
     pub(crate) cell: u32,
 }
 
 /// A result of an operation.
-#[derive(Debug, Drop)]
+#[derive(Drop)]
 pub struct NewResult {
     /// Its type.
     pub ty: Ty,

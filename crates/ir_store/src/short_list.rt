@@ -7,7 +7,7 @@ use std::alloc::{AllocError, Global};
 use std::{mem, slice};
 
 /// Items in order, of which one alone takes no memory. Contracts see them by `short_items`.
-#[derive(Debug, Drop)]
+#[derive(Drop)]
 pub enum ShortList<T> {
     /// None.
     Empty,

@@ -15,7 +15,7 @@ use resolution_proof::log::Log;
 use std::alloc::Global;
 
 /// What is found of two modules.
-#[derive(Debug, Drop)]
+#[derive(Drop)]
 pub enum Verdict {
     /// They agree: this log refutes that they differ.
     Same(Log),

@@ -8,7 +8,7 @@ ghost use Rattle.linked_lists.specs.Links.{none, next_at, prev_at, is_live_at, w
 pub const NONE: u32 = u32::MAX;
 
 /// An id's neighbours in text order, NONE at an end. The link of a free id has the next free one.
-#[derive(Clone, Copy, Debug)]
+#[derive(Clone, Copy)]
 pub struct Link {
     pub prev: u32,
     pub next: u32,

@@ -3,7 +3,7 @@ use diag::refusal::Refusal;
 use std::alloc::AllocError;
 
 /// Why two modules are not compared.
-#[derive(Clone, Copy, Debug, PartialEq, Eq)]
+#[derive(Clone, Copy, PartialEq, Eq)]
 pub enum MiterFail {
     /// They are refused.
     Refused(Refusal),

@@ -9,7 +9,7 @@ use std::alloc::{AllocError, Global};
 use std::marker::Model;
 
 /// Words for the leaves of a module's inputs, in order, and then for those of its registers.
-#[derive(Drop, Debug)]
+#[derive(Drop)]
 pub struct Input {
     values: Vec<Bits>,
 }

@@ -7,7 +7,7 @@ use std::marker::Model;
 
 /// A comparison of two modules as a formula, which an assignment satisfies exactly where they differ in a step: its first
 /// variables are the bits of the inputs of both, then those of what their registers hold.
-#[derive(Drop, Debug)]
+#[derive(Drop)]
 pub struct Miter {
     pub(crate) cnf: Cnf,
     pub(crate) widths: Vec<u32>,

@@ -17,7 +17,7 @@ use port_checks::are_types;
 use std::alloc::{AllocError, Global};
 
 /// The numbers of the modules that are compared.
-#[derive(Clone, Copy, Debug)]
+#[derive(Clone, Copy)]
 pub(crate) struct Pair {
     /// In the first design.
     pub(crate) left: u32,

@@ -8,7 +8,7 @@ use io_edge::byte_text::Text;
 use std::alloc::AllocError;
 
 /// What is read of an escape.
-#[derive(Clone, Copy, Debug, PartialEq, Eq)]
+#[derive(Clone, Copy, PartialEq, Eq)]
 pub enum Pending {
     /// No part of an escape.
     Nothing,

@@ -12,7 +12,7 @@ use crate::strings::string_length;
 use crate::token::TokenKind;
 
 /// What some bytes begin with.
-#[derive(Clone, Copy, Debug, PartialEq, Eq)]
+#[derive(Clone, Copy, PartialEq, Eq)]
 pub enum Front {
     /// The end of a line.
     LineEnd,

@@ -5,7 +5,7 @@ ghost use Rattle.mlir_lexer.specs.Strings.{is_escape_letter, reading_after, stri
 use crate::classes::{Class, HexDigit};
 
 /// How far a string is read.
-#[derive(Clone, Copy, Debug, PartialEq, Eq)]
+#[derive(Clone, Copy, PartialEq, Eq)]
 pub enum Reading {
     /// Outside of escapes.
     Plain,

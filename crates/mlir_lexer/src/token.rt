@@ -5,7 +5,7 @@ ghost use Rattle.mlir_lexer.specs.TokenKinds.{is_kind, tag};
 use diag::refusal::Place;
 
 /// The kinds of tokens (MLIR language reference, "Lexical conventions" and "Identifiers").
-#[derive(Clone, Copy, Debug, PartialEq, Eq)]
+#[derive(Clone, Copy, PartialEq, Eq)]
 pub enum TokenKind {
     /// A letter or `_`, then letters, digits, `_`, `$` and `.`.
     BareName,
@@ -56,7 +56,7 @@ pub enum TokenKind {
 
 /// A token: its kind, the place of its first byte, how many bytes stand before it in the source,
 /// and the bytes that it has there.
-#[derive(Clone, Copy, Debug, PartialEq, Eq)]
+#[derive(Clone, Copy, PartialEq, Eq)]
 pub struct Token<'s> {
     pub kind: TokenKind,
     pub place: Place,

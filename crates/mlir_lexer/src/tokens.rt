@@ -11,7 +11,7 @@ use std::marker::Model;
 
 /// The tokens of a text, of which a front is read. Contracts see it as the text and how many bytes
 /// of it are read. It takes no memory.
-#[derive(Debug, Drop)]
+#[derive(Drop)]
 pub struct Tokens<'s> {
     source: &'s [u8],
     at: usize,

@@ -10,7 +10,7 @@ use mlir_lexer::classes::run_of;
 use opcode::listed::Listed;
 
 /// What a name means in an operation's or a module's place.
-#[derive(Clone, Copy, Debug, PartialEq, Eq)]
+#[derive(Clone, Copy, PartialEq, Eq)]
 pub enum NameClass {
     /// An operation of a body.
     Operation(Listed),

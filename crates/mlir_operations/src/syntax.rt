@@ -10,7 +10,7 @@ use smallvec::SmallVec;
 use std::alloc::Global;
 
 /// A value as the text names it.
-#[derive(Clone, Copy, Debug, Default)]
+#[derive(Clone, Copy, Default)]
 pub struct OperandName<'s> {
     /// Its name, without the sign.
     pub name: &'s [u8],
@@ -19,7 +19,7 @@ pub struct OperandName<'s> {
 }
 
 /// How the results of an operation are named.
-#[derive(Debug, Drop)]
+#[derive(Drop)]
 pub enum ResultNames<'s> {
     /// Not at all.
     Unnamed,
@@ -30,7 +30,7 @@ pub enum ResultNames<'s> {
 }
 
 /// What the text of an operation says besides its operands and types.
-#[derive(Debug, Drop)]
+#[derive(Drop)]
 pub enum InherentAttributes {
     /// Nothing.
     Nothing,

@@ -9,7 +9,7 @@ use fresh_names::taken_names::{NameId, TakenNames};
 use std::alloc::{AllocError, Global};
 
 /// How a name was chosen.
-#[derive(Clone, Copy, Debug)]
+#[derive(Clone, Copy)]
 pub enum Choice {
     /// It is a word of the table.
     Word(NameId),

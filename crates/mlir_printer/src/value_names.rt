@@ -13,7 +13,7 @@ use ir_store::operation::{OpId, Value};
 use std::alloc::{AllocError, Global};
 
 /// Where the names of an operation's results stand.
-#[derive(Clone, Copy, Debug)]
+#[derive(Clone, Copy)]
 pub struct Slot {
     /// How many names stand before.
     pub first: u32,
@@ -24,7 +24,7 @@ pub struct Slot {
 }
 
 /// A value as it is printed.
-#[derive(Clone, Copy, Debug)]
+#[derive(Clone, Copy)]
 pub struct ValueText<'n> {
     /// Its name, without the sign.
     pub name: &'n [u8],

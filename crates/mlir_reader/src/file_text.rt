@@ -23,7 +23,7 @@ use mlir_syntax::reader::{Reader, is_word};
 const FIRST_LIKELY: u32 = 8;
 
 /// Where the modules of a file end.
-#[derive(Clone, Copy, Debug)]
+#[derive(Clone, Copy)]
 pub enum Ends {
     /// At a closing brace.
     Brace,

@@ -17,7 +17,7 @@ use std::mem;
 const MOST_KEPT: usize = 1024;
 
 /// What a name stands for.
-#[derive(Clone, Copy, Debug)]
+#[derive(Clone, Copy)]
 pub enum Defined {
     /// A port, by its position.
     Port(u32),

@@ -27,7 +27,7 @@ use mlir_lexer::token::{Token, TokenKind, is_kind};
 use std::alloc::AllocError;
 
 /// What a token begins an attribute as.
-#[derive(Clone, Copy, Debug)]
+#[derive(Clone, Copy)]
 pub enum AttributeHead<'s> {
     /// A string.
     Text(Token<'s>),

@@ -20,7 +20,7 @@ use ir_store::dictionary::{Attribute, Dictionary, Entry};
 use mlir_lexer::token::TokenKind;
 
 /// The keys of a dictionary whose values are strings.
-#[derive(Clone, Copy, Debug)]
+#[derive(Clone, Copy)]
 pub enum StringKeys {
     /// `sv.namehint`
     Hint,

@@ -3,7 +3,7 @@ use diag::refusal::Refusal;
 use std::alloc::{AllocError, AllocFailed};
 
 /// Why a text gives no design.
-#[derive(Clone, Copy, Debug)]
+#[derive(Clone, Copy)]
 pub enum ReadFail {
     /// The first thing in it that is refused.
     Refused(Refusal),

@@ -3,7 +3,7 @@ use diag::refusal::Place;
 use mlir_lexer::token::Token;
 
 /// What stands first of what is left of a text.
-#[derive(Clone, Copy, Debug)]
+#[derive(Clone, Copy)]
 pub enum Head<'s> {
     /// A token.
     Token(Token<'s>),

@@ -22,7 +22,7 @@ use hw_model::types::Ty;
 use mlir_lexer::token::{Token, TokenKind, is_kind};
 
 /// What a token begins a constant as.
-#[derive(Clone, Copy, Debug)]
+#[derive(Clone, Copy)]
 pub enum LiteralHead {
     /// `true` or `false`.
     Truth(bool),

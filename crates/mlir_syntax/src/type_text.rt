@@ -27,7 +27,7 @@ use std::alloc::AllocError;
 pub const MOST_OPEN: u32 = 32;
 
 /// What a token begins a type as.
-#[derive(Clone, Copy, Debug)]
+#[derive(Clone, Copy)]
 pub enum TypeHead<'s> {
     /// An integer type, by the digits of its width.
     Integer(&'s [u8]),

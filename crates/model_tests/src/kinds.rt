@@ -8,7 +8,7 @@ use operation_values::refusal::Refusal;
 use std::alloc::Global;
 
 /// A kind of operation. A field is told by its name, an instance by the symbol of its module.
-#[derive(Clone, Copy, Debug)]
+#[derive(Clone, Copy)]
 pub enum Kind {
     Add,
     Mul,
@@ -50,7 +50,7 @@ pub enum Kind {
 }
 
 /// A type.
-#[derive(Clone, Copy, Debug)]
+#[derive(Clone, Copy)]
 pub enum Shape {
     Int(u32),
     Clock,

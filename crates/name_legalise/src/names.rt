@@ -13,7 +13,7 @@ use io_edge::byte_text::Text;
 use std::alloc::{AllocError, Global};
 
 /// What names a legal name: the number of names that were added before it.
-#[derive(Clone, Copy, Debug)]
+#[derive(Clone, Copy)]
 pub struct NameId {
     pub(crate) index: u32,
 }

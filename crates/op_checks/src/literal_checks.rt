@@ -11,7 +11,7 @@ use hw_model::kinds::{Integer, Literal, LiteralList};
 use hw_model::types::{Field, Ty};
 
 /// What is asked of a leaf.
-#[derive(Clone, Copy, Debug)]
+#[derive(Clone, Copy)]
 pub enum LeafTest {
     /// That its type is an integer's.
     Kind,

@@ -3,7 +3,7 @@ use diag::refusal::Refusal;
 use std::alloc::AllocError;
 
 /// Why a design is not taken.
-#[derive(Clone, Copy, Debug)]
+#[derive(Clone, Copy)]
 pub enum VerifyFail {
     /// The first thing in it that is refused.
     Refused(Refusal),

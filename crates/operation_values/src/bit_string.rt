@@ -9,7 +9,7 @@ use std::alloc::{AllocError, Global};
 use std::marker::Model;
 
 /// A word of any number of bits, the most significant first. Contracts see it as the list of its bits.
-#[derive(Debug, Drop)]
+#[derive(Drop)]
 pub struct BitString {
     bits: Vec<bool>,
 }

@@ -3,7 +3,7 @@ ghost use Rattle.std.specs.Prelude.{◌≡◌};
 ghost use Rattle.pass_pipeline.specs.Passes.{pass_name, runs_on, pass_named};
 
 /// A pass.
-#[derive(Clone, Copy, Debug, PartialEq, Eq)]
+#[derive(Clone, Copy, PartialEq, Eq)]
 pub enum Pass {
     /// Simplifies operations.
     Canonicalize,

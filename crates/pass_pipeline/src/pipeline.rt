@@ -9,7 +9,7 @@ use std::alloc::{AllocError, Global};
 use std::marker::Model;
 
 /// The first thing in a text that is wrong, with the offset of its first byte.
-#[derive(Clone, Copy, Debug, PartialEq, Eq)]
+#[derive(Clone, Copy, PartialEq, Eq)]
 pub enum PipelineFail {
     /// No pass on offer and no operation that may stand there has this name.
     UnknownPass(u64),
@@ -20,7 +20,7 @@ pub enum PipelineFail {
 }
 
 /// Why a text was not read as a pipeline.
-#[derive(Clone, Copy, Debug, PartialEq, Eq)]
+#[derive(Clone, Copy, PartialEq, Eq)]
 pub enum PipelineError {
     /// It is none.
     Bad(PipelineFail),
@@ -40,7 +40,7 @@ impl From<AllocError> for PipelineError {
 }
 
 /// Passes in order. Contracts see it as their list.
-#[derive(Debug, Drop)]
+#[derive(Drop)]
 pub struct Pipeline {
     passes: Vec<Pass>,
 }

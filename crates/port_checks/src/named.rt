@@ -14,7 +14,7 @@ use ir_store::operation::Value;
 use std::alloc::{AllocError, Global};
 
 /// A port of a module of a design.
-#[derive(Clone, Copy, Debug, PartialEq, Eq)]
+#[derive(Clone, Copy, PartialEq, Eq)]
 pub(crate) struct PortPlace {
     /// The module's number.
     pub(crate) owner: u32,

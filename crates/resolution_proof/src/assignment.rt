@@ -4,7 +4,7 @@ ghost use Rattle.std.specs.Prelude.{◌≡◌, List, Bool};
 use std::marker::Model;
 
 /// A value for each variable in order: the first is variable 1's.
-#[derive(Drop, Debug)]
+#[derive(Drop)]
 pub struct Assignment {
     values: Vec<bool>,
 }

@@ -8,7 +8,7 @@ use std::alloc::{AllocError, Global};
 use std::marker::Model;
 
 /// A set of literals in which no variable stands twice, as a list. It is true where one of its literals is.
-#[derive(Drop, Debug)]
+#[derive(Drop)]
 pub struct Clause {
     literals: Vec<Literal>,
 }

@@ -11,7 +11,7 @@ use std::marker::Model;
 
 /// A formula in conjunctive normal form: a number of variables, which are numbered from 1, and a list of clauses
 /// over these variables alone, as in the DIMACS format. It is true where each of its clauses is.
-#[derive(Drop, Debug)]
+#[derive(Drop)]
 pub struct Cnf {
     variables: u64,
     clauses: Vec<Clause>,

@@ -4,7 +4,7 @@ ghost use Rattle.resolution_proof.specs.Literal.{negation};
 
 /// A variable (`positive`) or its complement, as in the DIMACS format for formulas in conjunctive normal form.
 /// Variables are numbered from 1.
-#[derive(Clone, Copy, Debug, PartialEq, Eq)]
+#[derive(Clone, Copy, PartialEq, Eq)]
 pub struct Literal {
     pub variable: u64,
     pub positive: bool,

@@ -2,7 +2,7 @@
 
 /// One step of one worker, or a split or a join of workers. Modules, edges and workers are given by their numbers: `w`
 /// a worker, `m` a module, `c` a caller and `i` the position of an edge in its list of callees.
-#[derive(Clone, Copy, Debug, PartialEq, Eq)]
+#[derive(Clone, Copy, PartialEq, Eq)]
 pub enum Event {
     /// The worker draws the next leaf module, or finds that there is none.
     Claim { w: u32 },

@@ -1,7 +1,7 @@
 //! What is known of a module, of an edge and of a worker.
 
 /// Where a module stands: with no worker yet, or with the worker that is to work it, works it, or did.
-#[derive(Clone, Copy, Debug, PartialEq, Eq)]
+#[derive(Clone, Copy, PartialEq, Eq)]
 pub enum Stage {
     /// No worker owes it yet.
     Waiting,
@@ -14,7 +14,7 @@ pub enum Stage {
 }
 
 /// What stands on an edge from a callee to a caller.
-#[derive(Clone, Copy, Debug, PartialEq, Eq)]
+#[derive(Clone, Copy, PartialEq, Eq)]
 pub enum Fill {
     /// Nothing was put on it yet.
     Empty,
@@ -25,14 +25,14 @@ pub enum Fill {
 }
 
 /// An edge: what stands on it, and whether it was reported to the caller.
-#[derive(Clone, Copy, Debug, PartialEq, Eq)]
+#[derive(Clone, Copy, PartialEq, Eq)]
 pub struct Edge {
     pub fill: Fill,
     pub reported: bool,
 }
 
 /// A worker: whether it has drawn past the leaves, and whether it has gone.
-#[derive(Clone, Copy, Debug, PartialEq, Eq)]
+#[derive(Clone, Copy, PartialEq, Eq)]
 pub struct Worker {
     pub passed: bool,
     pub gone: bool,

@@ -15,7 +15,7 @@ use smallvec::SmallVec;
 use std::alloc::{AllocError, Global};
 
 /// The operands of a `comb.mux`.
-#[derive(Clone, Copy, Debug)]
+#[derive(Clone, Copy)]
 pub struct Choice {
     /// What decides.
     pub condition: Value,

@@ -22,7 +22,7 @@ use miter_rows::parts::concatenation;
 use std::alloc::{AllocError, Global};
 
 /// How many bits the inputs of a module have, and how many its registers hold.
-#[derive(Clone, Copy, Debug)]
+#[derive(Clone, Copy)]
 pub struct Sizes {
     /// The bits of the inputs.
     pub inputs: u32,

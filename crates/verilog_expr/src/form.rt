@@ -9,7 +9,7 @@ use io_edge::byte_text::Text;
 use std::alloc::AllocError;
 
 /// The binary operators, but `?:` (IEEE 1364-2005, 5.1).
-#[derive(Clone, Copy, Debug)]
+#[derive(Clone, Copy)]
 pub enum Operator {
     /// `*`
     Times,
@@ -48,7 +48,7 @@ pub enum Operator {
 }
 
 /// What stands round the operands of an expression.
-#[derive(Clone, Copy, Debug)]
+#[derive(Clone, Copy)]
 pub enum Form {
     /// Nothing: one operand as it is.
     Same,

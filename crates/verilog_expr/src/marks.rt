@@ -15,7 +15,7 @@ use ir_store::operation::Value;
 use std::alloc::{AllocError, Global};
 
 /// How the first result of an operation is used.
-#[derive(Clone, Copy, Debug)]
+#[derive(Clone, Copy)]
 pub struct Mark {
     /// How many places name it, at most two.
     pub uses: u8,

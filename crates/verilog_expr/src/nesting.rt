@@ -18,7 +18,7 @@ use ir_store::dictionary::{Attribute, Entry};
 use std::alloc::{AllocError, Global};
 
 /// What an operation is to those that use it.
-#[derive(Clone, Copy, Debug)]
+#[derive(Clone, Copy)]
 pub enum Part {
     /// A name or a literal: a register, a wire, an instance, a constant.
     Flat,

@@ -13,7 +13,7 @@ use hw_model::integer_values::family_value;
 use hw_model::kinds::{Integer, OpKind, Predicate};
 
 /// What an operation's expression is.
-#[derive(Clone, Copy, Debug)]
+#[derive(Clone, Copy)]
 pub enum Template {
     /// Nothing: the operation has none.
     Missing,

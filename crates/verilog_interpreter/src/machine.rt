@@ -51,7 +51,7 @@ pub struct Machine<'p> {
 }
 
 /// What a step gives.
-#[derive(Debug, Drop)]
+#[derive(Drop)]
 pub struct Stepped {
     /// The words of the outputs, in port order.
     pub outputs: Vec<Bits>,

@@ -6,7 +6,7 @@ use crate::tree::{Context, Node, Operator};
 use std::alloc::Global;
 
 /// A width and a sign.
-#[derive(Clone, Copy, Debug)]
+#[derive(Clone, Copy)]
 pub struct Shape {
     pub width: u32,
     pub is_signed: bool,

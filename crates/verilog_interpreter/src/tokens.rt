@@ -2,7 +2,7 @@
 use std::alloc::{AllocError, Global};
 
 /// A token.
-#[derive(Clone, Copy, Debug)]
+#[derive(Clone, Copy)]
 pub enum Token<'t> {
     /// A name, a keyword or a numeral.
     Word(&'t [u8]),
@@ -13,7 +13,7 @@ pub enum Token<'t> {
 }
 
 // What a byte belongs to.
-#[derive(Clone, Copy, Debug, PartialEq, Eq)]
+#[derive(Clone, Copy, PartialEq, Eq)]
 enum Sort {
     Word,
     Operator,

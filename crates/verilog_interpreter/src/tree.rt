@@ -4,7 +4,7 @@ ghost use Rattle.std.specs.Prelude.{◌≤◌};
 use bits_core::Bits;
 
 /// A binary operator.
-#[derive(Clone, Copy, Debug, PartialEq, Eq)]
+#[derive(Clone, Copy, PartialEq, Eq)]
 pub enum Operator {
     Times,
     Over,
@@ -26,7 +26,7 @@ pub enum Operator {
 }
 
 /// Which operands of an operator stand in its context (IEEE 1364-2005, 5.4.1, table 5-22).
-#[derive(Clone, Copy, Debug, PartialEq, Eq)]
+#[derive(Clone, Copy, PartialEq, Eq)]
 pub enum Context {
     BothOperands,
     LeftOperand,
@@ -66,7 +66,7 @@ impl Operator {
 }
 
 /// A part of an expression, whose own parts stand before it.
-#[derive(Clone, Copy, Debug)]
+#[derive(Clone, Copy)]
 pub enum Node {
     /// A name, and its bits.
     Net {
@@ -118,13 +118,13 @@ pub enum Node {
 }
 
 /// An expression: its parts, the whole one last.
-#[derive(Debug, Drop)]
+#[derive(Drop)]
 pub struct Expression {
     pub nodes: Vec<Node>,
 }
 
 /// What a declared name is.
-#[derive(Clone, Copy, Debug, PartialEq, Eq)]
+#[derive(Clone, Copy, PartialEq, Eq)]
 pub enum Role {
     Input,
     Output,
@@ -133,7 +133,7 @@ pub enum Role {
 }
 
 /// A name that a module declares, with its number of bits.
-#[derive(Clone, Copy, Debug)]
+#[derive(Clone, Copy)]
 pub struct Declared<'t> {
     pub name: &'t [u8],
     pub role: Role,
@@ -142,7 +142,7 @@ pub struct Declared<'t> {
 }
 
 /// What a register takes, where the condition holds or none is asked.
-#[derive(Debug, Drop)]
+#[derive(Drop)]
 pub struct Branch {
     pub condition: Option<Expression>,
     pub value: Expression,
@@ -150,7 +150,7 @@ pub struct Branch {
 
 /// A register: its clock, its name, and its branches, of which the first that holds is taken. Where a second event loads it
 /// too, that is the rise of a net, for which the first of its two branches asks.
-#[derive(Debug, Drop)]
+#[derive(Drop)]
 pub struct Always {
     pub clock: usize,
     pub second_event: Option<usize>,
@@ -159,21 +159,21 @@ pub struct Always {
 }
 
 /// A connection of an instance: a port's name, and what is joined to it.
-#[derive(Debug, Drop)]
+#[derive(Drop)]
 pub struct Connection<'t> {
     pub port: &'t [u8],
     pub value: Expression,
 }
 
 /// An instance: its module's name and its connections.
-#[derive(Debug, Drop)]
+#[derive(Drop)]
 pub struct Instance<'t> {
     pub module_name: &'t [u8],
     pub connections: Vec<Connection<'t>>,
 }
 
 /// An item of a module, but a declaration.
-#[derive(Debug, Drop)]
+#[derive(Drop)]
 pub enum Item<'t> {
     Assign { target: usize, value: Expression },
     Register(Always),
@@ -181,7 +181,7 @@ pub enum Item<'t> {
 }
 
 /// A module: its name, what it declares, its ports first, and its items.
-#[derive(Debug, Drop)]
+#[derive(Drop)]
 pub struct Module<'t> {
     pub name: &'t [u8],
     pub declared: Vec<Declared<'t>>,
