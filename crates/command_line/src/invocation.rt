@@ -1,20 +1,23 @@
 //! What the words of a command line say.
 ghost use Rattle.std.specs.List.{cons_option};
-ghost use Rattle.std.specs.Prelude.{◌≡◌, IfOk, IfErr, OnOk, IfSome, ◌≤◌, ◌++◌, map, string_bytes, option_map, codes, [], Some, Ok, Err};
-ghost use Rattle.clap.specs.Words.{found_of, rows_of, first_of, fault_of, subcommand_of, subcommand_rows_of};
+ghost use Rattle.std.specs.Prelude.{◌≡◌, IfOk, IfErr, OnOk, ◌≤◌, ◌++◌, map, string_bytes, option_map, codes, [], Ok, Err};
+ghost use Rattle.clap.specs.Words.{found_of, rows_of, fault_of, subcommand_of, subcommand_rows_of};
 ghost use Rattle.pass_pipeline.specs.Pipelines.{passes};
 ghost use Rattle.command_line.specs.Commands.{circt_app};
 ghost use Rattle.command_line.specs.Making.{IsMade};
 ghost use Rattle.command_line.specs.Line.Work.{verilog};
-ghost use Rattle.command_line.specs.Line.{line, parse, require_subcommand, with_files, on_passes, input_in, inputs_in, output_in, items_text, in_items, in_pipeline, in_list, passes_in, is_given_twice, mlir_work, number_in, generated_work, gen_work, limit_in, name_in, is_dash, is_stdin_twice, second_in, lec_work, passes_work, work_in, is_flagged, workers_said, workers_in, command_in};
+ghost use Rattle.command_line.specs.Line.{line, parse, require_subcommand, with_files, on_passes, inputs_in, output_in, items_text, in_items, in_pipeline, in_list, passes_in, mlir_work, generated_work, gen_work, second_in, lec_work, passes_work, work_in, is_flagged, command_in};
 ghost use Rattle.command_line.specs.Invocations.{work_of, Says, SaysWork, SaysPasses, IsFault};
 
 use crate::commands::circt_command;
 use crate::comparison::Comparison;
 use crate::normalise::{WordsFail, normalise};
-use crate::numbers::number_between;
 use crate::recipe::Recipe;
 use crate::usage::UsageKind;
+use crate::values::{
+    input_in, is_flagged, is_given_twice, is_stdin_twice, limit_in, name_in, number_in, output_in,
+    value, workers_in,
+};
 use crate::workers::Workers;
 use clap::error::ErrorKind;
 use clap::{ArgMatches, Command};
@@ -24,9 +27,6 @@ use std::alloc::{AllocError, Global};
 
 /// How many modules are generated at most.
 const MOST_MODULES: u64 = 10_000;
-
-/// How many clauses may be learnt where nothing is said.
-const USUAL_LIMIT: u64 = 1_000_000;
 
 /// What is made of the inputs.
 #[derive(Drop)]
@@ -201,28 +201,6 @@ fn files_in(
     }
 }
 
-/// How many workers are to work modules: as many as are said, or the usual number; one where threads are not wanted.
-fn workers_in(matches: &ArgMatches<'_>) -> Option<Workers>
-    ensures { option_map (λ w. w.count) result ≡ workers_in (rows_of (found_of matches.now)) }
-{
-    let workers = workers_said(matches)?;
-    if is_flagged(matches, "mlir-disable-threading") {
-        Some(Workers::one())
-    } else {
-        Some(workers)
-    }
-}
-
-/// As many as are said, or the usual number.
-fn workers_said(matches: &ArgMatches<'_>) -> Option<Workers>
-    ensures { option_map (λ w. w.count) result ≡ workers_said (first_of (codes "workers") (rows_of (found_of matches.now))) }
-{
-    match value(matches, "workers") {
-        Some(text) => Workers::read(text),
-        None => Some(Workers::usual()),
-    }
-}
-
 /// The work of a command of this name.
 fn work_in(
     alloc: Global,
@@ -269,18 +247,6 @@ fn generated_work(is_verilog: bool, recipe: Recipe) -> Work
     }
 }
 
-/// The number from `least` to `most` that an argument says.
-fn number_in(matches: &ArgMatches<'_>, id: &str, least: u64, most: u64) -> Option<u64>
-    ensures is { result ≡ number_in least most (first_of id.now (rows_of (found_of matches.now))) }
-    ensures least { IfSome result (λ n. least ≤ n) }
-    ensures most { IfSome result (λ n. n ≤ most) }
-{
-    match value(matches, id) {
-        Some(text) => number_between(text, least, most),
-        None => None,
-    }
-}
-
 /// The work of `lec`.
 fn lec_work(alloc: Global, matches: &ArgMatches<'_>) -> Result<Work, LineFail>
     ensures { SaysWork (lec_work (rows_of (found_of matches.now))) result }
@@ -320,41 +286,6 @@ fn comparison_of(
             conflict_limit,
         }),
         Err(error) => Err(error),
-    }
-}
-
-/// How many clauses may be learnt.
-fn limit_in(matches: &ArgMatches<'_>) -> Option<u64>
-    ensures is { result ≡ limit_in (first_of (codes "conflict-limit") (rows_of (found_of matches.now))) }
-    ensures some { IfSome result (λ n. 1 ≤ n) }
-{
-    match value(matches, "conflict-limit") {
-        Some(text) => number_between(text, 1, u64::MAX),
-        None => Some(USUAL_LIMIT),
-    }
-}
-
-/// The value of an argument that is asked for.
-fn name_in<'a>(matches: &ArgMatches<'a>, id: &str) -> &'a str
-    ensures { result.now ≡ name_in (first_of id.now (rows_of (found_of matches.now))) }
-{
-    value(matches, id).unwrap_or("")
-}
-
-/// Whether standard input is named twice.
-fn is_stdin_twice(matches: &ArgMatches<'_>) -> bool
-    ensures { result ≡ is_stdin_twice (rows_of (found_of matches.now)) }
-{
-    input_in(matches) == "-" && is_dash(value(matches, "second-file"))
-}
-
-/// Whether a name is that of standard input.
-fn is_dash(name: Option<&str>) -> bool
-    ensures { result ≡ is_dash (option_map (λ s. s.now) name.entry) }
-{
-    match name {
-        Some(name) => name == "-",
-        None => false,
     }
 }
 
@@ -408,13 +339,6 @@ fn mlir_work(splits: bool, passes: Pipeline) -> Work
     } else {
         Work::Mlir(passes)
     }
-}
-
-/// Whether passes are given both by flags and by a pipeline.
-fn is_given_twice(matches: &ArgMatches<'_>) -> bool
-    ensures { result ≡ is_given_twice (rows_of (found_of matches.now)) }
-{
-    value(matches, "passes").is_some() && value(matches, "pass-pipeline").is_some()
 }
 
 /// The passes that are given.
@@ -500,45 +424,4 @@ fn push_second(
         inputs.push(String::from_str(alloc, name)?)?;
     }
     Ok(())
-}
-
-/// The name of the file that is read.
-fn input_in<'a>(matches: &ArgMatches<'a>) -> &'a str
-    ensures { result.now ≡ input_in (rows_of (found_of matches.now)) }
-{
-    value(matches, "file").unwrap_or("-")
-}
-
-/// The name of the file that is written, if one is.
-fn output_in(alloc: Global, matches: &ArgMatches<'_>) -> Result<Option<String>, AllocError>
-    ensures { IfOk result (λ o. option_map string_bytes o ≡ output_in (rows_of (found_of matches.now))) }
-{
-    match named_output(matches) {
-        Some(name) => Ok(Some(String::from_str(alloc, name)?)),
-        None => Ok(None),
-    }
-}
-
-/// The name after `-o`, but for `-`.
-fn named_output<'a>(matches: &ArgMatches<'a>) -> Option<&'a str>
-    ensures { option_map (λ s. s.now) result ≡ output_in (rows_of (found_of matches.now)) }
-{
-    value(matches, "output").filter(|name| *name != "-")
-}
-
-/// Whether a flag is given.
-fn is_flagged(matches: &ArgMatches<'_>, id: &str) -> bool
-    ensures { result ≡ is_flagged id.now (rows_of (found_of matches.now)) }
-{
-    match value(matches, id) {
-        Some(text) => text == "true",
-        None => false,
-    }
-}
-
-/// The value of an argument.
-fn value<'a>(matches: &ArgMatches<'a>, id: &str) -> Option<&'a str>
-    ensures { option_map (λ s. s.now) result ≡ first_of id.now (rows_of (found_of matches.now)) }
-{
-    matches.get_str(id)
 }

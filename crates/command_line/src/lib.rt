@@ -9,4 +9,5 @@ pub mod normalise;
 mod numbers;
 pub mod recipe;
 pub mod usage;
+mod values;
 pub mod workers;
