@@ -140,10 +140,8 @@ impl Watcher {
         ensures propagates { Propagates self.new.table.clauses.items self.old.trail.entries self.new.trail.entries }
         ensures outcome { IfOk result (IsOutcome self.new.table.clauses.items (literals self.new.trail.entries)) }
     {
-        while self.short_head < self.table.short.len() {
-            if let Some(conflict) = self.propagate_short() {
-                return Ok(Some(conflict));
-            }
+        if let Some(conflict) = self.propagate_all_short() {
+            return Ok(Some(conflict));
         }
         while self.head < self.trail.len() {
             match self.read_next() {
@@ -152,6 +150,24 @@ impl Watcher {
             }
         }
         Ok(None)
+    }
+
+    /// Makes each clause of fewer than two literals true. The result is the number of the first one that is false, if there is one.
+    fn propagate_all_short(&mut self) -> Option<u64>
+        requires { IsWatching self.old }
+        ensures watching { IsWatching self.new }
+        ensures clauses { self.new.table.clauses ≡ self.old.table.clauses }
+        ensures variables { self.new.trail.variables ≡ self.old.trail.variables }
+        ensures propagates { Propagates self.new.table.clauses.items self.old.trail.entries self.new.trail.entries }
+        ensures conflict { IfSome result (IsConflict self.new.table.clauses.items (literals self.new.trail.entries)) }
+        ensures all { IfNone result (length self.new.table.short.items ≤ self.new.short_head) }
+    {
+        while self.short_head < self.table.short.len() {
+            if let Some(conflict) = self.propagate_short() {
+                return Some(conflict);
+            }
+        }
+        None
     }
 
     /// Makes the next clause of fewer than two literals true. The result is its number, if it is false.

@@ -5,46 +5,36 @@ use Rattle.cdcl_proof.proofs.Covering.{closed_all}
 use Rattle.cdcl_proof.proofs.Visiting.{propagates_on}
 use Rattle.cdcl_proof.proofs.watcher.Watcher.propagate.Goals as goal
 
-pub returns-in-Some-clause-propagates : goal.returns-in-Some-clause-propagates
-returns-in-Some-clause-propagates c =
-    propagates_on c.args.self.now.trail.entries c.loop-self.self c.propagate_short.new.self c.propagate_short.ensures.clauses c.loop-self.invariant.propagates c.propagate_short.ensures.propagates
-
-pub loop-self-preserved : goal.loop-self-preserved
-loop-self-preserved c =
-    let e = c.propagate_short.ensures in
-    let i = c.loop-self.invariant in
-    record { watching = e.watching; clauses = e.clauses ∙ i.clauses; variables = e.variables ∙ i.variables; propagates = propagates_on c.args.self.now.trail.entries c.loop-self.self c.propagate_short.new.self c.propagate_short.ensures.clauses c.loop-self.invariant.propagates c.propagate_short.ensures.propagates }
-
 pub returns-in_default-read_next-clause-propagates : goal.returns-in_default-read_next-clause-propagates
 returns-in_default-read_next-clause-propagates c =
-    propagates_on c.args.self.now.trail.entries c.loop-self-2.self c.read_next.new.self c.read_next.ensures.clauses c.loop-self-2.invariant.propagates c.read_next.ensures.propagates
+    propagates_on c.args.self.now.trail.entries c.loop-self.self c.read_next.new.self c.read_next.ensures.clauses c.loop-self.invariant.propagates c.read_next.ensures.propagates
 
 pub returns-in_default-read_next-2-clause-propagates : goal.returns-in_default-read_next-2-clause-propagates
 returns-in_default-read_next-2-clause-propagates c =
-    propagates_on c.args.self.now.trail.entries c.loop-self-2.self c.read_next.new.self c.read_next.ensures.clauses c.loop-self-2.invariant.propagates c.read_next.ensures.propagates
+    propagates_on c.args.self.now.trail.entries c.loop-self.self c.read_next.new.self c.read_next.ensures.clauses c.loop-self.invariant.propagates c.read_next.ensures.propagates
 
-pub loop-self-2-smaller : goal.loop-self-2-smaller
-loop-self-2-smaller c =
+pub loop-self-smaller : goal.loop-self-smaller
+loop-self-smaller c =
     let e = c.in-Ok-None.ensures in
     let next = rw c.in-Ok-None.field-0-is at e.next in
-    let i = c.loop-self-2.invariant in
-    let bound = length_below c.loop-self-2.self.trail.variables c.loop-self-2.self.trail.entries c.len-in-loop-self-2.ensures.apart in
-    let len = c.len-in-loop-self-2.ensures.len in
+    let i = c.loop-self.invariant in
+    let bound = length_below c.loop-self.self.trail.variables c.loop-self.self.trail.entries c.len.ensures.apart in
+    let len = c.len.ensures.len in
     let variables = e.variables in
-    omega (arith, next, bound, len, variables, c.loop-self-2-test.true)
+    omega (arith, next, bound, len, variables, c.loop-self-test.true)
 
-pub loop-self-2-preserved : goal.loop-self-2-preserved
-loop-self-2-preserved c =
+pub loop-self-preserved : goal.loop-self-preserved
+loop-self-preserved c =
     let e = c.read_next.ensures in
-    let i = c.loop-self-2.invariant in
+    let i = c.loop-self.invariant in
     let short = ap (λ (x : Vec ℕ Global). length x.items) e.short in
     let all = i.all in
     let short_head = e.short_head in
-    record { watching = e.watching; clauses = e.clauses ∙ i.clauses; variables = e.variables ∙ i.variables; propagates = propagates_on c.args.self.now.trail.entries c.loop-self-2.self c.read_next.new.self c.read_next.ensures.clauses c.loop-self-2.invariant.propagates c.read_next.ensures.propagates; all = omega (arith, short, all, short_head) }
+    record { watching = e.watching; clauses = e.clauses ∙ i.clauses; variables = e.variables ∙ i.variables; propagates = propagates_on c.args.self.now.trail.entries c.loop-self.self c.read_next.new.self c.read_next.ensures.clauses c.loop-self.invariant.propagates c.read_next.ensures.propagates; all = omega (arith, short, all, short_head) }
 
 pub returns-clause-outcome : goal.returns-clause-outcome
 returns-clause-outcome c =
-    let i = c.loop-self-2.invariant in
+    let i = c.loop-self.invariant in
     let w = i.watching in
-    let s = c.loop-self-2.self in
-    closed_all c.loop-self-2.self.table.clauses.items c.loop-self-2.self.table.rows.items c.loop-self-2.self.table.short.items c.loop-self-2.self.trail.entries c.loop-self-2.self.head c.loop-self-2.self.marks.items c.loop-self-2.self.short_head c.loop-self-2.self.base w.table.rows w.table.short w.progress (omega (arith, c.len-in-loop-self-2.ensures.len, c.loop-self-2-test.false)) i.all
+    let s = c.loop-self.self in
+    closed_all c.loop-self.self.table.clauses.items c.loop-self.self.table.rows.items c.loop-self.self.table.short.items c.loop-self.self.trail.entries c.loop-self.self.head c.loop-self.self.marks.items c.loop-self.self.short_head c.loop-self.self.base w.table.rows w.table.short w.progress (omega (arith, c.len.ensures.len, c.loop-self-test.false)) i.all

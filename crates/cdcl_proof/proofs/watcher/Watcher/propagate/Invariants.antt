@@ -9,19 +9,8 @@ invariant-loop-self l = record {
   clauses : l.self.table.clauses ≡ l.fn.self.table.clauses;
   variables : l.self.trail.variables ≡ l.fn.self.trail.variables;
   propagates : Propagates l.self.table.clauses.items l.fn.self.trail.entries l.self.trail.entries;
-}
-
-abbrev pub decreases-loop-self : goal.decreases-loop-self
-decreases-loop-self l = length l.self.table.short.items - l.self.short_head
-
-abbrev pub invariant-loop-self-2 : goal.invariant-loop-self-2
-invariant-loop-self-2 l = record {
-  watching : IsWatching l.self;
-  clauses : l.self.table.clauses ≡ l.fn.self.table.clauses;
-  variables : l.self.trail.variables ≡ l.fn.self.trail.variables;
-  propagates : Propagates l.self.table.clauses.items l.fn.self.trail.entries l.self.trail.entries;
   all : length l.self.table.short.items ≤ l.self.short_head;
 }
 
-abbrev pub decreases-loop-self-2 : goal.decreases-loop-self-2
-decreases-loop-self-2 l = l.self.trail.variables - l.self.head
+abbrev pub decreases-loop-self : goal.decreases-loop-self
+decreases-loop-self l = l.self.trail.variables - l.self.head
