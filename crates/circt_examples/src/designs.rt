@@ -1,5 +1,6 @@
 //! Designs that a text describes, as the interpreter takes them.
 use hw_interpreter::design::{Module, Operand, Operation, Port};
+use hw_model::types::Ty;
 use ir_store::body::{Body, Op};
 use ir_store::design;
 use ir_store::operation::Value;
@@ -63,22 +64,34 @@ fn operand_of(value: Value) -> Operand {
 }
 
 fn operation_of(alloc: Global, op: &Op<'_>) -> Result<Operation, AllocError> {
+    Ok(Operation {
+        kind: op.kind.try_clone(alloc)?,
+        operands: operands_of(alloc, op)?,
+        types: types_of(alloc, op)?,
+        results: results_of(alloc, op)?,
+    })
+}
+
+fn operands_of(alloc: Global, op: &Op<'_>) -> Result<Vec<Operand>, AllocError> {
     let mut operands = Vec::new(alloc);
     for value in op.operands {
         operands.push(operand_of(*value))?;
     }
+    Ok(operands)
+}
+
+fn types_of(alloc: Global, op: &Op<'_>) -> Result<Vec<Ty>, AllocError> {
     let mut types = Vec::new(alloc);
     for ty in op.types.as_slice() {
         types.push(ty.try_clone(alloc)?)?;
     }
+    Ok(types)
+}
+
+fn results_of(alloc: Global, op: &Op<'_>) -> Result<Vec<Ty>, AllocError> {
     let mut results = Vec::new(alloc);
-    for one in op.results.as_slice() {
-        results.push(one.ty.try_clone(alloc)?)?;
+    for result in op.results.as_slice() {
+        results.push(result.ty.try_clone(alloc)?)?;
     }
-    Ok(Operation {
-        kind: op.kind.try_clone(alloc)?,
-        operands,
-        types,
-        results,
-    })
+    Ok(results)
 }

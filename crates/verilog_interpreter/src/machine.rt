@@ -243,18 +243,13 @@ impl<'p> Machine<'p> {
         inputs: &[Bits],
         content: &[Bits],
     ) -> Result<Vec<Option<Bits>>, Fault> {
-        let mut nets = Vec::new(alloc);
-        for _ in self.widths.as_slice() {
-            nets.push(None)?;
-        }
+        let mut nets = vec![in alloc; None; self.widths.len()]?;
         for _ in 0..self.widths.len() {
             if !self.pass(alloc, inputs, content, &mut nets)? {
                 break;
             }
         }
-        for net in nets.as_slice() {
-            require(net.is_some())?;
-        }
+        require(nets.iter().all(|net| net.is_some()))?;
         Ok(nets)
     }
 
