@@ -45,15 +45,40 @@ fn put_until(alloc: Global, last: u32) -> (Vec<u8>, bool, u64) {
     (writer.taken, is_ok, faults)
 }
 
+/// Which write takes nothing, what is written, and whether all of it was put with how many faults.
+struct Row {
+    last: u32,
+    taken: &'static [u8],
+    is_ok: bool,
+    faults: u64,
+}
+
+const ROWS: [Row; 3] = [
+    Row {
+        last: 9,
+        taken: b"abcdefgh",
+        is_ok: true,
+        faults: 1,
+    },
+    Row {
+        last: 3,
+        taken: b"abc",
+        is_ok: false,
+        faults: 2,
+    },
+    Row {
+        last: 1,
+        taken: b"",
+        is_ok: false,
+        faults: 1,
+    },
+];
+
 #[test]
 fn writes_to_the_end_or_a_fault(rt: HostRuntime) {
-    for (last, wanted, faults, is_well) in [
-        (9, b"abcdefgh".as_slice(), 1, true),
-        (3, b"abc".as_slice(), 2, false),
-        (1, b"".as_slice(), 1, false),
-    ] {
-        let (taken, is_ok, met) = put_until(rt.alloc(), last);
-        assert_eq!(rt; taken.as_slice(), wanted, "at {last}");
-        assert_eq!(rt; (met, is_ok), (faults, is_well), "at {last}");
+    for row in &ROWS {
+        let (taken, is_ok, faults) = put_until(rt.alloc(), row.last);
+        assert_eq!(rt; taken.as_slice(), row.taken, "at {}", row.last);
+        assert_eq!(rt; (is_ok, faults), (row.is_ok, row.faults), "at {}", row.last);
     }
 }

@@ -65,18 +65,51 @@ fn counts(alloc: Global, text: &[u8]) -> (u32, usize) {
     }
 }
 
+/// A text, how many modules it gives, and how many operations its first module has.
+struct Row {
+    text: &'static str,
+    modules: u32,
+    operations: usize,
+}
+
+const ROWS: [Row; 6] = [
+    Row {
+        text: "",
+        modules: 0,
+        operations: 0,
+    },
+    Row {
+        text: "module {}",
+        modules: 0,
+        operations: 0,
+    },
+    Row {
+        text: "builtin.module {hw.module @A() {}}",
+        modules: 1,
+        operations: 1,
+    },
+    Row {
+        text: "hw.module @A() {} hw.module @A(out o : i1) {}",
+        modules: 2,
+        operations: 1,
+    },
+    Row {
+        text: "hw.module @A(out o : i1) {}",
+        modules: 1,
+        operations: 0,
+    },
+    Row {
+        text: FORMS,
+        modules: 2,
+        operations: 40,
+    },
+];
+
 #[test]
 fn every_form_is_read(rt: HostRuntime) -> Result<(), Fail> {
-    for (text, modules, operations) in [
-        ("", 0, 0),
-        ("module {}", 0, 0),
-        ("builtin.module {hw.module @A() {}}", 1, 1),
-        ("hw.module @A() {} hw.module @A(out o : i1) {}", 2, 1),
-        ("hw.module @A(out o : i1) {}", 1, 0),
-        (FORMS, 2, 40),
-    ] {
-        let found = counts(rt.alloc(), text.as_bytes());
-        assert_eq!(rt; found, (modules, operations), "of {text}");
+    for row in &ROWS {
+        let found = counts(rt.alloc(), row.text.as_bytes());
+        assert_eq!(rt; found, (row.modules, row.operations), "of {}", row.text);
     }
     Ok(())
 }

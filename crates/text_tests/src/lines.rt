@@ -6,63 +6,72 @@ use io_edge::memory_sink::MemorySink;
 use opcode::listed::Listed;
 use std::test::Fail;
 
+const SOURCE: &[u8] = b"%0 = comb.nand";
+
+/// A refusal of the source, and its error message.
+struct Row {
+    /// The name of the file.
+    name: &'static str,
+    place: Place,
+    op: OpName,
+    cause: Cause,
+    message: &'static str,
+}
+
+const ROWS: [Row; 5] = [
+    Row {
+        name: "-",
+        place: Place { line: 2, col: 8 },
+        op: OpName::Listed(Listed::HwConstant),
+        cause: Cause::ConstantRange,
+        message: "<stdin>:2:8: error: 'hw.constant' V5: constant out of range\n",
+    },
+    Row {
+        name: "a.mlir",
+        place: Place { line: 1, col: 1 },
+        op: OpName::File,
+        cause: Cause::TooLong,
+        message: "a.mlir:1:1: error: 'builtin.module' S7: text too long\n",
+    },
+    Row {
+        name: "b",
+        place: Place {
+            line: 10,
+            col: 4_294_967_295,
+        },
+        op: OpName::Other { at: 5, len: 9 },
+        cause: Cause::UnknownOperation,
+        message: "b:10:4294967295: error: 'comb.nand' S3: unknown operation\n",
+    },
+    Row {
+        name: "",
+        place: Place { line: 3, col: 1 },
+        op: OpName::Listed(Listed::SeqCompregCe),
+        cause: Cause::InstancePorts,
+        message: ":3:1: error: 'seq.compreg.ce' V18: instance differs from the module's ports\n",
+    },
+    Row {
+        name: "c",
+        place: Place { line: 1, col: 1 },
+        op: OpName::Listed(Listed::HwModule),
+        cause: Cause::TooManyGates,
+        message: "c:1:1: error: 'hw.module' L4: too many gates\n",
+    },
+];
+
 #[test]
 fn a_refusal_is_one_line(rt: HostRuntime) -> Result<(), Fail> {
-    let source = b"%0 = comb.nand";
-    for (name, line, col, op, cause, wanted) in [
-        (
-            "-",
-            2,
-            8,
-            OpName::Listed(Listed::HwConstant),
-            Cause::ConstantRange,
-            "<stdin>:2:8: error: 'hw.constant' V5: constant out of range\n",
-        ),
-        (
-            "a.mlir",
-            1,
-            1,
-            OpName::File,
-            Cause::TooLong,
-            "a.mlir:1:1: error: 'builtin.module' S7: text too long\n",
-        ),
-        (
-            "b",
-            10,
-            4_294_967_295,
-            OpName::Other { at: 5, len: 9 },
-            Cause::UnknownOperation,
-            "b:10:4294967295: error: 'comb.nand' S3: unknown operation\n",
-        ),
-        (
-            "",
-            3,
-            1,
-            OpName::Listed(Listed::SeqCompregCe),
-            Cause::InstancePorts,
-            ":3:1: error: 'seq.compreg.ce' V18: instance differs from the module's ports\n",
-        ),
-        (
-            "c",
-            1,
-            1,
-            OpName::Listed(Listed::HwModule),
-            Cause::TooManyGates,
-            "c:1:1: error: 'hw.module' L4: too many gates\n",
-        ),
-    ] {
+    for row in &ROWS {
         let refusal = Refusal {
             file: 0,
-            place: Place { line, col },
-            op,
-            cause,
+            place: row.place,
+            op: row.op,
+            cause: row.cause,
         };
         let mut sink = MemorySink::new(rt.alloc(), 100)?;
-        assert!(rt;
-            refusal_text(&mut sink, name, source, &refusal).is_ok(),
-            "{name}"
-        );
-        assert_eq!(rt; sink.contents(), wanted.as_bytes(), "{name}");
+        let is_ok = refusal_text(&mut sink, row.name, SOURCE, &refusal).is_ok();
+        assert!(rt; is_ok, "of {}", row.name);
+        assert_eq!(rt; sink.contents(), row.message.as_bytes(), "of {}", row.name);
     }
     Ok(())
 }
