@@ -4,13 +4,13 @@ ghost use Rattle.hw_model.specs.KindViews.{kind_of};
 ghost use Rattle.ir_store.specs.Bodies.{ids_of, ops_of, op_id};
 ghost use Rattle.ir_store.specs.Numbered.{ops_by_position};
 ghost use Rattle.body_edits.specs.Views.{HasOp};
-ghost use Rattle.inline_pass.specs.MovedOps.{other_value};
 ghost use Rattle.inline_pass.specs.WiresOut.{carried_value};
 ghost use Rattle.aggregate_accepted.specs.Joins.{only_joins};
 ghost use Rattle.aggregate_lower.specs.Chains.{is_flagged, flagged, join_flags, wire_taken, CanLeave, LeaveAlike, AreThere};
 
 use aggregate_rows::leaf_table::LeafTable;
 use hw_model::kinds::OpKind;
+use inline_pass::carried_value;
 use ir_store::body::Body;
 use ir_store::operation::{OpId, Value};
 use ir_store::position_table::ids_in;
@@ -142,31 +142,4 @@ pub fn only_joins(kind: &OpKind) -> bool
             | OpKind::StructInject(_)
             | OpKind::StructExplode
     )
-}
-
-/// What a wire carries: its first operand, unless that is its own result.
-pub fn carried_value(body: &Body, wire: OpId) -> Value
-    requires { HasOp body.now wire }
-    ensures { result ≡ carried_value wire.index (ops_of body.now) }
-{
-    match body.op(wire).operands.first() {
-        Some(value) => other_than(wire, *value),
-        None => Value::Undefined,
-    }
-}
-
-// The value, unless it is a result of an operation.
-fn other_than(op: OpId, value: Value) -> Value
-    ensures { result ≡ other_value op.index value }
-{
-    match value {
-        Value::Result(id, _) => {
-            if id.number() == op.number() {
-                Value::Undefined
-            } else {
-                value
-            }
-        }
-        Value::Port(_) | Value::Undefined => value,
-    }
 }

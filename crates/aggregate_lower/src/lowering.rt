@@ -16,13 +16,14 @@ ghost use Rattle.aggregate_lower.specs.JoinsOut.{ids_between, wires_out, joins_o
 ghost use Rattle.aggregate_lower.specs.MadeBodies.{numbered_from, blocks_made, joined_body, HasBody};
 
 use crate::aggregates::has_aggregates;
-use crate::chains::{carried_value, joined_wires, only_joins, shorten_chains};
+use crate::chains::{joined_wires, only_joins, shorten_chains};
 use aggregate_rows::arguments::Arguments;
 use aggregate_rows::blocks::put_block;
 use aggregate_rows::instances::Callees;
 use aggregate_rows::leaf_table::{LeafTable, leaf_table};
 use aggregate_rows::port_leaves::split_ports;
 use hw_model::kinds::OpKind;
+use inline_pass::carried_value;
 use ir_store::body::Body;
 use ir_store::design::{Design, Module, PortList};
 use ir_store::operation::{NewOp, OpId, Value};

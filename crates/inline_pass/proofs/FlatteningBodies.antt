@@ -46,12 +46,12 @@ length-with_ops zero ops (one ∷ ms) = refl
 length-with_ops (suc k) ops (one ∷ ms) = ap suc (length-with_ops k ops ms)
 
 -- the module whose operations are taken
-record Taken (ms : List StoredModule) (k : ℕ) (ops : List BodyOp) : Type 0 where
-  one : StoredModule
-  there : Some one ≡ slice_get ms k
-  is : one.ops ≡ ops
+pub record Taken (ms : List StoredModule) (k : ℕ) (ops : List BodyOp) : Type 0 where
+  pub one : StoredModule
+  pub there : Some one ≡ slice_get ms k
+  pub is : one.ops ≡ ops
 
-taken : (ms : List StoredModule) (k : ℕ) (ops : List BodyOp) → Some ops ≡ slice_get (map (λ (one : StoredModule). one.ops) ms) k → Taken ms k ops
+pub taken : (ms : List StoredModule) (k : ℕ) (ops : List BodyOp) → Some ops ≡ slice_get (map (λ (one : StoredModule). one.ops) ms) k → Taken ms k ops
 taken ms k ops at = go (slice_get ms k) refl (at ∙ slice_get-map (λ (one : StoredModule). one.ops) ms k)
   where
     go : (x : Option StoredModule) → slice_get ms k ≡ x → Some ops ≡ option_map (λ (one : StoredModule). one.ops) (slice_get ms k) → Taken ms k ops

@@ -184,7 +184,8 @@ module _ (S : Inlining) (u : Name) (is_renamed : S.rename ≡ renamed u) (bytes 
 
 -- ---- wires are taken out
 
-fit_without_wires : (n : ℕ) (front ws back : List Op) → length ws ≡ n → ((y : Op) → In y ws → IsBareWire y)
+-- a fit design stays fit without wires that stand side by side
+pub fit_without_wires : (n : ℕ) (front ws back : List Op) → length ws ≡ n → ((y : Op) → In y ws → IsBareWire y)
     → (d : Design) (k : ℕ) (m : Module) → IsFit d → slice_get d k ≡ Some m → m.body ≡ front ++ (ws ++ back)
     → IsFit (with_body d k m (unwire (length front) n m.body))
 fit_without_wires zero front ws back size bare d k m fit at body_is = subst IsFit (sym (set_some d k m at)) fit

@@ -80,7 +80,7 @@ pub(crate) fn take_wires_out(body: &mut Body, wires: &[OpId])
 }
 
 /// What a wire carries: its first operand, unless that is its own result.
-fn carried_value(body: &Body, wire: OpId) -> Value
+pub fn carried_value(body: &Body, wire: OpId) -> Value
     requires { HasOp body.now wire }
     ensures { result ≡ carried_value wire.index (ops_of body.now) }
 {

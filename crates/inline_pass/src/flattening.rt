@@ -7,7 +7,7 @@ ghost use Rattle.inline_pass.specs.FlatBodies.{HasInlinedAt};
 
 use crate::dead_modules::symbol_dce;
 use crate::inlining::inline_into;
-use crate::module_order::callees_first;
+use design_cycles::module_order;
 use ir_store::design::Design;
 use std::alloc::{AllocError, Global};
 
@@ -28,7 +28,7 @@ pub fn flatten_bodies(alloc: Global, design: &mut Design) -> Result<(), AllocErr
     requires { IsFit (design_of design.old) }
     ensures { OnOk result (design_of design.new ≡ flat_design (design_of design.old)) }
 {
-    let order = callees_first(alloc, design)?;
+    let order = module_order(alloc, design)?;
     for number in order.as_slice() {
         flatten_body(alloc, design, *number)?;
     }

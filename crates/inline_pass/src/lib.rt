@@ -8,9 +8,9 @@ pub mod dead_modules;
 pub mod flattening;
 pub mod inlining;
 mod laws;
-mod module_order;
 mod moved_ops;
 pub mod received;
 mod renamed_ops;
 
+pub use body_changes::carried_value;
 pub use laws::{dead_modules_go_once, flattening_keeps, symbol_dce_keeps};

@@ -7,8 +7,8 @@ use Rattle.op_verifier.proofs.Distinct.{distinct_symbols}
 use Rattle.inline_pass.proofs.FlatteningOrder.{none_flat, next_within, one_more_flat, all_flat}
 use Rattle.inline_pass.proofs.flattening.flatten_bodies.Goals as goal
 
-pub callees_first-requires-clause-distinct : goal.callees_first-requires-clause-distinct
-callees_first-requires-clause-distinct c = distinct_symbols (design_of c.args.design.now) c.requires.unrefused
+pub module_order-requires-clause-distinct : goal.module_order-requires-clause-distinct
+module_order-requires-clause-distinct c = distinct_symbols (design_of c.args.design.now) c.requires.unrefused
 
 pub loop-number-init : goal.loop-number-init
 loop-number-init c = none_flat (design_of c.args.design.now) c.requires
