@@ -1,7 +1,7 @@
 -- A design that keeps the modules of a fit one is fit, and accepted where it is light.
 use Rattle.std.proofs.Common.{◌≡◌, ◌⊎◌, ◌<◌, ◌≤◌, ◌+◌, ◌^◌, ℕ, zero, suc, Bool, true, false, cond, not, ◌&&◌, ◌||◌, List, [], ◌∷◌, map, take, length, Option, Some, None, option_map, slice_get, refl, sym, ap, subst, ◌∙◌, inl, inr, arith}
 use Rattle.std.specs.Prelude.{is_some}
-use Rattle.std.specs.Cmp.Lexicographic.{pointwise, same_text}
+use Rattle.std.specs.Cmp.Lexicographic.{pointwise}
 use Rattle.std.proofs.lemmas.List.{length-map}
 use Rattle.wiring.specs.Options.{bind, omap}
 use Rattle.wiring.specs.Wiring.{In, Depends as IsDependent}
@@ -10,7 +10,7 @@ use Rattle.wiring.proofs.Members.{In-slice_get, position_of_In, In-append_left, 
 use Rattle.diag.specs.declared.cause.Cause.TheVariants as cause
 use Rattle.hw_model.specs.Types.{Name, HwType}
 use Rattle.hw_model.specs.Kinds.{Instance}
-use Rattle.hw_model.specs.Design.{Ref, Port, OpResult, Op, Module, Design, same_name, find_module, instance_in, is_output_op, callee}
+use Rattle.hw_model.specs.Design.{Ref, Port, OpResult, Op, Module, Design, find_module, instance_in, is_output_op, callee}
 use Rattle.hw_model.specs.Design.Ref.{result}
 use Rattle.hw_model.specs.Flat.{net, async_reset_in}
 use Rattle.hw_model.specs.Hierarchy.{called_by, callee_symbols, calls}
@@ -21,7 +21,6 @@ use Rattle.hw_model.specs.Weight.{weight_of, module_weight, weight}
 use Rattle.hw_model.proofs.Finite.{heights_from_no_cycle, no_cycle_from_heights}
 use Rattle.ir_store.specs.ResultTypes.{result_types}
 use Rattle.op_checks.specs.CountChecks.{operands_written, type_count}
-use Rattle.design_cycles.specs.Asked.{HasDistinctSymbols}
 use Rattle.design_cycles.proofs.Callees.{found_at}
 use Rattle.port_checks.specs.InstanceChecks.{port_types, instance_cause}
 use Rattle.port_checks.specs.ResetPorts.{is_reset_port}
@@ -30,11 +29,12 @@ use Rattle.op_verifier.specs.Answers.{when}
 use Rattle.op_verifier.specs.OpChecks.{has_other_outputs, value_cause, alone_cause, outer_cause, op_cause}
 use Rattle.op_verifier.specs.ResetChecks.{has_other_reset, has_other_join}
 use Rattle.op_verifier.specs.Headers.{has_twice, has_output, ports_cause, names_cause, header_cause}
-use Rattle.op_verifier.specs.Faults.{op_refusal, header_refusal, body_fault, module_fault, faults_from, first_fault}
+use Rattle.op_verifier.specs.Faults.{op_refusal, header_refusal, body_fault, module_fault, first_fault}
 use Rattle.op_verifier.specs.Verdict.{IsRecursive, IsAccepted}
 use Rattle.op_verifier.proofs.AcceptedDesigns.{no_fault, accepted_finite, accepted_acyclic}
 use Rattle.op_verifier.proofs.Distinct.{distinct_symbols}
 use Rattle.op_verifier.proofs.InputResets.{resets_from_ports}
+use Rattle.op_verifier.proofs.NoFaults.{no_faults, none_before}
 use Rattle.op_verifier.proofs.SoundDesigns.{sound_design}
 use Rattle.op_verifier.proofs.Unrefused.{or_none, no_op_cause, no_header_cause, IsUnrefusedModule, ops_unrefused, module_unrefused}
 use Rattle.opcode.specs.declared.listed.Listed.TheVariants as listed
@@ -65,13 +65,6 @@ each_from P [] all = tt
 each_from P (x ∷ xs) all = (all 0 x refl, each_from P xs (λ i y is. all (suc i) y is))
 
 -- ---- what is refused of modules, by their places
-
-no_faults : (d : Design) (n : ℕ) (ms : List Module) → ((i : ℕ) (m : Module) → slice_get ms i ≡ Some m → module_fault d (n + i) m ≡ None) → faults_from d n ms ≡ None
-no_faults d n [] all = refl
-no_faults d n (x ∷ ms) all =
-    let e : n ≡ n + 0 = omega arith in
-    none_or (module_fault d n x) (faults_from d (suc n) ms) (ap (λ k. module_fault d k x) e ∙ all 0 x refl)
-    (no_faults d (suc n) ms (λ i m there. let f : suc n + i ≡ n + suc i = omega arith in ap (λ k. module_fault d k m) f ∙ all (suc i) m there))
 
 -- an operation of a body that ends with its output, as an output the last, is not refused, and so the body is not
 no_body_fault : (d : Design) (ports : List Port) (whole os : List Op)
@@ -119,37 +112,6 @@ printable_with ports os os' o rs count defined was = record {
   dictionary = was.dictionary;
   bin = was.bin;
 }
-
--- ---- symbols
-
--- what is found among the first modules stands there
-found_early : (e : Design) (i : ℕ) (s : Name) (x : Module) → find_module (take i e) s ≡ Some x → (j : ℕ) × (j < i) × (slice_get e j ≡ Some x) × (x.symbol ≡ s)
-found_early e zero s x is = cc
-found_early [] (suc i) s x is = cc
-found_early (y ∷ e) (suc i) s x is = go (same_name y.symbol s) refl is (found_early e i s x)
-  where
-    go : (b : Bool) → same_name y.symbol s ≡ b → cond b (Some y) (find_module (take i e) s) ≡ Some x
-        → (find_module (take i e) s ≡ Some x → (j : ℕ) × (j < i) × (slice_get e j ≡ Some x) × (x.symbol ≡ s))
-        → (j : ℕ) × (j < suc i) × (slice_get (y ∷ e) j ≡ Some x) × (x.symbol ≡ s)
-    go true same here rest =
-        let first : y ≡ x = cc in
-        (0, omega arith, here, ap (λ (z : Module). z.symbol) (sym first) ∙ same_text y.symbol s (sym same))
-    go false same here rest =
-        let later = rest here in
-        let less : later.0 < i = later.1 in
-        (suc later.0, omega arith, later.2, later.3)
-
--- no module before one has its symbol
-none_before : (e : Design) → HasDistinctSymbols e → (i : ℕ) (n : Module) → slice_get e i ≡ Some n → is_some (find_module (take i e) n.symbol) ≡ false
-none_before e distinct i n there = go (find_module (take i e) n.symbol) refl
-  where
-    go : (x : Option Module) → find_module (take i e) n.symbol ≡ x → is_some x ≡ false
-    go None is = refl
-    go (Some x) is =
-        let early = found_early e i n.symbol x is in
-        let less : early.0 < i = early.1 in
-        let same : early.0 ≡ i = distinct early.0 i x n early.2 there early.3 in
-        absurd (omega arith)
 
 -- ---- operations that fit
 

@@ -1,5 +1,4 @@
 -- Lemmas.
-pub mod Borrowed
 pub mod IndexBits
 pub mod LiteralTypes
 pub mod LiteralNumbers

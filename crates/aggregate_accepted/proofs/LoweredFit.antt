@@ -41,7 +41,7 @@ use Rattle.aggregate_accepted.specs.Names.{NamesPorts, NamesInstances}
 use Rattle.aggregate_accepted.specs.Marks.{leaf_marks}
 use Rattle.aggregate_accepted.proofs.MadeOps.{good_fits}
 use Rattle.aggregate_accepted.proofs.SpreadRows.{spread_op}
-use Rattle.aggregate_accepted.proofs.Borrowed.{find_lowered}
+use Rattle.aggregate_laws.proofs.Designs.{find_lowered}
 use Rattle.aggregate_accepted.proofs.LoweredModules.{Lowering, rules_of, lowered, parts_in, new_ports, new_body, valid_lowered, lowered_at, splits_at, block_of}
 use Rattle.aggregate_accepted.proofs.LoweredBlocks.{input_names, called_module, called_found, leaf_instance, named_leaves, types_are_ports, all_good}
 use Rattle.aggregate_accepted.proofs.LoweredPorts.{ports_unrefused, ports_printable}

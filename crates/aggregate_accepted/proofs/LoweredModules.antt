@@ -22,7 +22,8 @@ use Rattle.aggregate_laws.specs.Aggregates.{aggregate_rules, IsRegular}
 use Rattle.aggregate_laws.proofs.Aggregates.{regular_splits, aggregates_follow}
 use Rattle.aggregate_laws.proofs.Blocks.{block_by, blocks_at, blocks_position}
 use Rattle.aggregate_accepted.specs.Names.{NamesPorts, NamesInstances}
-use Rattle.aggregate_accepted.proofs.Borrowed.{typed_all, find_lowered}
+use Rattle.aggregate_laws.proofs.Bodies.{typed_all}
+use Rattle.aggregate_laws.proofs.Designs.{find_lowered}
 use Rattle.aggregate_accepted.proofs.Regular.{regular_op}
 
 -- a fit design that is lowered, with names for the leaves of its ports

@@ -39,7 +39,7 @@ use Rattle.aggregate_laws.proofs.Types.{called_instance}
 use Rattle.aggregate_laws.proofs.Blocks.{block_by}
 use Rattle.aggregate_laws.proofs.Bodies.{register_anchor}
 use Rattle.aggregate_accepted.specs.Marks.{port_of_leaf, has_leaf_mark, leaf_marks}
-use Rattle.aggregate_accepted.proofs.Borrowed.{find_lowered}
+use Rattle.aggregate_laws.proofs.Designs.{find_lowered}
 use Rattle.aggregate_accepted.proofs.LoweredModules.{Lowering, rules_of, lowered, parts_in, new_ports, new_body, old_type, new_type, m_sound, splits_at, parts_typed_at, block_of}
 use Rattle.aggregate_accepted.proofs.LoweredConstants.{constant_kept}
 

@@ -25,7 +25,7 @@ use Rattle.aggregate_laws.proofs.Anchors.{by_form, bare_form, called_follow}
 use Rattle.aggregate_laws.proofs.Blocks.{anchors_blocks}
 use Rattle.aggregate_accepted.specs.Joins.{joined_design}
 use Rattle.aggregate_accepted.specs.Names.{NamesPorts, NamesInstances}
-use Rattle.aggregate_accepted.proofs.Borrowed.{find_lowered}
+use Rattle.aggregate_laws.proofs.Designs.{find_lowered}
 use Rattle.aggregate_accepted.proofs.LoweredModules.{Lowering, rules_of, lowered, parts_in, new_body, splits_at}
 use Rattle.aggregate_accepted.proofs.WiresOut.{joined_steady}
 

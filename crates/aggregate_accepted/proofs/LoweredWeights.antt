@@ -507,7 +507,8 @@ module _ (S : Lowering) (k : ℕ) (m : Module) (at : slice_get S.d k ≡ Some m)
 
 -- ---- designs
 
-find_joined : (rules : Rules) (d : Design) (s : Name) → find_module (joined_design rules d) s ≡ omap (joined_module rules) (find_module d s)
+-- the module of a symbol in a design without joins
+pub find_joined : (rules : Rules) (d : Design) (s : Name) → find_module (joined_design rules d) s ≡ omap (joined_module rules) (find_module d s)
 find_joined rules [] s = refl
 find_joined rules (m ∷ d) s = go (same_name m.symbol s) (find_joined rules d s)
   where

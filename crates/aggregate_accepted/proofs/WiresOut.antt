@@ -31,7 +31,7 @@ use Rattle.aggregate_laws.specs.Aggregates.{row_of, aggregate_rules}
 use Rattle.aggregate_laws.proofs.Blocks.{block_by, anchors_none}
 use Rattle.aggregate_accepted.specs.Names.{NamesPorts, NamesInstances}
 use Rattle.aggregate_accepted.specs.Joins.{only_joins, without_joins, joined_module, joined_design}
-use Rattle.aggregate_accepted.proofs.Borrowed.{fit_without_wires}
+use Rattle.inline_pass.proofs.InlinedFit.{fit_without_wires}
 use Rattle.aggregate_accepted.proofs.MadeRows.{from_for_each}
 use Rattle.aggregate_accepted.proofs.LoweredModules.{Lowering, rules_of, lowered, follows_lowered, parts_in, new_body, splits_at}
 use Rattle.aggregate_accepted.proofs.LoweredFit.{lowering_fit}

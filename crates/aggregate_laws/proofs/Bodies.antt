@@ -188,7 +188,8 @@ module _ (rules : Rules) (ps ps' : List Port) (os : List Op) (ports_are : map ba
 
   -- ---- all values
 
-  typed_all : (r : Ref) (t : HwType) → type_in ps os r ≡ Some t → map (type_in ps' (blocks rules (parts_of rules ps os) 0 os)) (parts_of rules ps os r) ≡ map (λ (u : HwType). Some u) (leaves t)
+  -- the leaves of a value have their types
+  pub typed_all : (r : Ref) (t : HwType) → type_in ps os r ≡ Some t → map (type_in ps' (blocks rules (parts_of rules ps os) 0 os)) (parts_of rules ps os r) ≡ map (λ (u : HwType). Some u) (leaves t)
   typed_all (port j) t is = go (slice_get ps j) refl is
     where
       by_way : (q : Port) → slice_get ps j ≡ Some q → (b : Bool) → q.is_output ≡ b → cond b None (Some q.type) ≡ Some t

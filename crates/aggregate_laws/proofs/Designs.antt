@@ -16,7 +16,7 @@ use Rattle.aggregate_laws.proofs.Paths.{none_well}
 use Rattle.aggregate_laws.proofs.Bodies.{split_well}
 use Rattle.aggregate_laws.proofs.Follows.{follows_lowered}
 
-find_lowered : (rules : Rules) (d : Design) (s : Name) → find_module (lowered_design rules d) s ≡ omap (lowered_module rules) (find_module d s)
+pub find_lowered : (rules : Rules) (d : Design) (s : Name) → find_module (lowered_design rules d) s ≡ omap (lowered_module rules) (find_module d s)
 find_lowered rules [] s = refl
 find_lowered rules (m ∷ d) s = go (same_name m.symbol s) (find_lowered rules d s)
   where

@@ -62,7 +62,8 @@ count_types (q ∷ ps) = go q.is_output (count_types ps)
     go true rest = rest
     go false rest = ap suc rest
 
-width_types : (ps : List Port) → input_width ps ≡ widths (input_types ps)
+-- the inputs have as many bits as their types
+pub width_types : (ps : List Port) → input_width ps ≡ widths (input_types ps)
 width_types [] = refl
 width_types (q ∷ ps) = go q.is_output (width_types ps)
   where
@@ -89,7 +90,8 @@ input_types-append (q ∷ ps) qs = go q.is_output (input_types-append ps qs)
     go true rest = rest
     go false rest = ap (λ us. q.type ∷ us) rest
 
-widths_lowered : (ts : List HwType) → widths (flat_map leaves ts) ≡ widths ts
+-- leaves have as many bits as what they are the leaves of
+pub widths_lowered : (ts : List HwType) → widths (flat_map leaves ts) ≡ widths ts
 widths_lowered [] = refl
 widths_lowered (t ∷ ts) = widths-append (leaves t) (flat_map leaves ts) ∙ ap₂ (λ a b. a + b) (leaves_width t) (widths_lowered ts)
 

@@ -5,7 +5,7 @@ use Rattle.wiring.specs.Options.{omap}
 use Rattle.wiring.specs.Wiring.{In}
 use Rattle.wiring.proofs.Members.{position_of_In}
 use Rattle.hw_model.specs.Types.{Name}
-use Rattle.hw_model.specs.Design.{Port, Module, Design, same_name, find_module}
+use Rattle.hw_model.specs.Design.{Port, Module, Design, find_module}
 use Rattle.hw_model.specs.Meaning.{machine}
 use Rattle.hw_model.proofs.Finite.{heights_from_no_cycle, settles_with_heights}
 use Rattle.hw_model.proofs.Machines.{same_self}
@@ -22,28 +22,18 @@ use Rattle.pass_laws.proofs.FreshOnce.{fresh_same}
 use Rattle.pass_laws.proofs.LoweredTwice.{named_once}
 use Rattle.aggregate_laws.specs.LeafPorts.{split_ports}
 use Rattle.aggregate_laws.specs.Scalars.{has_aggregate_port, has_aggregates}
-use Rattle.aggregate_laws.specs.Rules.{Rules}
 use Rattle.aggregate_laws.proofs.LeafPorts.{IsPlainPort, plain_split, leaves_plain}
 use Rattle.aggregate_accepted.specs.Joins.{joined_module, joined_design}
 use Rattle.aggregate_accepted.proofs.LoweredModules.{Lowering}
 use Rattle.aggregate_accepted.proofs.LoweredShapes.{joined_types, joined_calls}
 use Rattle.aggregate_accepted.proofs.WiresOut.{joins_follow}
-use Rattle.aggregate_accepted.proofs.LoweredWeights.{joins_light}
+use Rattle.aggregate_accepted.proofs.LoweredWeights.{find_joined, joins_light}
 use Rattle.aggregate_accepted.proofs.AcceptedLowered.{joins_accepted}
 use Rattle.aggregate_rows.specs.LoweringRules.{leaf_named, lowering_rules}
 use Rattle.aggregate_lower.specs.Lowering.{lowered_aggregates}
 use Rattle.aggregate_lower.proofs.LeafPortNames.{ports_named, instances_named}
 use Rattle.aggregate_lower.proofs.ScalarRows.{lowered_plain}
 use Rattle.aggregate_lower.proofs.Unaggregated.{scalar_port, scalar_module, own_register_types}
-
-find_joined : (rules : Rules) (d : Design) (s : Name) → find_module (joined_design rules d) s ≡ omap (joined_module rules) (find_module d s)
-find_joined rules [] s = refl
-find_joined rules (m ∷ d) s = go (same_name m.symbol s) (find_joined rules d s)
-  where
-    go : (b : Bool) → find_module (joined_design rules d) s ≡ omap (joined_module rules) (find_module d s)
-        → cond b (Some (joined_module rules m)) (find_module (joined_design rules d) s) ≡ omap (joined_module rules) (cond b (Some m) (find_module d s))
-    go true rest = refl
-    go false rest = rest
 
 module _ (d : Design) (accepted : IsAccepted d) (printable : Printable d) where
   abbrev lowering : Lowering

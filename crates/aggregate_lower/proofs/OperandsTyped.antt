@@ -16,7 +16,8 @@ use Rattle.aggregate_laws.specs.LeafPorts.{split_ports}
 use Rattle.aggregate_laws.specs.Rules.{Rules, blocks, parts_of, Splits, lowered_module, lowered_design}
 use Rattle.aggregate_laws.proofs.Aggregates.{regular_splits, aggregates_follow}
 use Rattle.aggregate_laws.proofs.LeafPorts.{split_bare}
-use Rattle.aggregate_accepted.proofs.Borrowed.{typed_all, find_lowered}
+use Rattle.aggregate_laws.proofs.Bodies.{typed_all}
+use Rattle.aggregate_laws.proofs.Designs.{find_lowered}
 use Rattle.aggregate_accepted.proofs.Regular.{regular_op, all_regular}
 use Rattle.aggregate_rows.specs.LoweringRules.{leaf_named, lowering_rules}
 use Rattle.aggregate_rows.proofs.BareKinds.{kind_bare}

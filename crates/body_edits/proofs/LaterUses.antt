@@ -10,7 +10,7 @@ use Rattle.ir_store.specs.Uses.{use_at, places_in, uses_in, same_place, use_time
 
 -- ---- how many times a place stands among places
 
-times_first : (p : UsePlace) (xs ys : List UsePlace) → use_times p xs ≤ use_times p (xs ++ ys)
+pub times_first : (p : UsePlace) (xs ys : List UsePlace) → use_times p xs ≤ use_times p (xs ++ ys)
 times_first p [] ys = omega arith
 times_first p (x ∷ xs) ys = go (same_place x p) (times_first p xs ys)
   where
@@ -18,7 +18,7 @@ times_first p (x ∷ xs) ys = go (same_place x p) (times_first p xs ys)
     go true h = omega (arith, h)
     go false h = h
 
-times_second : (p : UsePlace) (xs ys : List UsePlace) → use_times p ys ≤ use_times p (xs ++ ys)
+pub times_second : (p : UsePlace) (xs ys : List UsePlace) → use_times p ys ≤ use_times p (xs ++ ys)
 times_second p [] ys = omega arith
 times_second p (x ∷ xs) ys = go (same_place x p) (times_second p xs ys)
   where

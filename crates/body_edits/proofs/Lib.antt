@@ -15,6 +15,7 @@ pub mod Repeats
 pub mod LastValues
 pub mod FreshIds
 pub mod OperandEditing
+pub mod OpsPutIn
 pub mod OperandChoosing
 pub mod LaterUses
 pub mod OnlyUses

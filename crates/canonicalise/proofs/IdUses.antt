@@ -16,6 +16,7 @@ use Rattle.ir_store.specs.Numbered.{position_of, ref_by, op_by}
 use Rattle.ir_store.specs.Uses.{use_at, places_in, uses_in, same_place, use_times}
 use Rattle.fold_laws.specs.Nested.{uses_among, use_count}
 use Rattle.fold_laws.specs.Unused.{is_result_of}
+use Rattle.body_edits.proofs.LaterUses.{times_first, times_second}
 use Rattle.canonicalise.specs.Settled.{IsUser}
 
 -- ---- positions
@@ -89,18 +90,6 @@ same_self : (v : Value) → same_value v v ≡ true
 same_self (Port n) = eq-eqb n n refl
 same_self Undefined = refl
 same_self (Result i k) = ap₂ (λ a b. a && b) (eq-eqb i.index i.index refl) (eq-eqb k k refl)
-
-times_first : (p : UsePlace) (xs ys : List UsePlace) → use_times p xs ≤ use_times p (xs ++ ys)
-times_first p [] ys = omega arith
-times_first p (x ∷ xs) ys = go (same_place x p) (times_first p xs ys)
-  where
-    go : (b : Bool) → use_times p xs ≤ use_times p (xs ++ ys) → cond b (suc (use_times p xs)) (use_times p xs) ≤ cond b (suc (use_times p (xs ++ ys))) (use_times p (xs ++ ys))
-    go true h = omega (arith, h)
-    go false h = h
-
-times_second : (p : UsePlace) (xs ys : List UsePlace) → use_times p ys ≤ use_times p (xs ++ ys)
-times_second p [] ys = omega arith
-times_second p (x ∷ xs) ys = omega (arith, times_second p xs ys, counted (same_place x p) (use_times p (xs ++ ys)))
 
 place_among : (v : Value) (id k : ℕ) (xs : List Value) → In v xs → (m : ℕ) × (1 ≤ use_times (use_at id m) (places_in v id k xs))
 place_among v id k [] here = absurd here

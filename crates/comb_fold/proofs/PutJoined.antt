@@ -1,11 +1,10 @@
 -- A new operation without operands that is put before another one, in the place of two of its operands.
-use Rattle.std.proofs.Common.{◌≡◌, ℕ, zero, suc, ◌<◌, ◌≤◌, Bool, true, false, cond, nat_eq, List, [], ◌∷◌, length, map, set, slice_set, Option, Some, slice_get, refl, sym, ap, ap₂, subst, ◌∙◌, arith}
+use Rattle.std.proofs.Common.{◌≡◌, ℕ, suc, ◌<◌, ◌≤◌, List, [], length, map, set, slice_set, Option, Some, slice_get, sym, ap, ap₂, subst, ◌∙◌, arith}
 use Rattle.std.specs.Prelude.{All, Contains, insert, remove, IfSome}
 use Rattle.std.proofs.lemmas.List.{length-map}
-use Rattle.wiring.proofs.Members.{map_same}
-use Rattle.hw_model.specs.Design.{Ref, Op}
-use Rattle.hw_model.specs.Design.Ref.{port, result, undefined}
-use Rattle.hw_edits.specs.Laws.{up, up_ref, insert_op}
+use Rattle.hw_model.specs.Design.{Op}
+use Rattle.hw_model.specs.Design.Ref.{result}
+use Rattle.hw_edits.specs.Laws.{up_ref, insert_op}
 use Rattle.ir_store.specs.declared.body.Body.{Body}
 use Rattle.ir_store.specs.declared.operation.NewOp.{NewOp}
 use Rattle.ir_store.specs.declared.operation.OpId.{OpId}
@@ -16,7 +15,7 @@ use Rattle.ir_store.specs.BodyOps.{BodyOp, ids_in, as_new, put_before, operands_
 use Rattle.ir_store.specs.Live.{IsLive}
 use Rattle.ir_store.specs.Numbered.{position_of, ref_by, op_by, ops_by_position}
 use Rattle.ir_store.specs.OperationViews.{new_parts}
-use Rattle.ir_store.specs.Positions.{retarget, position_after_insert, pushed_ref, with_op, with_operands}
+use Rattle.ir_store.specs.Positions.{retarget, with_op, with_operands}
 use Rattle.ir_store.proofs.BodyLemmas.{ids_once}
 use Rattle.ir_store.proofs.Living.{all_none, ids_stay, still_contained, times-put_before}
 use Rattle.ir_store.proofs.Numbering.{numbered-put_before, numbered-set}
@@ -29,36 +28,8 @@ use Rattle.body_edits.specs.Views.{HasOp, body_ops, position_in, value_ref}
 use Rattle.body_edits.proofs.FitOps.{fit_live}
 use Rattle.body_edits.proofs.OperandChanges.{with_operands_set}
 use Rattle.body_edits.proofs.OperandEditing.{op_there, operands_seen, has_operand, op_stays, then_dropped}
+use Rattle.body_edits.proofs.OpsPutIn.{put_in_same, ids_put}
 use Rattle.body_edits.proofs.Positions.{position_within, position_after, position_before}
-
--- ---- an operation put in
-
--- the two definitions of where a value is then are one
-up_insert : (i j : ℕ) → position_after_insert i j ≡ up i j
-up_insert zero j = refl
-up_insert (suc i) zero = refl
-up_insert (suc i) (suc j) = ap suc (up_insert i j)
-
-pub up_pushed : (i : ℕ) (r : Ref) → pushed_ref i r ≡ up_ref i r
-up_pushed i (port n) = refl
-up_pushed i (result j k) = ap (λ p. result p k) (up_insert i j)
-up_pushed i undefined = refl
-
-retarget_same : (i : ℕ) (o : Op) → retarget (pushed_ref i) o ≡ retarget (up_ref i) o
-retarget_same i o = ap (λ rs. record o { operands = rs }) (map_same (pushed_ref i) (up_ref i) o.operands (λ r here. up_pushed i r))
-
-pub put_in_same : (i : ℕ) (o : Op) (os : List Op) → with_op i o os ≡ insert_op i o os
-put_in_same i o os = ap₂ (λ ps p. insert ps i p) (map_same (retarget (pushed_ref i)) (retarget (up_ref i)) os (λ p here. retarget_same i p)) (retarget_same i o)
-
--- ids
-pub ids_put : (b : OpId) (o : BodyOp) (ops : List BodyOp) → ids_in (put_before (Some b) o ops) ≡ insert (ids_in ops) (position_of (ids_in ops) b.index) o.id
-ids_put b o [] = refl
-ids_put b o (p ∷ ops) = go (nat_eq p.id b.index) (ids_put b o ops)
-  where
-    go : (t : Bool) → ids_in (put_before (Some b) o ops) ≡ insert (ids_in ops) (position_of (ids_in ops) b.index) o.id
-        → ids_in (cond t (o ∷ p ∷ ops) (p ∷ put_before (Some b) o ops)) ≡ insert (p.id ∷ ids_in ops) (cond t 0 (suc (position_of (ids_in ops) b.index))) o.id
-    go true rest = refl
-    go false rest = ap (λ ids. p.id ∷ ids) rest
 
 -- ---- bodies
 

@@ -1,7 +1,7 @@
 -- A flat copy has as many bits of inputs and of content as its module, and the leaves of its outputs.
-use Rattle.std.proofs.Common.{◌≡◌, refl, sym, ap, ap₂, ◌∙◌, ◌+◌, Bool, true, false, cond, List, [], ◌∷◌, map, flat_map}
+use Rattle.std.proofs.Common.{◌≡◌, refl, sym, ap, ◌∙◌, ◌+◌, List, [], ◌∷◌, map, flat_map}
 use Rattle.wiring.specs.Lists.{total}
-use Rattle.hw_model.specs.Types.{Name, HwType, width, leaves}
+use Rattle.hw_model.specs.Types.{Name, leaves}
 use Rattle.hw_model.specs.Design.{Port, Module, Design, result_type}
 use Rattle.hw_model.specs.Flat.{Slot, input_width, width_of, held_width, depth, registers, state}
 use Rattle.hw_model.specs.Sound.{input_types, output_types}
@@ -9,27 +9,13 @@ use Rattle.hw_model.proofs.Content.{slots_width, registers_width}
 use Rattle.aggregate_laws.specs.LeafPorts.{split_ports}
 use Rattle.aggregate_laws.proofs.Bare.{input_types_bare, output_types_bare}
 use Rattle.aggregate_laws.proofs.LeafPorts.{split_bare}
-use Rattle.aggregate_laws.proofs.Ports.{input_types_lowered, output_types_lowered}
-use Rattle.aggregate_laws.proofs.Words.{widths, widths-append, leaves_width}
+use Rattle.aggregate_laws.proofs.Ports.{input_types_lowered, output_types_lowered, width_types, widths_lowered}
+use Rattle.aggregate_laws.proofs.Words.{widths}
 use Rattle.pass_laws.specs.PassLaw.{register_types}
 use Rattle.flat_copy.specs.FlatCopy.{KeepsFlat}
 use Rattle.comparison_laws.specs.Comparison.{register_widths}
 
 -- ---- ports
-
--- the inputs have as many bits as their types
-pub inputs_by_types : (ps : List Port) → input_width ps ≡ widths (input_types ps)
-inputs_by_types [] = refl
-inputs_by_types (q ∷ ps) = go q.is_output (inputs_by_types ps)
-  where
-    go : (b : Bool) → input_width ps ≡ widths (input_types ps)
-        → cond b (input_width ps) (width q.type + input_width ps) ≡ widths (cond b (input_types ps) (q.type ∷ input_types ps))
-    go true rest = rest
-    go false rest = ap (λ n. width q.type + n) rest
-
-pub leaves_wide : (ts : List HwType) → widths (flat_map leaves ts) ≡ widths ts
-leaves_wide [] = refl
-leaves_wide (t ∷ ts) = widths-append (leaves t) (flat_map leaves ts) ∙ ap₂ (λ a b. a + b) (leaves_width t) (leaves_wide ts)
 
 split_inputs : (ps : List Port) → input_types (split_ports ps) ≡ flat_map leaves (input_types ps)
 split_inputs ps = sym (input_types_bare (split_ports ps)) ∙ ap input_types (split_bare ps) ∙ input_types_lowered ps
@@ -39,7 +25,7 @@ split_outputs ps = sym (output_types_bare (split_ports ps)) ∙ ap output_types 
 
 split_width : (ps : List Port) → input_width (split_ports ps) ≡ input_width ps
 split_width ps =
-    inputs_by_types (split_ports ps) ∙ ap widths (split_inputs ps) ∙ leaves_wide (input_types ps) ∙ sym (inputs_by_types ps)
+    width_types (split_ports ps) ∙ ap widths (split_inputs ps) ∙ widths_lowered (input_types ps) ∙ sym (width_types ps)
 
 -- ---- registers
 

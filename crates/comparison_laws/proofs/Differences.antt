@@ -24,10 +24,11 @@ use Rattle.flat_sides.proofs.FlatMiters.{flat_step_difference, flat_step_clauses
 use Rattle.flat_copy.specs.FlatCopy.{IsFlatCopy}
 use Rattle.comparison_laws.specs.Comparison.{AreComparable, DifferAt, IsDifferenceOf, inputs_in, content_in, IsFormulaOf, gates_of}
 use Rattle.comparison_laws.specs.ComparisonPrices.{comparison_price}
-use Rattle.comparison_laws.proofs.CopyWidths.{inputs_by_types, state_by_widths}
+use Rattle.comparison_laws.proofs.CopyWidths.{state_by_widths}
 use Rattle.comparison_laws.proofs.Copies.{accepted_heights, copy_steps, copy_widths, copy_state, copy_inputs, copy_input_bits, copy_outputs}
 use Rattle.comparison_laws.proofs.LevelSteps.{level_of, step_of_level, level_next}
 use Rattle.comparison_laws.proofs.RegisterCosts.{registers_paid}
+use Rattle.aggregate_laws.proofs.Ports.{width_types}
 use Rattle.aggregate_laws.proofs.Words.{widths}
 
 -- words that cannot differ are the same
@@ -57,7 +58,7 @@ module _ (d : Design) (a : Name) (e : Design) (b : Name) (d_accepted : IsAccepte
     copies_alike = record {
       inputs =
           copy_inputs d a are.one c d_accepted d_printable are.one_found first one c_is
-          ∙ inputs_by_types are.one.ports ∙ ap widths are.inputs ∙ sym (inputs_by_types are.two.ports)
+          ∙ width_types are.one.ports ∙ ap widths are.inputs ∙ sym (width_types are.two.ports)
           ∙ sym (copy_inputs e b are.two f e_accepted e_printable are.two_found second two f_is);
       held =
           state_by_widths c a

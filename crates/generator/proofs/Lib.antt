@@ -1,6 +1,5 @@
 -- Lemmas.
 pub mod AcceptedDesigns
-pub mod Borrowed
 pub mod Built
 pub mod Callees
 pub mod CanonicalModules

@@ -16,7 +16,7 @@ use Rattle.op_verifier.specs.Faults.{header_refusal, body_fault, module_fault, f
 use Rattle.op_verifier.specs.Headers.{has_output, ports_cause, header_cause}
 use Rattle.generator.specs.Draws.{state_after}
 use Rattle.generator.specs.Generated.{generated_ports, word_op, first_ops, last_ops, generated}
-use Rattle.generator.proofs.Borrowed.{no_faults, none_before}
+use Rattle.op_verifier.proofs.NoFaults.{no_faults, none_before}
 use Rattle.generator.proofs.ChosenKinds.{IsBinary}
 use Rattle.generator.proofs.FirstOps.{first_kind, second_kind, third_kind, binary_first, binary_second, binary_third, has_output_rest}
 use Rattle.generator.proofs.GeneratedModules.{made, made_at, at_made, distinct, found}

@@ -12,10 +12,11 @@ use Rattle.hw_model.specs.Design.{Module, Design, find_module}
 use Rattle.hw_model.specs.Flat.{input_width, width_of, state}
 use Rattle.hw_model.specs.Sound.{ports_of, input_types}
 use Rattle.hw_model.specs.Agreement.{input_bits}
+use Rattle.aggregate_laws.proofs.Ports.{width_types, widths_lowered}
 use Rattle.aggregate_laws.proofs.Words.{leaves_width}
 use Rattle.pass_laws.specs.PassLaw.{leaf_types, register_types}
 use Rattle.miter_blast.specs.Comparison.{register_widths}
-use Rattle.miter_blast.proofs.CopyWidths.{inputs_by_types, leaves_wide, state_by_widths}
+use Rattle.miter_blast.proofs.CopyWidths.{state_by_widths}
 use Rattle.miter_blast.specs.Cuts.{cut}
 use Rattle.miter_blast.specs.Comparisons.{leaf_widths}
 
@@ -43,7 +44,7 @@ leaves_total : (d : Design) (a : Name) (m : Module) → find_module d a ≡ Some
 leaves_total d a m found =
     total-append (map width (flat_map leaves (input_types m.ports))) (register_widths d a)
     ∙ ap₂ (λ x y. x + y)
-    (leaves_wide (input_types m.ports) ∙ sym (inputs_by_types m.ports) ∙ ap (λ o. input_width (ports_of o)) (sym found))
+    (widths_lowered (input_types m.ports) ∙ sym (width_types m.ports) ∙ ap (λ o. input_width (ports_of o)) (sym found))
     (leaf_types_wide (register_types d a) ∙ sym (state_by_widths d a))
 
 -- ---- cuts

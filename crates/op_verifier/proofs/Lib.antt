@@ -6,6 +6,7 @@ pub mod FaultSteps
 pub mod Found
 pub mod InputResets
 pub mod Names
+pub mod NoFaults
 pub mod Placeless
 pub mod PlacelessFaults
 pub mod Positions

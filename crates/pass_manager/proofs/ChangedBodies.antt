@@ -1,13 +1,11 @@
 -- Designs whose bodies a pass changes, one by one.
-use Rattle.std.proofs.Common.{◌≡◌, ℕ, List, [], ◌∷◌, ◌++◌, map, length, option_map, Option, Some, None, slice_get, refl, sym, ap, ap₂, subst, ◌∙◌}
+use Rattle.std.proofs.Common.{◌≡◌, ℕ, List, [], ◌∷◌, ◌++◌, map, length, Some, slice_get, refl, sym, ap, ap₂, subst, ◌∙◌}
 use Rattle.std.proofs.lemmas.List.{append_assoc}
-use Rattle.std.proofs.lemmas.Option.{slice_get-map}
 use Rattle.wiring.proofs.Lists.{slice_get-append_at}
 use Rattle.hw_model.specs.Design.{Op, Module, Design}
 use Rattle.hw_edits.specs.Laws.{with_body}
 use Rattle.accepted_edits.specs.Keeps.{IsFit}
 use Rattle.ir_store.specs.declared.body.Body.{Body}
-use Rattle.ir_store.specs.BodyOps.{BodyOp}
 use Rattle.ir_store.specs.Bodies.{ops_of}
 use Rattle.ir_store.specs.Designs.{StoredModule, numbered_module}
 use Rattle.ir_store.specs.Numbered.{ops_by_position}
@@ -15,6 +13,7 @@ use Rattle.ir_store.proofs.StoredModules.{stored_at}
 use Rattle.pass_laws.proofs.Steps.{Keeps, keeps_self, keeps_then}
 use Rattle.body_edits.specs.FitBodies.{IsOfFit}
 use Rattle.body_edits.specs.Views.{body_ops}
+use Rattle.inline_pass.proofs.FlatteningBodies.{taken}
 use Rattle.canonicalise.proofs.Dues.{set_here}
 use Rattle.pass_manager.specs.Results.{AreModulesBy}
 
@@ -51,22 +50,6 @@ module _ (Makes : List Op → List Op → Type 0) where
   modules_once once (m ∷ d) (n ∷ e) (k ∷ f) (one, rest) (other, others) =
       let same : n ≡ k = one.kept ∙ ap (λ z. record m { body = z }) (once m.body n.body k.body one.made other.made) ∙ sym other.kept in
       ap₂ (λ x xs. x ∷ xs) same (modules_once once d e f rest others)
-
--- the module whose operations are taken
-record Taken (ms : List StoredModule) (k : ℕ) (ops : List BodyOp) : Type 0 where
-  one : StoredModule
-  there : Some one ≡ slice_get ms k
-  is : one.ops ≡ ops
-
-taken : (ms : List StoredModule) (k : ℕ) (ops : List BodyOp) → Some ops ≡ slice_get (map (λ (one : StoredModule). one.ops) ms) k → Taken ms k ops
-taken ms k ops at = go (slice_get ms k) refl (at ∙ slice_get-map (λ (one : StoredModule). one.ops) ms k)
-  where
-    go : (x : Option StoredModule) → slice_get ms k ≡ x → Some ops ≡ option_map (λ (one : StoredModule). one.ops) (slice_get ms k) → Taken ms k ops
-    go None is e = let clash : Some ops ≡ None = e ∙ ap (option_map (λ (one : StoredModule). one.ops)) is in cc
-    go (Some one) is e =
-        let same : Some ops ≡ Some one.ops = e ∙ ap (option_map (λ (one : StoredModule). one.ops)) is in
-        let ops_are : ops ≡ one.ops = cc in
-        record { one = one; there = sym is; is = sym ops_are }
 
 -- the body that is taken is that of a module of a fit design
 pub of_fit : (ms : List StoredModule) (k : ℕ) (b : Body) → IsFit (map numbered_module ms) → Some (ops_of b) ≡ slice_get (map (λ (one : StoredModule). one.ops) ms) k → IsOfFit b

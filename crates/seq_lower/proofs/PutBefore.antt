@@ -4,7 +4,7 @@ use Rattle.std.specs.Prelude.{Contains, insert}
 use Rattle.std.proofs.lemmas.Bool.{eqb-true}
 use Rattle.wiring.specs.Wiring.{In}
 use Rattle.wiring.proofs.Edits.{In-insert_cases, length-insert_suc}
-use Rattle.wiring.proofs.Members.{map_same, from_In-map, All-member}
+use Rattle.wiring.proofs.Members.{from_In-map, All-member}
 use Rattle.hw_model.specs.Design.{Ref, Op}
 use Rattle.hw_model.specs.Design.Ref.{port, result, undefined}
 use Rattle.hw_edits.specs.Edit.{retarget}
@@ -16,46 +16,19 @@ use Rattle.ir_store.specs.declared.operation.OpId.{OpId}
 use Rattle.ir_store.specs.declared.operation.Value.{Value}
 use Rattle.ir_store.specs.declared.operation.Value.TheVariants.{Port, Result, Undefined}
 use Rattle.ir_store.specs.Bodies.{ids_of, ops_of, spare_ops, spare_uses}
-use Rattle.ir_store.specs.BodyOps.{BodyOp, ids_in, as_new, put_before}
+use Rattle.ir_store.specs.BodyOps.{ids_in, as_new, put_before}
 use Rattle.ir_store.specs.Live.{IsLive, HasLive, AreLive}
 use Rattle.ir_store.specs.Numbered.{position_of, op_by, ops_by_position}
-use Rattle.ir_store.specs.Positions.{retarget as retarget_by, position_after_insert, pushed_ref, with_op}
 use Rattle.ir_store.proofs.Living.{all_through, still_contained, still_live, times-put_before, added_live}
 use Rattle.ir_store.proofs.Numbering.{numbered-put_before}
 use Rattle.body_edits.specs.Replaceable.{IsNoFurther, HasNoFurther, HaveNoFurther}
 use Rattle.body_edits.specs.Views.{body_ops, position_in, value_ref}
+use Rattle.body_edits.proofs.OpsPutIn.{put_in_same, ids_put}
 use Rattle.body_edits.proofs.Positions.{position_within, position_after, position_before}
 use Rattle.seq_lower.specs.Puts.{IsReady, MayBeOperand, MayBeOperands, new_with, IsPutBefore}
 use Rattle.seq_lower.proofs.MuxSteps.{up_here}
 
--- ---- the two definitions of where a value then is are one
-
-up_insert : (i j : ℕ) → position_after_insert i j ≡ up i j
-up_insert zero j = refl
-up_insert (suc i) zero = refl
-up_insert (suc i) (suc j) = ap suc (up_insert i j)
-
-up_pushed : (i : ℕ) (r : Ref) → pushed_ref i r ≡ up_ref i r
-up_pushed i (port n) = refl
-up_pushed i (result j k) = ap (λ p. result p k) (up_insert i j)
-up_pushed i undefined = refl
-
-retarget_same : (i : ℕ) (o : Op) → retarget_by (pushed_ref i) o ≡ retarget (up_ref i) o
-retarget_same i o = ap (λ rs. record o { operands = rs }) (map_same (pushed_ref i) (up_ref i) o.operands (λ r here. up_pushed i r))
-
-pub put_in_same : (i : ℕ) (o : Op) (os : List Op) → with_op i o os ≡ insert_op i o os
-put_in_same i o os = ap₂ (λ ps p. insert ps i p) (map_same (retarget_by (pushed_ref i)) (retarget (up_ref i)) os (λ p here. retarget_same i p)) (retarget_same i o)
-
 -- ---- ids
-
-ids_put : (b : OpId) (o : BodyOp) (ops : List BodyOp) → ids_in (put_before (Some b) o ops) ≡ insert (ids_in ops) (position_of (ids_in ops) b.index) o.id
-ids_put b o [] = refl
-ids_put b o (p ∷ ops) = go (nat_eq p.id b.index) (ids_put b o ops)
-  where
-    go : (t : Bool) → ids_in (put_before (Some b) o ops) ≡ insert (ids_in ops) (position_of (ids_in ops) b.index) o.id
-        → ids_in (cond t (o ∷ p ∷ ops) (p ∷ put_before (Some b) o ops)) ≡ insert (p.id ∷ ids_in ops) (cond t 0 (suc (position_of (ids_in ops) b.index))) o.id
-    go true rest = refl
-    go false rest = ap (λ ids. p.id ∷ ids) rest
 
 -- where another id then stands
 position_insert : (ids : List ℕ) (p x i : ℕ) → p ≤ length ids → (x ≡ i → ⊥) → position_of (insert ids p x) i ≡ up p (position_of ids i)
