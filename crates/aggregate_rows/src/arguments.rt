@@ -30,7 +30,7 @@ impl<'a> Arguments<'a> {
     }
 
     /// What stands for all operands.
-    pub fn joined(self, alloc: Global) -> Result<Vec<Value>, AllocError>
+    pub fn concat(self, alloc: Global) -> Result<Vec<Value>, AllocError>
         ensures { IfOk result (λ all. new_refs all.items ≡ joined_parts (arguments_of self.entry)) }
     {
         let mut all = Vec::new(alloc);

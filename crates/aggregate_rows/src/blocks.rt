@@ -50,7 +50,7 @@ pub fn put_block(
     let leaves = result_leaves(alloc, op)?;
     let leaves = leaves.as_slice();
     match form_of(op) {
-        Form::Stays => put_stays(alloc, made, op, arguments.joined(alloc)?),
+        Form::Stays => put_stays(alloc, made, op, arguments.concat(alloc)?),
         Form::Wires => put_named(alloc, made, op, leaves, arguments),
         Form::Join => put_join(alloc, made, op, leaves, &[], arguments),
         Form::Extract(name) => put_field(alloc, made, op, leaves, name, arguments),
@@ -98,7 +98,7 @@ fn put_join(
     requires { map type_of leaves.now ≡ all_leaves (plain_of op.now) }
     ensures { OnOk result (made_in made.new.items ≡ made_in made.old.items ++ (join_row (plain_of op.now) (name_at names.now)).made (arguments_of arguments.entry) 0) }
 {
-    let values = arguments.joined(alloc)?;
+    let values = arguments.concat(alloc)?;
     put_wires(alloc, made, op, leaves, names, values.as_slice())
 }
 
@@ -198,7 +198,7 @@ fn put_spread(
     requires { map type_of leaves.now ≡ all_leaves (plain_of op.now) }
     ensures { OnOk result (made_in made.new.items ≡ made_in made.old.items ++ (spread_row (plain_of op.now) (kind_of kind)).made (arguments_of arguments.entry) 0) }
 {
-    let operands = arguments.joined(alloc)?;
+    let operands = arguments.concat(alloc)?;
     let spread = NewOp {
         kind,
         operands: SmallVec::from_slice(alloc, operands.as_slice())?,

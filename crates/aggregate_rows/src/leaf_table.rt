@@ -79,9 +79,9 @@ impl LeafTable {
         ensures { new_refs result.now ≡ leaves_at self.now value }
     {
         match value {
-            Value::Port(port) => listed(self.ports.get(port as usize)),
+            Value::Port(port) => values_in(self.ports.get(port as usize)),
             Value::Result(id, number) => match self.results_of(id) {
-                Some(all) => listed(all.get(number as usize)),
+                Some(all) => values_in(all.get(number as usize)),
                 None => &[],
             },
             Value::Undefined => &[],
@@ -99,7 +99,7 @@ impl LeafTable {
 }
 
 // The values, where there is a list of them.
-fn listed(values: Option<&Vec<Value>>) -> &[Value]
+fn values_in(values: Option<&Vec<Value>>) -> &[Value]
     ensures { new_refs result.now ≡ or_none (option_map (λ (vs : _). new_refs vs.now.items) values.entry) }
 {
     match values {
@@ -205,7 +205,7 @@ fn leaves_of_results(
     } else {
         results_of_many(alloc, shape, start)?
     };
-    divided(alloc, op.results, values.as_slice())
+    values_by_result(alloc, op.results, values.as_slice())
 }
 
 // Whether all leaves of the results of an operation of a kind are results of one operation.
@@ -239,7 +239,7 @@ fn results_of_many(alloc: Global, shape: &Shape, start: u32) -> Result<Vec<Value
 }
 
 // Values for each result, as many as it has leaves.
-fn divided(
+fn values_by_result(
     alloc: Global,
     results: &NewResultList,
     values: &[Value],

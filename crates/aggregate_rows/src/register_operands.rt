@@ -22,13 +22,13 @@ pub fn leaf_operands(
     ensures { IfOk result (λ values. new_refs values.items ≡ leaf_operands (register_form_of form).has_enable (register_form_of form).reset (arguments_of arguments.entry) leaf) }
 {
     match form.reset {
-        Reset::No => loaded(alloc, form.enable, arguments, leaf),
-        Reset::Sync => reset(alloc, form.enable, arguments, leaf),
+        Reset::No => without_reset(alloc, form.enable, arguments, leaf),
+        Reset::Sync => with_reset(alloc, form.enable, arguments, leaf),
     }
 }
 
 // Those of a register without a reset.
-fn loaded(
+fn without_reset(
     alloc: Global,
     enable: bool,
     arguments: Arguments<'_>,
@@ -53,7 +53,7 @@ fn loaded(
 }
 
 // Those of a register with a reset.
-fn reset(
+fn with_reset(
     alloc: Global,
     enable: bool,
     arguments: Arguments<'_>,

@@ -1,6 +1,6 @@
 //! Runs of a module, step by step, as a text says them.
 use crate::designs::modules_of;
-use crate::words::{joined, words_of, zeros};
+use crate::words::{join_words, words_of, zeros};
 use bits_core::Bits;
 use hw_interpreter::design::Setting;
 use hw_interpreter::machine;
@@ -95,7 +95,7 @@ fn are(words: &[Bits], expected: &[Bits]) -> bool {
 
 // Whether the bits are those of words.
 fn are_bits(alloc: Global, bits: &BitString, expected: &[Bits]) -> Result<bool, AllocError> {
-    let expected = joined(alloc, expected)?;
+    let expected = join_words(alloc, expected)?;
     Ok(bits.as_slice() == expected.as_slice())
 }
 
@@ -105,9 +105,9 @@ pub fn design_runs(alloc: Global, text: &str, run: &Run) -> Result<bool, AllocEr
         return Ok(false);
     };
     let mut before = BitString::new(alloc);
-    let mut content = joined(alloc, run.first.as_slice())?;
+    let mut content = join_words(alloc, run.first.as_slice())?;
     for step in &run.steps {
-        let inputs = joined(alloc, step.inputs.as_slice())?;
+        let inputs = join_words(alloc, step.inputs.as_slice())?;
         let at = Setting {
             modules: modules.as_slice(),
             top: run.top.as_bytes(),

@@ -45,7 +45,7 @@ pub fn words_of(alloc: Global, text: &str) -> Result<Option<Vec<Bits>>, AllocErr
 }
 
 /// The bits of words, in order. The error comes only when out of memory.
-pub fn joined(alloc: Global, words: &[Bits]) -> Result<BitString, AllocError> {
+pub fn join_words(alloc: Global, words: &[Bits]) -> Result<BitString, AllocError> {
     let mut bits = BitString::new(alloc);
     for word in words {
         let own = BitString::from_bits(alloc, word)?;

@@ -29,7 +29,7 @@ pub(crate) fn generate_verilog<R: Threads + Sync, G: Gate + Sync>(
 ) -> Result<Text, OutcomeFail>
     ensures { (contents : List (List ℕ)) → GivesText (generated_verilog recipe.seed recipe.count) contents result }
 {
-    let verified = generated(means.alloc, recipe)?;
+    let verified = generate_design(means.alloc, recipe)?;
     let passes = generation_passes(means.alloc)?;
     Ok(translate(means, verified, &passes)?)
 }
@@ -41,7 +41,7 @@ pub(crate) fn summarise<R: Threads + Sync, G: Gate + Sync>(
 ) -> Result<Text, OutcomeFail>
     ensures { (contents : List (List ℕ)) → GivesText (generated_summary recipe.seed recipe.count) contents result }
 {
-    let verified = generated(means.alloc, recipe)?;
+    let verified = generate_design(means.alloc, recipe)?;
     let counts = counts_of(verified.design());
     let passes = generation_passes(means.alloc)?;
     let made = exported_result(means, verified, &passes)?;
@@ -55,7 +55,7 @@ pub(crate) fn summarise<R: Threads + Sync, G: Gate + Sync>(
 }
 
 /// The design of a recipe.
-fn generated(alloc: Global, recipe: Recipe) -> Result<Verified, AllocError>
+fn generate_design(alloc: Global, recipe: Recipe) -> Result<Verified, AllocError>
     ensures { IfOk result (λ v. design_of v.design ≡ generated recipe.seed recipe.count) }
 {
     generate(alloc, recipe.seed, recipe.count)

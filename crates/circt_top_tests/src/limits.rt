@@ -5,7 +5,7 @@ use std::test::Fail;
 use std::thread::Threads;
 
 // Modules of which each has two instances of the one before, up to the one of a number.
-fn doubling(alloc: Global, most: usize) -> Result<String, AllocError> {
+fn doubling_modules(alloc: Global, most: usize) -> Result<String, AllocError> {
     let mut text = String::from_str(
         alloc,
         "hw.module @M0(in %a : i1, out b : i1) {\n  hw.output %a : i1\n}\n",
@@ -154,7 +154,7 @@ fn is_told(
 
 #[test]
 fn sizes_are_told_exactly(rt: HostRuntime) -> Result<(), Fail> {
-    let modules = doubling(rt.alloc(), 24)?;
+    let modules = doubling_modules(rt.alloc(), 24)?;
     for rest in REST {
         for end in &ENDS {
             assert!(rt; is_told(&rt, modules.as_str(), rest, end)?, "of {rest}");

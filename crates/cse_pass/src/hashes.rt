@@ -62,15 +62,15 @@ fn with_value(hash: u64, value: Value) -> u64
     ensures { result ≡ with_value hash value }
 {
     match value {
-        Value::Port(number) => mixed(mixed(hash, u32::MAX), number),
-        Value::Result(id, number) => mixed(mixed(hash, number), id.number()),
-        Value::Undefined => mixed(hash, u32::MAX),
+        Value::Port(number) => mix(mix(hash, u32::MAX), number),
+        Value::Result(id, number) => mix(mix(hash, number), id.number()),
+        Value::Undefined => mix(hash, u32::MAX),
     }
 }
 
 /// A hash with one more number in it.
 #[tactic(auto, unfolding(crate::specs::Hashes::mixed))]
-fn mixed(hash: u64, number: u32) -> u64
+fn mix(hash: u64, number: u32) -> u64
     ensures { result ≡ mixed hash number }
 {
     hash.wrapping_mul(FACTOR).wrapping_add(u64::from(number))

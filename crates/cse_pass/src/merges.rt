@@ -80,7 +80,7 @@ fn visit(
     };
     merge(body, op, first)?;
     if groups.takes(op) {
-        *groups = grouped(alloc, body, position)?;
+        *groups = groups_of_first(alloc, body, position)?;
     }
     Ok(true)
 }
@@ -121,7 +121,7 @@ fn merge(body: &mut Body, op: OpId, first: OpId) -> Result<(), AllocError>
 }
 
 /// The groups of the first operations, so many of them.
-fn grouped(alloc: Global, body: &Body, count: usize) -> Result<Groups, AllocError>
+fn groups_of_first(alloc: Global, body: &Body, count: usize) -> Result<Groups, AllocError>
     requires fit { IsOfFit body.now }
     requires within { count ≤ length (ids_of body.now) }
     ensures { IfOk result (λ groups. IsGrouping groups (take count (ops_of body.now))) }

@@ -46,7 +46,7 @@ fn bits_of(alloc: Global, numbers: &[i64], width: u32) -> Result<Vec<bool>, Allo
 }
 
 /// The bits of all variables, the inputs' from numbers of one width, each from its least significant bit on.
-pub(crate) fn evaluated(
+pub(crate) fn evaluate(
     alloc: Global,
     gates: &Gates,
     numbers: &[i64],

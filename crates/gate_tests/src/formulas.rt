@@ -3,8 +3,8 @@
 ghost use Rattle.std.specs.Prelude.{IsTrue};
 ghost use Rattle.gates.specs.Order.{IsGateWithin, AreInOrder};
 
-use crate::circuits::{evaluated, inputs};
-use gate_words::sums::added;
+use crate::circuits::{evaluate, inputs};
+use gate_words::sums::add;
 use gates::circuit::Gates;
 use gates::clauses::clauses;
 use gates::signal::Gate;
@@ -82,14 +82,14 @@ fn clauses_are_satisfied_by_evaluations(rt: HostRuntime) -> Result<(), Fail> {
     let xs = inputs(alloc, 1, 2)?;
     let ys = inputs(alloc, 3, 2)?;
     assert_eq!(rt; xs.len(), ys.len());
-    added(alloc, &mut gates, &xs, &ys)?;
+    add(alloc, &mut gates, &xs, &ys)?;
     let cnf = formula(alloc, &rt, &gates)?;
     assert_eq!(rt;
         cnf.clauses().len() as u64,
         gates.as_slice().len().wrapping_mul(3) as u64
     );
     for number in 0..16i64 {
-        let values = evaluated(alloc, &gates, &[number], 4)?;
+        let values = evaluate(alloc, &gates, &[number], 4)?;
         assert!(rt;
             cnf.is_satisfied_by(&Assignment::from_vec(values)),
             "{number}"

@@ -2,12 +2,12 @@
 
 ghost use Rattle.std.specs.Prelude.{◌≡◌, length};
 
-use crate::circuits::{evaluated, inputs, number_of};
+use crate::circuits::{evaluate, inputs, number_of};
 use gate_words::bitwise::{Bitwise, copies, each, unlike};
 use gate_words::divisions::{quotient, rest, signed_quotient, signed_rest};
 use gate_words::products::product;
 use gate_words::shifts::{shifted_left, shifted_right, shifted_right_signed};
-use gate_words::sums::{added, less, signed_less, subtracted};
+use gate_words::sums::{add, less, signed_less, subtract};
 use gates::circuit::Gates;
 use gates::signal::Signal;
 use std::alloc::{AllocError, Global};
@@ -53,8 +53,8 @@ pub(crate) fn row_of(
     requires { length a.now ≡ length b.now }
 {
     match operation {
-        Add => added(alloc, gates, a, b),
-        Sub => subtracted(alloc, gates, a, b),
+        Add => add(alloc, gates, a, b),
+        Sub => subtract(alloc, gates, a, b),
         Mul => product(alloc, gates, a, b),
         Divu => quotient(alloc, gates, a, b),
         Modu => rest(alloc, gates, a, b),
@@ -87,6 +87,6 @@ pub(crate) fn value_of(
         return Ok(None);
     }
     let word = row_of(alloc, &mut gates, operation, &xs, &ys)?;
-    let values = evaluated(alloc, &gates, &[a, b], width)?;
+    let values = evaluate(alloc, &gates, &[a, b], width)?;
     Ok(Some(number_of(&values, &word)))
 }

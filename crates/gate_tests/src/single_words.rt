@@ -1,7 +1,7 @@
 //! Rows of one word, and single bits.
-use crate::circuits::{evaluated, inputs, number_of};
-use gate_words::bitwise::{Bitwise, copies, flipped, inverses, masked, reduced};
-use gate_words::sums::negated;
+use crate::circuits::{evaluate, inputs, number_of};
+use gate_words::bitwise::{Bitwise, copies, inverses, invert_if, mask, reduce};
+use gate_words::sums::negate;
 use gates::circuit::Gates;
 use gates::signal::{Pin, Signal};
 use std::alloc::{AllocError, Global};
@@ -42,11 +42,11 @@ fn built(
 ) -> Result<Vec<Signal>, AllocError> {
     match operation {
         Inverse => inverses(alloc, word),
-        Parity => copies(alloc, reduced(gates, Bitwise::Exclusive, word)?, 1),
-        Any => copies(alloc, reduced(gates, Bitwise::Or, word)?, 1),
-        Masked(bit) => masked(alloc, gates, Signal::Fixed(bit), word),
-        Flipped(bit) => flipped(alloc, gates, Signal::Fixed(bit), word),
-        Negated(bit) => negated(alloc, gates, Signal::Fixed(bit), word),
+        Parity => copies(alloc, reduce(gates, Bitwise::Exclusive, word)?, 1),
+        Any => copies(alloc, reduce(gates, Bitwise::Or, word)?, 1),
+        Masked(bit) => mask(alloc, gates, Signal::Fixed(bit), word),
+        Flipped(bit) => invert_if(alloc, gates, Signal::Fixed(bit), word),
+        Negated(bit) => negate(alloc, gates, Signal::Fixed(bit), word),
     }
 }
 
@@ -54,7 +54,7 @@ fn value_of(alloc: Global, case: &Case) -> Result<i64, AllocError> {
     let mut gates = Gates::new(alloc, case.width);
     let xs = inputs(alloc, 1, case.width)?;
     let word = built(alloc, &mut gates, case.operation, &xs)?;
-    let values = evaluated(alloc, &gates, &[case.number], case.width)?;
+    let values = evaluate(alloc, &gates, &[case.number], case.width)?;
     Ok(number_of(&values, &word))
 }
 
@@ -179,7 +179,7 @@ fn bits_of(alloc: Global, number: i64) -> Result<i64, AllocError> {
     let choice = gates.choice(a, b, c)?;
     let total = gates.full(a, b, c)?;
     let majority = gates.majority(a, b, c)?;
-    let values = evaluated(alloc, &gates, &[number], 3)?;
+    let values = evaluate(alloc, &gates, &[number], 3)?;
     let word = [and, or, exclusive, choice, total.sum, total.carry, majority];
     Ok(number_of(&values, &word))
 }

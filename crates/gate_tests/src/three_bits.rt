@@ -10,7 +10,7 @@ use std::alloc::{AllocError, Global};
 use std::test::Fail;
 
 /// The signed reading of a number of three bits.
-fn signed(number: i64) -> i64 {
+fn signed_reading(number: i64) -> i64 {
     if number < 4 {
         number
     } else {
@@ -48,8 +48,8 @@ fn moved_down(number: i64, amount: i64) -> i64 {
 }
 
 /// The value of an operation on words of three bits by arithmetic on whole numbers.
-fn expected(operation: Operation, a: i64, b: i64) -> i64 {
-    let (x, y) = (signed(a), signed(b));
+fn expected_value(operation: Operation, a: i64, b: i64) -> i64 {
+    let (x, y) = (signed_reading(a), signed_reading(b));
     match operation {
         Add => low_bits(a.wrapping_add(b)),
         Sub => low_bits(a.wrapping_sub(b)),
@@ -74,7 +74,7 @@ fn expected(operation: Operation, a: i64, b: i64) -> i64 {
 fn is_well_everywhere(alloc: Global, operation: Operation) -> Result<bool, AllocError> {
     for pair in 0..64i64 {
         let (a, b) = (pair % 8, pair / 8);
-        if value_of(alloc, operation, 3, a, b)? != Some(expected(operation, a, b)) {
+        if value_of(alloc, operation, 3, a, b)? != Some(expected_value(operation, a, b)) {
             return Ok(false);
         }
     }
@@ -120,7 +120,7 @@ fn known_value(
 /// Whether an operation takes no gate of known bits and has its value.
 fn is_known_well(alloc: Global, operation: Operation) -> Result<bool, AllocError> {
     for (a, b) in [(5, 2), (4, 7), (3, 0)] {
-        if known_value(alloc, operation, a, b)? != Some(expected(operation, a, b)) {
+        if known_value(alloc, operation, a, b)? != Some(expected_value(operation, a, b)) {
             return Ok(false);
         }
     }

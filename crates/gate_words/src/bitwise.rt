@@ -57,7 +57,7 @@ pub fn each(
 
 /// Each bit joined with what there is of the bits below it, from 0 on: with or whether a bit is 1, with the exclusive or
 /// whether an odd number is.
-pub fn reduced(gates: &mut Gates, bitwise: Bitwise, xs: &[Signal]) -> Result<Signal, AllocError>
+pub fn reduce(gates: &mut Gates, bitwise: Bitwise, xs: &[Signal]) -> Result<Signal, AllocError>
     ensures { IfOk result (Runs (reduced (building_of bitwise) xs.now) gates.old gates.new) }
 {
     let mut so_far = Signal::Fixed(false);
@@ -80,11 +80,11 @@ pub fn unlike(
     ensures { IfOk result (Runs (unlike xs.now ys.now) gates.old gates.new) }
 {
     let bits = each(alloc, gates, Bitwise::Exclusive, xs, ys)?;
-    reduced(gates, Bitwise::Or, &bits)
+    reduce(gates, Bitwise::Or, &bits)
 }
 
 /// The bits of a word, where the condition is 1.
-pub fn masked(
+pub fn mask(
     alloc: Global,
     gates: &mut Gates,
     condition: Signal,
@@ -97,7 +97,7 @@ pub fn masked(
 }
 
 /// The bits of a word, inverted where the condition is 1.
-pub fn flipped(
+pub fn invert_if(
     alloc: Global,
     gates: &mut Gates,
     condition: Signal,

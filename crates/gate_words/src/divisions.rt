@@ -3,15 +3,15 @@ ghost use Rattle.std.specs.Prelude.{◌≡◌, ◌++◌, ◌∷◌, [], true, dr
 ghost use Rattle.gates.specs.Circuits.{Runs};
 ghost use Rattle.gate_words.specs.Rows.{inverses, tried, divided, quotient, rest, top, signed_quotient, signed_rest};
 
-use crate::bitwise::{Bitwise, copies, each, inverses, masked, reduced};
-use crate::sums::{negated, sum};
+use crate::bitwise::{Bitwise, copies, each, inverses, mask, reduce};
+use crate::sums::{negate, sum};
 use gates::circuit::Gates;
 use gates::signal::Signal;
 use std::alloc::{AllocError, Global};
 
 /// One step: twice the rest and a bit, less the divisor where it is not less. It gives the bit of the quotient and the
 /// new rest.
-fn tried(
+fn division_step(
     alloc: Global,
     gates: &mut Gates,
     rest: &[Signal],
@@ -62,7 +62,7 @@ fn without_top(alloc: Global, xs: &[Signal]) -> Result<Vec<Signal>, AllocError>
 }
 
 /// The quotient and the rest of two words of one width.
-pub fn divided(
+pub fn divide(
     alloc: Global,
     gates: &mut Gates,
     xs: &[Signal],
@@ -74,7 +74,7 @@ pub fn divided(
     let mut bits = Vec::with_capacity(alloc, xs.len())?;
     let mut left = copies(alloc, Signal::Fixed(false), xs.len())?;
     for x in xs {
-        let (bit, next) = tried(alloc, gates, &left, *x, divisor)?;
+        let (bit, next) = division_step(alloc, gates, &left, *x, divisor)?;
         bits.push(bit)?;
         left = next;
     }
@@ -91,9 +91,9 @@ pub fn quotient(
     requires { length xs.now ≡ length divisor.now }
     ensures { IfOk result (λ v. Runs (quotient xs.now divisor.now) gates.old gates.new v.items) }
 {
-    let (bits, _) = divided(alloc, gates, xs, divisor)?;
-    let some = reduced(gates, Bitwise::Or, divisor)?;
-    masked(alloc, gates, some, &bits)
+    let (bits, _) = divide(alloc, gates, xs, divisor)?;
+    let some = reduce(gates, Bitwise::Or, divisor)?;
+    mask(alloc, gates, some, &bits)
 }
 
 /// The rest of two words of one width, and the first where the divisor is 0.
@@ -106,7 +106,7 @@ pub fn rest(
     requires { length xs.now ≡ length divisor.now }
     ensures { IfOk result (λ v. Runs (rest xs.now divisor.now) gates.old gates.new v.items) }
 {
-    let (_, left) = divided(alloc, gates, xs, divisor)?;
+    let (_, left) = divide(alloc, gates, xs, divisor)?;
     Ok(left)
 }
 
@@ -120,11 +120,11 @@ pub fn signed_quotient(
     requires { length xs.now ≡ length divisor.now }
     ensures { IfOk result (λ v. Runs (signed_quotient xs.now divisor.now) gates.old gates.new v.items) }
 {
-    let a = negated(alloc, gates, top(xs), xs)?;
-    let b = negated(alloc, gates, top(divisor), divisor)?;
+    let a = negate(alloc, gates, top(xs), xs)?;
+    let b = negate(alloc, gates, top(divisor), divisor)?;
     let q = quotient(alloc, gates, &a, &b)?;
     let differ = gates.exclusive(top(xs), top(divisor))?;
-    negated(alloc, gates, differ, &q)
+    negate(alloc, gates, differ, &q)
 }
 
 /// The rest of that quotient, with the sign of the first word.
@@ -137,10 +137,10 @@ pub fn signed_rest(
     requires { length xs.now ≡ length divisor.now }
     ensures { IfOk result (λ v. Runs (signed_rest xs.now divisor.now) gates.old gates.new v.items) }
 {
-    let a = negated(alloc, gates, top(xs), xs)?;
-    let b = negated(alloc, gates, top(divisor), divisor)?;
+    let a = negate(alloc, gates, top(xs), xs)?;
+    let b = negate(alloc, gates, top(divisor), divisor)?;
     let r = rest(alloc, gates, &a, &b)?;
-    negated(alloc, gates, top(xs), &r)
+    negate(alloc, gates, top(xs), &r)
 }
 
 /// The top bit of a word; 0 of a word without bits.

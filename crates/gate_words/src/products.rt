@@ -3,7 +3,7 @@ ghost use Rattle.std.specs.Prelude.{◌≡◌, length, IfOk};
 ghost use Rattle.gates.specs.Circuits.{Runs};
 ghost use Rattle.gate_words.specs.Rows.{doubled, product_step, product};
 
-use crate::bitwise::{copies, masked};
+use crate::bitwise::{copies, mask};
 use crate::sums::sum;
 use gates::circuit::Gates;
 use gates::signal::Signal;
@@ -37,14 +37,14 @@ fn product_step(
     ensures runs { IfOk result (λ v. Runs (product_step so_far.now xs.now bit) gates.old gates.new v.items) }
     ensures width { IfOk result (λ v. length v.items ≡ length xs.now) }
 {
-    let part = masked(alloc, gates, bit, xs)?;
-    let twice = doubled(alloc, so_far)?;
+    let part = mask(alloc, gates, bit, xs)?;
+    let twice = double(alloc, so_far)?;
     let (word, _) = sum(alloc, gates, &twice, &part, Signal::Fixed(false))?;
     Ok(word)
 }
 
 /// The word moved up by one bit.
-fn doubled(alloc: Global, xs: &[Signal]) -> Result<Vec<Signal>, AllocError>
+fn double(alloc: Global, xs: &[Signal]) -> Result<Vec<Signal>, AllocError>
     ensures { IfOk result (λ v. v.items ≡ doubled xs.now) }
 {
     let mut made = Vec::with_capacity(alloc, xs.len())?;

@@ -21,7 +21,7 @@ impl Direction {
     ghost use Rattle.gate_words.specs.Directions.{move_of};
 
     /// The word moved by a number of bits, its width at most. It takes no gate.
-    fn moved(self, alloc: Global, xs: &[Signal], distance: usize) -> Result<Vec<Signal>, AllocError>
+    fn shift(self, alloc: Global, xs: &[Signal], distance: usize) -> Result<Vec<Signal>, AllocError>
         requires { distance ≤ length xs.now }
         ensures { IfOk result (λ v. v.items ≡ move_of self xs.now distance) }
     {
@@ -71,7 +71,7 @@ fn stage(
     ensures width { IfOk result (λ s. length s.0.items ≡ length word.now) }
 {
     if distance < word.len() {
-        let far = direction.moved(alloc, word, distance)?;
+        let far = direction.shift(alloc, word, distance)?;
         let next = each(alloc, gates, Bitwise::Choice(bit), &far, word)?;
         return Ok((next, is_out));
     }
@@ -106,7 +106,7 @@ fn moved_from(
 }
 
 /// The word moved by the number of another: by a stage for each bit of the amount that counts below the width.
-pub fn moved(
+pub fn shift(
     alloc: Global,
     gates: &mut Gates,
     direction: Direction,
@@ -116,7 +116,7 @@ pub fn moved(
     ensures { IfOk result (λ v. Runs (moved (move_of direction) xs.now amount.now) gates.old gates.new v.items) }
 {
     let (word, is_out) = moved_from(alloc, gates, direction, xs, amount)?;
-    let out = direction.moved(alloc, xs, xs.len())?;
+    let out = direction.shift(alloc, xs, xs.len())?;
     each(alloc, gates, Bitwise::Choice(is_out), &out, &word)
 }
 
@@ -129,7 +129,7 @@ pub fn shifted_left(
 ) -> Result<Vec<Signal>, AllocError>
     ensures { IfOk result (λ v. Runs (shifted_left xs.now amount.now) gates.old gates.new v.items) }
 {
-    moved(alloc, gates, Direction::Up, xs, amount)
+    shift(alloc, gates, Direction::Up, xs, amount)
 }
 
 /// The first word moved down by the number of the second, with bits of 0 from above.
@@ -141,7 +141,7 @@ pub fn shifted_right(
 ) -> Result<Vec<Signal>, AllocError>
     ensures { IfOk result (λ v. Runs (shifted_right xs.now amount.now) gates.old gates.new v.items) }
 {
-    moved(
+    shift(
         alloc,
         gates,
         Direction::Down(Signal::Fixed(false)),
@@ -159,5 +159,5 @@ pub fn shifted_right_signed(
 ) -> Result<Vec<Signal>, AllocError>
     ensures { IfOk result (λ v. Runs (shifted_right_signed xs.now amount.now) gates.old gates.new v.items) }
 {
-    moved(alloc, gates, Direction::Down(top(xs)), xs, amount)
+    shift(alloc, gates, Direction::Down(top(xs)), xs, amount)
 }

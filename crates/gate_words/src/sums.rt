@@ -3,7 +3,7 @@ ghost use Rattle.std.specs.Prelude.{◌≡◌, length, IfOk};
 ghost use Rattle.gates.specs.Circuits.{Runs};
 ghost use Rattle.gate_words.specs.Rows.{sum, carried, inverses, difference, added, subtracted, less, signed_less, top_inverted, negated};
 
-use crate::bitwise::{copies, flipped, inverses};
+use crate::bitwise::{copies, inverses, invert_if};
 use gates::circuit::Gates;
 use gates::signal::Signal;
 use std::alloc::{AllocError, Global};
@@ -32,7 +32,7 @@ pub fn sum(
 }
 
 /// The carry of the sum of two words of one width and a carry.
-pub fn carried(
+pub fn carry_out(
     gates: &mut Gates,
     xs: &[Signal],
     ys: &[Signal],
@@ -65,7 +65,7 @@ pub fn difference(
 }
 
 /// The sum of two words of one width.
-pub fn added(
+pub fn add(
     alloc: Global,
     gates: &mut Gates,
     xs: &[Signal],
@@ -79,7 +79,7 @@ pub fn added(
 }
 
 /// The difference of two words of one width.
-pub fn subtracted(
+pub fn subtract(
     alloc: Global,
     gates: &mut Gates,
     xs: &[Signal],
@@ -103,7 +103,7 @@ pub fn less(
     ensures { IfOk result (Runs (less xs.now ys.now) gates.old gates.new) }
 {
     let inverted = inverses(alloc, ys)?;
-    let enough = carried(gates, xs, &inverted, Signal::Fixed(true))?;
+    let enough = carry_out(gates, xs, &inverted, Signal::Fixed(true))?;
     Ok(enough.inverse())
 }
 
@@ -135,7 +135,7 @@ fn top_inverted(alloc: Global, xs: &[Signal]) -> Result<Vec<Signal>, AllocError>
 }
 
 /// The word, or what it lacks to the power of its width where the condition is 1.
-pub fn negated(
+pub fn negate(
     alloc: Global,
     gates: &mut Gates,
     condition: Signal,
@@ -143,7 +143,7 @@ pub fn negated(
 ) -> Result<Vec<Signal>, AllocError>
     ensures { IfOk result (λ v. Runs (negated condition xs.now) gates.old gates.new v.items) }
 {
-    let bits = flipped(alloc, gates, condition, xs)?;
+    let bits = invert_if(alloc, gates, condition, xs)?;
     let zeros = copies(alloc, Signal::Fixed(false), bits.len())?;
     let (word, _) = sum(alloc, gates, &bits, &zeros, condition)?;
     Ok(word)

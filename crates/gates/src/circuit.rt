@@ -78,12 +78,12 @@ impl Gates {
         ensures { IfOk result (Runs (and_pins a b) self.old self.new) }
     {
         if a.variable < b.variable {
-            self.joined(Gate {
+            self.insert_gate(Gate {
                 first: a,
                 second: b,
             })
         } else if b.variable < a.variable {
-            self.joined(Gate {
+            self.insert_gate(Gate {
                 first: b,
                 second: a,
             })
@@ -95,7 +95,7 @@ impl Gates {
     }
 
     /// The gate of the two pins, which may stand already.
-    fn joined(&mut self, gate: Gate) -> Result<Signal, AllocError>
+    fn insert_gate(&mut self, gate: Gate) -> Result<Signal, AllocError>
         ensures { IfOk result (Runs (joined gate) self.old self.new) }
     {
         let (index, _) = self.gates.insert_full(gate)?;

@@ -17,7 +17,7 @@ pub fn generate(alloc: Global, seed: u32, n: u32) -> Result<Verified, AllocError
     requires few { n ≤ 10000 }
     ensures { IfOk result (λ v. map numbered_module (modules_verified v) ≡ generated seed n) }
 {
-    let design = generated(alloc, seed, n)?;
+    let design = build_design(alloc, seed, n)?;
     match verify(alloc, design) {
         Ok(verified) => Ok(verified),
         Err(VerifyFail::NoMemory) => Err(AllocError),
@@ -26,7 +26,7 @@ pub fn generate(alloc: Global, seed: u32, n: u32) -> Result<Verified, AllocError
 }
 
 /// The design, not yet verified.
-fn generated(alloc: Global, seed: u32, n: u32) -> Result<Design, AllocError>
+fn build_design(alloc: Global, seed: u32, n: u32) -> Result<Design, AllocError>
     requires { n ≤ 10000 }
     ensures { IfOk result (λ design. design_of design ≡ generated seed n) }
 {

@@ -152,13 +152,13 @@ impl<'a> Places<'a> {
     {
         let mut all = Vec::with_capacity(alloc, values.len())?;
         for value in values {
-            all.push(self.moved(*value))?;
+            all.push(self.moved_value(*value))?;
         }
         Ok(all)
     }
 
     /// A value of the module in the place of its instance.
-    fn moved(&self, value: Value) -> Value
+    fn moved_value(&self, value: Value) -> Value
         requires { ArePlaces self.now }
         ensures { result ≡ value_there self.now value }
     {

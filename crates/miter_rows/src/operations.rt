@@ -14,9 +14,9 @@ use crate::known_words::{integer_bits, value_of_none};
 use crate::pair_rows::{comparison, division_row, pair_row, shift_row};
 use crate::parts::{concatenation, copies_within, part};
 use crate::signal_word::SignalWord;
-use gate_words::bitwise::{Bitwise, copies, each, reduced};
+use gate_words::bitwise::{Bitwise, copies, each, reduce};
 use gate_words::divisions::top;
-use gate_words::sums::subtracted;
+use gate_words::sums::subtract;
 use gates::circuit::Gates;
 use gates::signal::Signal;
 use hw_model::families::{Division, Family, Shift, Variadic};
@@ -137,7 +137,7 @@ fn difference(
     ensures { IfOk result (Runs (row_of_two subtracted operands.now) gates.old gates.new) }
 {
     let (a, b) = two(operands);
-    let word = subtracted(alloc, gates, a.as_slice(), b.as_slice())?;
+    let word = subtract(alloc, gates, a.as_slice(), b.as_slice())?;
     Ok(SignalWord::from_vec(word))
 }
 
@@ -200,7 +200,7 @@ fn parity(
     ensures { IfOk result (Runs (row_of_one (λ x. one_bit (odd x)) operands.now) gates.old gates.new) }
 {
     let a = one(operands);
-    let bit = reduced(gates, Bitwise::Exclusive, a.as_slice())?;
+    let bit = reduce(gates, Bitwise::Exclusive, a.as_slice())?;
     one_signal(alloc, bit)
 }
 

@@ -10,7 +10,7 @@ use gate_words::bitwise::{Bitwise, each, unlike};
 use gate_words::divisions::{quotient, rest, signed_quotient, signed_rest};
 use gate_words::products::product;
 use gate_words::shifts::{shifted_left, shifted_right, shifted_right_signed};
-use gate_words::sums::{added, less, signed_less};
+use gate_words::sums::{add, less, signed_less};
 use gates::circuit::Gates;
 use gates::signal::Signal;
 use hw_model::families::{Division, Shift, Variadic};
@@ -29,7 +29,7 @@ pub fn pair_row(
     ensures { IfOk result (λ v. Runs (pair_row (variadic_of op) x.now y.now) gates.old gates.new v.items) }
 {
     match op {
-        Variadic::Add => added(alloc, gates, x, y),
+        Variadic::Add => add(alloc, gates, x, y),
         Variadic::Mul => product(alloc, gates, x, y),
         Variadic::And => each(alloc, gates, Bitwise::And, x, y),
         Variadic::Or => each(alloc, gates, Bitwise::Or, x, y),

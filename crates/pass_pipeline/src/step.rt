@@ -44,7 +44,7 @@ pub(crate) fn step_over(
 {
     match expected {
         Expected::Root => root(offered, at, symbol),
-        Expected::Opening(anchor) => opening(anchor, at, symbol),
+        Expected::Opening(anchor) => opening_parenthesis(anchor, at, symbol),
         Expected::FirstItem(anchor) => first_item(offered, anchor, at, symbol),
         Expected::Item(anchor) => item(offered, anchor, at, symbol),
         Expected::Separator(anchor) => separator(anchor, at, symbol),
@@ -74,7 +74,7 @@ fn root(offered: &[Pass], at: u64, symbol: &[u8]) -> Result<Step, PipelineFail>
 
 // `(`.
 #[tactic(auto, unfolding(crate::specs::Steps::opening))]
-fn opening(anchor: Anchor, at: u64, symbol: &[u8]) -> Result<Step, PipelineFail>
+fn opening_parenthesis(anchor: Anchor, at: u64, symbol: &[u8]) -> Result<Step, PipelineFail>
     ensures { result ≡ opening anchor at symbol.now }
 {
     if symbol == b"(".as_slice() {
@@ -98,7 +98,7 @@ fn first_item(
     ensures { result ≡ first_item offered.now anchor at symbol.now }
 {
     if symbol == b")".as_slice() {
-        Ok(closed(anchor))
+        Ok(closing_parenthesis(anchor))
     } else {
         item(offered, anchor, at, symbol)
     }
@@ -114,7 +114,7 @@ fn item(offered: &[Pass], anchor: Anchor, at: u64, symbol: &[u8]) -> Result<Step
     }
     match pass_named(offered, symbol) {
         Some(pass) => pass_item(pass, anchor, at),
-        None => nested(anchor, at, symbol),
+        None => nested_anchor(anchor, at, symbol),
     }
 }
 
@@ -135,7 +135,7 @@ fn pass_item(pass: Pass, anchor: Anchor, at: u64) -> Result<Step, PipelineFail>
 
 // A name that is no pass: `hw.module`, in `builtin.module` alone.
 #[tactic(auto, unfolding(crate::specs::Steps::nested))]
-fn nested(anchor: Anchor, at: u64, symbol: &[u8]) -> Result<Step, PipelineFail>
+fn nested_anchor(anchor: Anchor, at: u64, symbol: &[u8]) -> Result<Step, PipelineFail>
     ensures { result ≡ nested anchor at symbol.now }
 {
     match anchor {
@@ -159,14 +159,14 @@ fn separator(anchor: Anchor, at: u64, symbol: &[u8]) -> Result<Step, PipelineFai
         });
     }
     if symbol == b")".as_slice() {
-        return Ok(closed(anchor));
+        return Ok(closing_parenthesis(anchor));
     }
     Err(PipelineFail::BadText(at))
 }
 
 // What may stand after the items of an anchor.
 #[tactic(auto, unfolding(crate::specs::Steps::closed))]
-fn closed(anchor: Anchor) -> Step
+fn closing_parenthesis(anchor: Anchor) -> Step
     ensures { result ≡ closed anchor }
 {
     let next = match anchor {

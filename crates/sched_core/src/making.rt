@@ -93,7 +93,7 @@ pub(crate) fn uses(alloc: Global, callees: &[Vec<u32>]) -> Result<Vec<u64>, Allo
 }
 
 /// So many modules that wait.
-pub(crate) fn waiting(alloc: Global, modules: usize) -> Result<Vec<Stage>, AllocError>
+pub(crate) fn waiting_stages(alloc: Global, modules: usize) -> Result<Vec<Stage>, AllocError>
     ensures { IfOk result (λ v. v.items ≡ replicate modules Waiting) }
 {
     let stages = vec![in alloc; Stage::Waiting; modules]?;

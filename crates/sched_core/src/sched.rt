@@ -70,7 +70,7 @@ impl Sched {
             callees: making::clone_callees(alloc, callees)?,
             leaves: making::leaf_modules(alloc, callees)?,
             uses: making::uses(alloc, callees)?,
-            stages: making::waiting(alloc, callees.len())?,
+            stages: making::waiting_stages(alloc, callees.len())?,
             edges: making::new_edges(alloc, callees)?,
             pending_edges: making::lengths(alloc, callees)?,
             leaf: 0,

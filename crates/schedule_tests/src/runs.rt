@@ -123,7 +123,7 @@ fn leaves(alloc: Global, leaves: u32) -> Result<Vec<Vec<u32>>, AllocError> {
     Ok(rows)
 }
 
-fn repeated(alloc: Global, times: u32) -> Result<Vec<Vec<u32>>, AllocError> {
+fn repeated_callee(alloc: Global, times: u32) -> Result<Vec<Vec<u32>>, AllocError> {
     let mut rows = Vec::new(alloc);
     rows.push(Vec::new(alloc))?;
     let row = vec![in alloc; 0u32; times as usize]?;
@@ -143,7 +143,7 @@ fn callees_of(alloc: Global, shape: Shape) -> Result<Vec<Vec<u32>>, AllocError> 
         Shape::Diamond => diamond(alloc),
         Shape::Chain(modules) => chain(alloc, modules),
         Shape::Leaves(count) => leaves(alloc, count),
-        Shape::Repeated(times) => repeated(alloc, times),
+        Shape::Repeated(times) => repeated_callee(alloc, times),
     }
 }
 

@@ -53,11 +53,11 @@ where
     );
     let mine = mine?;
     let theirs = theirs?;
-    Ok(gathered(shared, mine, theirs))
+    Ok(gather(shared, mine, theirs))
 }
 
 // the first worker, and another that it gathers
-fn gathered<P: Pieces>(
+fn gather<P: Pieces>(
     shared: &Shared<P>,
     mut seat: Seat<Slot<P::Body>, View<P>>,
     other: Seat<Slot<P::Body>, View<P>>,

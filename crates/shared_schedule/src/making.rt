@@ -39,7 +39,10 @@ pub(crate) fn first_words(alloc: Global, callees: &[Vec<u32>]) -> Result<Vec<u64
 }
 
 /// The slots of the modules of a new table.
-pub(crate) fn stored<B: Drop>(alloc: Global, bodies: Vec<B>) -> Result<Vec<Slot<B>>, AllocError>
+pub(crate) fn stored_bodies<B: Drop>(
+    alloc: Global,
+    bodies: Vec<B>,
+) -> Result<Vec<Slot<B>>, AllocError>
     ensures { IfOk result (λ v. v.items ≡ map Stored bodies.items) }
 {
     let mut slots = Vec::new(alloc);

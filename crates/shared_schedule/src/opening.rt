@@ -44,7 +44,7 @@ where
         let callers = making::callers(alloc, callees.as_slice())?;
         let words = making::first_words(alloc, callees.as_slice())?;
         let edges = making::edge_count(first_slots.as_slice(), callees.len());
-        let stored = making::stored(alloc, bodies)?;
+        let stored = making::stored_bodies(alloc, bodies)?;
         let slots = making::with_bare(stored, edges)?;
         let plan = Plan { pieces, callees };
         match Table::new(alloc, words.as_slice(), slots, &plan) {

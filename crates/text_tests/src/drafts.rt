@@ -216,7 +216,7 @@ fn operations_are_read_one_by_one(rt: HostRuntime) -> Result<(), Fail> {
 }
 
 // the first operation waits for the last one, and so do 300 after it
-fn waiting(alloc: Global) -> Result<Text, AllocError> {
+fn waiting_text(alloc: Global) -> Result<Text, AllocError> {
     let mut text = Text::new(alloc);
     text.push_bytes(b"%a = comb.add %p, %z : i8\n")?;
     for _ in 0..300 {
@@ -228,7 +228,7 @@ fn waiting(alloc: Global) -> Result<Text, AllocError> {
 
 #[test]
 fn many_may_wait_for_the_last(rt: HostRuntime) -> Result<(), Fail> {
-    let text = waiting(rt.alloc())?;
+    let text = waiting_text(rt.alloc())?;
     let body = body_of(rt.alloc(), text.as_bytes(), 999)?;
     assert_eq!(rt; body.op_count(), 302);
     for (operand, places) in [

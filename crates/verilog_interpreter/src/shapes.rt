@@ -12,7 +12,7 @@ pub struct Shape {
     pub is_signed: bool,
 }
 
-fn unsigned(width: u32) -> Shape {
+fn unsigned_shape(width: u32) -> Shape {
     Shape {
         width,
         is_signed: false,
@@ -30,7 +30,7 @@ fn common(a: Shape, b: Shape) -> Shape {
 // The own width and sign of a part, from those of the parts before it.
 fn shape_of(node: &Node, shapes: &[Shape]) -> Option<Shape> {
     match *node {
-        Node::Net { width, .. } | Node::Select { width, .. } => Some(unsigned(width)),
+        Node::Net { width, .. } | Node::Select { width, .. } => Some(unsigned_shape(width)),
         Node::Literal { word, is_signed } => Some(Shape {
             width: word.width(),
             is_signed,
@@ -38,13 +38,13 @@ fn shape_of(node: &Node, shapes: &[Shape]) -> Option<Shape> {
         Node::Joined { before, part } => joined_shape(before, part, shapes),
         Node::Repeated { count, part } => {
             let part = shapes.get(part)?;
-            Some(unsigned(part.width.checked_mul(count)?))
+            Some(unsigned_shape(part.width.checked_mul(count)?))
         }
         Node::Cast { is_signed, operand } => Some(Shape {
             width: shapes.get(operand)?.width,
             is_signed,
         }),
-        Node::Odd { .. } => Some(unsigned(1)),
+        Node::Odd { .. } => Some(unsigned_shape(1)),
         Node::Binary {
             operator,
             left,
@@ -58,10 +58,10 @@ fn shape_of(node: &Node, shapes: &[Shape]) -> Option<Shape> {
 fn joined_shape(before: Option<usize>, part: usize, shapes: &[Shape]) -> Option<Shape> {
     let part = shapes.get(part)?;
     match before {
-        None => Some(unsigned(part.width)),
+        None => Some(unsigned_shape(part.width)),
         Some(before) => {
             let before = shapes.get(before)?;
-            Some(unsigned(before.width.checked_add(part.width)?))
+            Some(unsigned_shape(before.width.checked_add(part.width)?))
         }
     }
 }
@@ -71,7 +71,7 @@ fn binary_shape(operator: Operator, left: Shape, right: Shape) -> Option<Shape> 
     match operator.context() {
         Context::BothOperands => Some(common(left, right)),
         Context::LeftOperand => Some(left),
-        Context::NoOperand => Some(unsigned(1)),
+        Context::NoOperand => Some(unsigned_shape(1)),
     }
 }
 

@@ -8,12 +8,12 @@ returns-in_err-merge-clause-fit c = fit_same c.args.body.now c.merge.new.body c.
 pub returns-in_err-merge-clause-changes : goal.returns-in_err-merge-clause-changes
 returns-in_err-merge-clause-changes c = same_changes c.args.body.now c.merge.new.body c.in_err-merge.ensures.kept
 
-pub grouped-requires-clause-fit : goal.grouped-requires-clause-fit
-grouped-requires-clause-fit c =
+pub groups_of_first-requires-clause-fit : goal.groups_of_first-requires-clause-fit
+groups_of_first-requires-clause-fit c =
     merged_fit c.args.body.now c.merge.new.body c.requires.fit c.args.op c.in-Some.first c.args.position c.requires.position c.requires.live c.in-Some.ensures.equal c.in_ok-merge.ensures.merged
 
-pub grouped-requires-clause-within : goal.grouped-requires-clause-within
-grouped-requires-clause-within c =
+pub groups_of_first-requires-clause-within : goal.groups_of_first-requires-clause-within
+groups_of_first-requires-clause-within c =
     merged_within c.args.body.now c.merge.new.body c.requires.fit c.args.op c.in-Some.first c.args.position c.requires.position c.requires.live c.in-Some.ensures.equal c.in_ok-merge.ensures.merged
 
 pub returns-in_err-groups-clause-fit : goal.returns-in_err-groups-clause-fit

@@ -9,4 +9,4 @@ unfolding unlike
 returns c =
     let same : c.deref.result.now ≡ c.in_ok-bits.bits.items = cc (c.deref.ensures.value) in
     runs_last _ _ _ c.in_ok-bits.ensures
-    (subst (λ ss. IfOk c.reduced.result (Runs (any ss) c.each.new.gates c.reduced.new.gates)) same c.reduced.ensures)
+    (subst (λ ss. IfOk c.reduce.result (Runs (any ss) c.each.new.gates c.reduce.new.gates)) same c.reduce.ensures)

@@ -10,5 +10,5 @@ unfolding quotient
 returns c =
     let same : c.deref.result.now ≡ c.in_ok-bits.bits.items = c.deref.ensures.value in
     let view : Vec Signal Global → List Signal = λ v. v.items in
-    runs_last_by _ _ view c.masked.result c.in_ok-bits.ensures (runs_last_by _ _ view c.masked.result c.in_ok-some.ensures
-    (subst (λ ss. IfOk c.masked.result (λ v. Runs (masked c.in_ok-some.some ss) c.reduced.new.gates c.masked.new.gates v.items)) same c.masked.ensures))
+    runs_last_by _ _ view c.mask.result c.in_ok-bits.ensures (runs_last_by _ _ view c.mask.result c.in_ok-some.ensures
+    (subst (λ ss. IfOk c.mask.result (λ v. Runs (masked c.in_ok-some.some ss) c.reduce.new.gates c.mask.new.gates v.items)) same c.mask.ensures))

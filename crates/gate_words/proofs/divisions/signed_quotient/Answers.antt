@@ -11,7 +11,7 @@ quotient-requires c =
     ap length c.deref.ensures.value ∙ ap length c.in_ok-a.ensures.is
     ∙ length-negated c.top.result c.args.xs.now c.args.gates.now.inputs c.args.gates.now.gates ∙ c.requires
     ∙ sym (ap length c.deref-2.ensures.value ∙ ap length c.in_ok-b.ensures.is
-    ∙ length-negated c.top-2.result c.args.divisor.now c.negated.new.gates.inputs c.negated.new.gates.gates)
+    ∙ length-negated c.top-2.result c.args.divisor.now c.negate.new.gates.inputs c.negate.new.gates.gates)
 
 pub returns : goal.returns
 unfolding signed_quotient
@@ -21,12 +21,12 @@ returns c =
     let a = c.in_ok-a.a.items in
     let b = c.in_ok-b.b.items in
     let view : Vec Signal Global → List Signal = λ v. v.items in
-    runs_last_by _ _ view c.negated-3.result (subst (λ s. Runs (negated s xs) c.args.gates.now c.negated.new.gates a) c.top.ensures c.in_ok-a.ensures)
-    (runs_last_by _ _ view c.negated-3.result (subst (λ s. Runs (negated s d) c.negated.new.gates c.negated-2.new.gates b) c.top-2.ensures c.in_ok-b.ensures)
-    (runs_last_by _ _ view c.negated-3.result
-    (subst (λ ss. Runs (quotient ss b) c.negated-2.new.gates c.quotient.new.gates c.in_ok-q.q.items) c.deref.ensures.value
-    (subst (λ zs. Runs (quotient c.deref.result.now zs) c.negated-2.new.gates c.quotient.new.gates c.in_ok-q.q.items) c.deref-2.ensures.value c.in_ok-q.ensures))
-    (runs_last_by _ _ view c.negated-3.result
+    runs_last_by _ _ view c.negate-3.result (subst (λ s. Runs (negated s xs) c.args.gates.now c.negate.new.gates a) c.top.ensures c.in_ok-a.ensures)
+    (runs_last_by _ _ view c.negate-3.result (subst (λ s. Runs (negated s d) c.negate.new.gates c.negate-2.new.gates b) c.top-2.ensures c.in_ok-b.ensures)
+    (runs_last_by _ _ view c.negate-3.result
+    (subst (λ ss. Runs (quotient ss b) c.negate-2.new.gates c.quotient.new.gates c.in_ok-q.q.items) c.deref.ensures.value
+    (subst (λ zs. Runs (quotient c.deref.result.now zs) c.negate-2.new.gates c.quotient.new.gates c.in_ok-q.q.items) c.deref-2.ensures.value c.in_ok-q.ensures))
+    (runs_last_by _ _ view c.negate-3.result
     (subst (λ s. Runs (exclusive s (top d)) c.quotient.new.gates c.exclusive.new.self c.in_ok-differ.differ) c.top-3.ensures
     (subst (λ z. Runs (exclusive c.top-3.result z) c.quotient.new.gates c.exclusive.new.self c.in_ok-differ.differ) c.top-4.ensures c.in_ok-differ.ensures))
-    (subst (λ ss. IfOk c.negated-3.result (λ v. Runs (negated c.in_ok-differ.differ ss) c.exclusive.new.self c.negated-3.new.gates v.items)) c.deref-3.ensures.value c.negated-3.ensures))))
+    (subst (λ ss. IfOk c.negate-3.result (λ v. Runs (negated c.in_ok-differ.differ ss) c.exclusive.new.self c.negate-3.new.gates v.items)) c.deref-3.ensures.value c.negate-3.ensures))))

@@ -10,7 +10,7 @@ rest-requires c =
     ap length c.deref.ensures.value ∙ ap length c.in_ok-a.ensures.is
     ∙ length-negated c.top.result c.args.xs.now c.args.gates.now.inputs c.args.gates.now.gates ∙ c.requires
     ∙ sym (ap length c.deref-2.ensures.value ∙ ap length c.in_ok-b.ensures.is
-    ∙ length-negated c.top-2.result c.args.divisor.now c.negated.new.gates.inputs c.negated.new.gates.gates)
+    ∙ length-negated c.top-2.result c.args.divisor.now c.negate.new.gates.inputs c.negate.new.gates.gates)
 
 pub returns : goal.returns
 unfolding signed_rest
@@ -20,10 +20,10 @@ returns c =
     let a = c.in_ok-a.a.items in
     let b = c.in_ok-b.b.items in
     let view : Vec Signal Global → List Signal = λ v. v.items in
-    runs_last_by _ _ view c.negated-3.result (subst (λ s. Runs (negated s xs) c.args.gates.now c.negated.new.gates a) c.top.ensures c.in_ok-a.ensures)
-    (runs_last_by _ _ view c.negated-3.result (subst (λ s. Runs (negated s d) c.negated.new.gates c.negated-2.new.gates b) c.top-2.ensures c.in_ok-b.ensures)
-    (runs_last_by _ _ view c.negated-3.result
-    (subst (λ ss. Runs (rest ss b) c.negated-2.new.gates c.rest.new.gates c.in_ok-r.r.items) c.deref.ensures.value
-    (subst (λ zs. Runs (rest c.deref.result.now zs) c.negated-2.new.gates c.rest.new.gates c.in_ok-r.r.items) c.deref-2.ensures.value c.in_ok-r.ensures))
-    (subst (λ s. IfOk c.negated-3.result (λ v. Runs (negated s c.in_ok-r.r.items) c.rest.new.gates c.negated-3.new.gates v.items)) c.top-3.ensures
-    (subst (λ ss. IfOk c.negated-3.result (λ v. Runs (negated c.top-3.result ss) c.rest.new.gates c.negated-3.new.gates v.items)) c.deref-3.ensures.value c.negated-3.ensures))))
+    runs_last_by _ _ view c.negate-3.result (subst (λ s. Runs (negated s xs) c.args.gates.now c.negate.new.gates a) c.top.ensures c.in_ok-a.ensures)
+    (runs_last_by _ _ view c.negate-3.result (subst (λ s. Runs (negated s d) c.negate.new.gates c.negate-2.new.gates b) c.top-2.ensures c.in_ok-b.ensures)
+    (runs_last_by _ _ view c.negate-3.result
+    (subst (λ ss. Runs (rest ss b) c.negate-2.new.gates c.rest.new.gates c.in_ok-r.r.items) c.deref.ensures.value
+    (subst (λ zs. Runs (rest c.deref.result.now zs) c.negate-2.new.gates c.rest.new.gates c.in_ok-r.r.items) c.deref-2.ensures.value c.in_ok-r.ensures))
+    (subst (λ s. IfOk c.negate-3.result (λ v. Runs (negated s c.in_ok-r.r.items) c.rest.new.gates c.negate-3.new.gates v.items)) c.top-3.ensures
+    (subst (λ ss. IfOk c.negate-3.result (λ v. Runs (negated c.top-3.result ss) c.rest.new.gates c.negate-3.new.gates v.items)) c.deref-3.ensures.value c.negate-3.ensures))))

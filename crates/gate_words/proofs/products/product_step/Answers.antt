@@ -21,8 +21,8 @@ returns-clause-runs c =
     let total : Total = record { word = c.in_ok-word.word.items; carry = c.in_ok-word.field-0-1 } in
     runs_then _ c.in_ok-part.ensures
     (runs_then _
-    (subst (λ ss. Runs (sum ss c.in_ok-part.part.items (Fixed false)) c.masked.new.gates c.sum.new.gates total) one
-    (subst (λ zs. Runs (sum c.deref.result.now zs (Fixed false)) c.masked.new.gates c.sum.new.gates total) two c.in_ok-word.ensures))
+    (subst (λ ss. Runs (sum ss c.in_ok-part.part.items (Fixed false)) c.mask.new.gates c.sum.new.gates total) one
+    (subst (λ zs. Runs (sum c.deref.result.now zs (Fixed false)) c.mask.new.gates c.sum.new.gates total) two c.in_ok-word.ensures))
     runs-done)
 
 pub returns-clause-width : goal.returns-clause-width
@@ -33,4 +33,4 @@ returns-clause-width c =
     let second : length c.deref-2.result.now ≡ length c.args.xs.now =
     ap length two ∙ ap length c.in_ok-part.ensures.is ∙ length-masked c.args.bit c.args.xs.now c.args.gates.now.inputs c.args.gates.now.gates in
     ap (λ (t : Total). length t.word) c.in_ok-word.ensures.is
-    ∙ length-sum_word c.deref.result.now c.deref-2.result.now (Fixed false) c.masked.new.gates.inputs c.masked.new.gates.gates (first ∙ sym second) ∙ first
+    ∙ length-sum_word c.deref.result.now c.deref-2.result.now (Fixed false) c.mask.new.gates.inputs c.mask.new.gates.gates (first ∙ sym second) ∙ first

@@ -5,4 +5,4 @@ use Rattle.gate_words.proofs.shifts.shifted_right_signed.Goals as goal
 
 pub returns : goal.returns
 returns c =
-    subst (λ s. IfOk c.moved.result (λ v. Runs (moved (moved_down s) c.args.xs.now c.args.amount.now) c.args.gates.now c.moved.new.gates v.items)) c.top.ensures c.moved.ensures
+    subst (λ s. IfOk c.shift.result (λ v. Runs (moved (moved_down s) c.args.xs.now c.args.amount.now) c.args.gates.now c.shift.new.gates v.items)) c.top.ensures c.shift.ensures

@@ -9,7 +9,7 @@ invariant_of-result c =
       callees = c.in_ok-clone_callees.field-0;
       leaves = c.in_ok-leaf_modules.field-0;
       uses = c.in_ok-uses.field-0;
-      stages = c.in_ok-waiting.field-0;
+      stages = c.in_ok-waiting_stages.field-0;
       edges = c.in_ok-new_edges.field-0;
       pending_edges = c.in_ok-lengths.field-0;
       leaf = 0;
@@ -23,7 +23,7 @@ invariant_of-result c =
       leaf_modules = c.in_ok-leaf_modules.ensures {u = tt};
       size = (c.in_ok-uses.ensures {u = tt}).len;
       uses = (c.in_ok-uses.ensures {u = tt}).counts;
-      stages = c.in_ok-waiting.ensures {u = tt};
+      stages = c.in_ok-waiting_stages.ensures {u = tt};
       edges = c.in_ok-new_edges.ensures {u = tt};
       pending_edges = c.in_ok-lengths.ensures {u = tt};
       leaf = refl;
@@ -41,7 +41,7 @@ returns c =
       callees = c.in_ok-clone_callees.field-0;
       leaves = c.in_ok-leaf_modules.field-0;
       uses = c.in_ok-uses.field-0;
-      stages = c.in_ok-waiting.field-0;
+      stages = c.in_ok-waiting_stages.field-0;
       edges = c.in_ok-new_edges.field-0;
       pending_edges = c.in_ok-lengths.field-0;
       leaf = 0;
@@ -55,7 +55,7 @@ returns c =
       leaf_modules = c.in_ok-leaf_modules.ensures {u = tt};
       size = (c.in_ok-uses.ensures {u = tt}).len;
       uses = (c.in_ok-uses.ensures {u = tt}).counts;
-      stages = c.in_ok-waiting.ensures {u = tt};
+      stages = c.in_ok-waiting_stages.ensures {u = tt};
       edges = c.in_ok-new_edges.ensures {u = tt};
       pending_edges = c.in_ok-lengths.ensures {u = tt};
       leaf = refl;

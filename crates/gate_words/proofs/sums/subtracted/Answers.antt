@@ -1,7 +1,0 @@
-use Rattle.gates.proofs.Running.{runs-done, runs_then}
-use Rattle.gate_words.specs.Rows.{subtracted}
-use Rattle.gate_words.proofs.sums.subtracted.Goals as goal
-
-pub returns : goal.returns
-unfolding subtracted
-returns c = runs_then _ c.in_ok-word.ensures runs-done
