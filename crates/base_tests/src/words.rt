@@ -13,22 +13,59 @@ fn byte(value: u128) -> Bits
     Bits::truncate(8, value)
 }
 
+/// A width and a value, and whether they make a word.
+struct Candidate {
+    width: u32,
+    value: u128,
+    is_word: bool,
+}
+
+const CANDIDATES: [Candidate; 7] = [
+    Candidate {
+        width: 8,
+        value: 0xff,
+        is_word: true,
+    },
+    Candidate {
+        width: 8,
+        value: 256,
+        is_word: false,
+    },
+    Candidate {
+        width: 1,
+        value: 1,
+        is_word: true,
+    },
+    Candidate {
+        width: 1,
+        value: 2,
+        is_word: false,
+    },
+    Candidate {
+        width: 0,
+        value: 0,
+        is_word: false,
+    },
+    Candidate {
+        width: 128,
+        value: u128::MAX,
+        is_word: true,
+    },
+    Candidate {
+        width: 129,
+        value: 0,
+        is_word: false,
+    },
+];
+
 #[test]
 fn widths_and_values_that_are_words(rt: HostRuntime) {
-    for (width, value, is_word) in [
-        (8, 0xff, true),
-        (8, 256, false),
-        (1, 1, true),
-        (1, 2, false),
-        (0, 0, false),
-        (128, u128::MAX, true),
-        (129, 0, false),
-    ] {
-        let is_so = match Bits::new(width, value) {
-            Some(word) => is_word && word.width() == width && word.value() == value,
-            None => !is_word,
+    for row in &CANDIDATES {
+        let is_so = match Bits::new(row.width, row.value) {
+            Some(word) => row.is_word && word.width() == row.width && word.value() == row.value,
+            None => !row.is_word,
         };
-        assert!(rt; is_so, "{width} bits of {value}");
+        assert!(rt; is_so, "{} bits of {}", row.width, row.value);
     }
 }
 
@@ -217,16 +254,49 @@ fn operations_on_two_words(rt: HostRuntime) {
     assert_eq!(rt; first_other(&ROWS), None);
 }
 
+/// Two bytes, and how they are ordered without and with signs.
+struct Order {
+    a: u128,
+    b: u128,
+    unsigned: Ordering,
+    signed: Ordering,
+}
+
+const ORDERS: [Order; 4] = [
+    Order {
+        a: 0x7f,
+        b: 0x80,
+        unsigned: Ordering::Less,
+        signed: Ordering::Greater,
+    },
+    Order {
+        a: 0x80,
+        b: 0x7f,
+        unsigned: Ordering::Greater,
+        signed: Ordering::Less,
+    },
+    Order {
+        a: 0x80,
+        b: 0xff,
+        unsigned: Ordering::Less,
+        signed: Ordering::Less,
+    },
+    Order {
+        a: 0x5a,
+        b: 0x5a,
+        unsigned: Ordering::Equal,
+        signed: Ordering::Equal,
+    },
+];
+
 #[test]
 fn orders(rt: HostRuntime) {
-    for (a, b, unsigned, signed) in [
-        (0x7f, 0x80, Ordering::Less, Ordering::Greater),
-        (0x80, 0x7f, Ordering::Greater, Ordering::Less),
-        (0x80, 0xff, Ordering::Less, Ordering::Less),
-        (0x5a, 0x5a, Ordering::Equal, Ordering::Equal),
-    ] {
-        let (a, b) = (byte(a), byte(b));
-        assert_eq!(rt; (a.cmp(&b, false), a.cmp(&b, true)), (unsigned, signed));
+    for row in &ORDERS {
+        let (a, b) = (byte(row.a), byte(row.b));
+        assert_eq!(rt;
+            (a.cmp(&b, false), a.cmp(&b, true)),
+            (row.unsigned, row.signed)
+        );
     }
 }
 

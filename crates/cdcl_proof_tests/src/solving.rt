@@ -161,18 +161,47 @@ fn the_empty_clause_is_the_one_hint(rt: HostRuntime) -> Result<(), Fail> {
     Ok(())
 }
 
+/// One pigeon more than there are holes.
+struct Pigeons {
+    holes: u64,
+    budget: u64,
+    verdict: Verdict,
+}
+
+const PIGEONS: [Pigeons; 5] = [
+    Pigeons {
+        holes: 3,
+        budget: 1,
+        verdict: Spent,
+    },
+    Pigeons {
+        holes: 3,
+        budget: 1000000,
+        verdict: Refuted,
+    },
+    Pigeons {
+        holes: 6,
+        budget: 1,
+        verdict: Spent,
+    },
+    Pigeons {
+        holes: 6,
+        budget: 10,
+        verdict: Spent,
+    },
+    Pigeons {
+        holes: 6,
+        budget: 1000000,
+        verdict: Refuted,
+    },
+];
+
 #[test]
 fn pigeons_have_too_few_holes(rt: HostRuntime) -> Result<(), Fail> {
-    for (holes, budget, wanted) in [
-        (3, 1, Spent),
-        (3, 1000000, Refuted),
-        (6, 1, Spent),
-        (6, 10, Spent),
-        (6, 1000000, Refuted),
-    ] {
-        let cnf = pigeonhole(rt.alloc(), &rt, holes)?;
-        let found = verdict_on(rt.alloc(), &cnf, budget)?;
-        assert_eq!(rt; found, wanted, "{holes} at {budget}");
+    for row in &PIGEONS {
+        let cnf = pigeonhole(rt.alloc(), &rt, row.holes)?;
+        let found = verdict_on(rt.alloc(), &cnf, row.budget)?;
+        assert_eq!(rt; found, row.verdict, "{} at {}", row.holes, row.budget);
     }
     Ok(())
 }

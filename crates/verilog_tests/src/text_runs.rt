@@ -1,5 +1,6 @@
 //! Worked values of texts (IEEE 1364-2005, 5.1, 5.4, 5.5, 6.1, 9.2.2, 12.3), in hexadecimal.
 
+use crate::expressions::{Row, TESTS, VALUES};
 use bits_core::Bits;
 use std::alloc::{AllocGlobal, Global};
 use std::process::Abort;
@@ -36,105 +37,27 @@ fn only_word(stepped: Result<Stepped, Fault>) -> Option<(u32, u128)> {
     Some((word.width(), word.value()))
 }
 
-// An expression over bytes a, b and c, the highest bit of the output that it is assigned to, the bytes, the word.
-const VALUES: [(&str, u32, [u128; 3], u128); 49] = [
-    ("a + b", 7, [0xff, 0x02, 0], 0x01),
-    ("a + b", 8, [0xff, 0x02, 0], 0x101),
-    ("a + b", 3, [0xff, 0x02, 0], 0x1),
-    ("a - b", 7, [0x02, 0x07, 0], 0xfb),
-    ("a - b", 15, [0x02, 0x07, 0], 0xfffb),
-    ("a * b", 7, [0x11, 0x10, 0], 0x10),
-    ("a * b", 15, [0x11, 0x10, 0], 0x110),
-    ("a - b - c", 7, [0x09, 0x03, 0x02], 0x04),
-    ("a - (b - c)", 7, [0x09, 0x03, 0x02], 0x08),
-    ("a + b * c", 7, [0x01, 0x02, 0x03], 0x07),
-    ("(a + b) * c", 7, [0x01, 0x02, 0x03], 0x09),
-    ("a / 8'h3", 7, [0x0b, 0, 0], 0x03),
-    ("a % 8'h3", 7, [0x0b, 0, 0], 0x02),
-    ("a / 8'hFD", 7, [0x07, 0, 0], 0x00),
-    ("$signed(a) / 8'shFD", 7, [0x07, 0, 0], 0xfe),
-    ("$signed(a) / 8'shFF", 7, [0x80, 0, 0], 0x80),
-    ("$signed(a) % 8'sh3", 7, [0xf9, 0, 0], 0xff),
-    ("$signed(a) / 8'h3", 7, [0xf9, 0, 0], 0x53),
-    (
-        "$unsigned($signed(a) / 8'shFD) >> b",
-        7,
-        [0x07, 0x01, 0],
-        0x7f,
-    ),
-    ("$signed(a) / 8'shFD >> b", 7, [0x07, 0x01, 0], 0x7f),
-    (
-        "$unsigned($signed(a) >>> b) ^ c",
-        7,
-        [0x80, 0x01, 0x00],
-        0xc0,
-    ),
-    ("($signed(a) >>> b) ^ c", 7, [0x80, 0x01, 0x00], 0x40),
-    ("$signed(a) >>> b", 7, [0x80, 0x09, 0], 0xff),
-    ("a >>> b", 7, [0x80, 0x01, 0], 0x40),
-    ("a >> b", 7, [0x80, 0x08, 0], 0x00),
-    ("a << b", 7, [0x81, 0x01, 0], 0x02),
-    ("a << b", 8, [0x81, 0x01, 0], 0x102),
-    ("a << 128'hC8", 7, [0xff, 0, 0], 0x00),
-    ("a << b + c", 7, [0x01, 0x01, 0x02], 0x08),
-    ("$signed(a)", 15, [0x80, 0, 0], 0xff80),
-    ("a", 15, [0x80, 0, 0], 0x0080),
-    ("$signed(a) + $signed(b)", 15, [0x80, 0x01, 0], 0xff81),
-    ("$signed(a) + b", 15, [0x80, 0x01, 0], 0x0081),
-    ("8'shFF", 15, [0, 0, 0], 0xffff),
-    ("8'hFF", 15, [0, 0, 0], 0x00ff),
-    ("4'h1F", 7, [0, 0, 0], 0x0f),
-    ("{a, b}", 15, [0x12, 0x34, 0], 0x1234),
-    ("{a, b[3:0], c[7]}", 12, [0x12, 0x34, 0x80], 0x249),
-    ("{2{a}}", 15, [0x12, 0, 0], 0x1212),
-    ("{3{a[1:0], b[0]}}", 8, [0x02, 0x01, 0], 0x16d),
-    ("{a + b}", 8, [0xff, 0x01, 0], 0x000),
-    ("a[5:2]", 3, [0x34, 0, 0], 0xd),
-    ("a[7]", 0, [0x80, 0, 0], 0x1),
-    ("a[0] ? b : c", 7, [0x01, 0x12, 0x34], 0x12),
-    ("a ? b : c", 7, [0x00, 0x12, 0x34], 0x34),
-    ("a == b ? b : a[0] ? c : a", 7, [0x01, 0x02, 0x33], 0x33),
-    ("a == 8'h1 ?b:c", 7, [0x01, 0x12, 0x34], 0x12),
-    ("a & b | c", 7, [0x0c, 0x0a, 0x01], 0x09),
-    ("a ^ ^b", 7, [0xf0, 0x07, 0], 0xf1),
-];
-
-// Comparisons, and exclusive or of all bits.
-const TESTS: [(&str, u32, [u128; 3], u128); 17] = [
-    ("a < b", 0, [0x7f, 0x80, 0], 1),
-    ("a > b", 0, [0x7f, 0x80, 0], 0),
-    ("a <= b", 0, [0x80, 0x80, 0], 1),
-    ("a >= b", 0, [0x7f, 0x80, 0], 0),
-    ("$signed(a) < $signed(b)", 0, [0x7f, 0x80, 0], 0),
-    ("$signed(a) > $signed(b)", 0, [0x7f, 0x80, 0], 1),
-    ("$signed(a) <= $signed(b)", 0, [0x80, 0xff, 0], 1),
-    ("$signed(a) >= $signed(b)", 0, [0xff, 0x80, 0], 1),
-    ("$signed(a) < b", 0, [0xff, 0x01, 0], 0),
-    ("a == b", 0, [0x5a, 0x5a, 0], 1),
-    ("a != b", 0, [0x5a, 0x5a, 0], 0),
-    ("$signed(a) == 16'shFF80", 0, [0x80, 0, 0], 1),
-    ("a == 16'shFF80", 0, [0x80, 0, 0], 0),
-    ("a < b", 7, [0x01, 0x02, 0], 0x01),
-    ("a + b > 9'h100", 0, [0xff, 0x02, 0], 1),
-    ("^a", 0, [0x07, 0, 0], 1),
-    ("^(a + b)", 0, [0xff, 0x04, 0], 0),
-];
-
 // Checks the words of expressions.
-fn words_come(
-    rt: &(impl AllocGlobal + Abort),
-    rows: &[(&str, u32, [u128; 3], u128)],
-) -> Result<(), Fail> {
-    for (expression, high, words, word) in rows {
+fn words_come(rt: &(impl AllocGlobal + Abort), rows: &[Row]) -> Result<(), Fail> {
+    for row in rows {
+        let Row {
+            expression,
+            high,
+            ..
+        } = row;
         let text = format!(in rt.alloc();
             "module T(input wire [7:0] a, input wire [7:0] b, input wire [7:0] c, output wire [{high}:0] o);
 assign o = {expression}; endmodule"
         )?;
-        let [a, b, c] = *words;
+        let [a, b, c] = row.bytes;
         let inputs = [byte(a), byte(b), byte(c)];
         let stepped = step(rt.alloc(), text.as_bytes(), b"T", inputs.as_slice(), &[]);
         let width = high.wrapping_add(1);
-        assert_eq!(rt; only_word(stepped), Some((width, *word)), "of {expression}");
+        assert_eq!(rt;
+            only_word(stepped),
+            Some((width, row.word)),
+            "of {expression}"
+        );
     }
     Ok(())
 }
@@ -203,12 +126,45 @@ Reg u1(.clk(clk), .rst(rst), .en(en), .d(d), .q(u1_q));
 Reg u2(.clk(clk), .rst(rst), .en(en), .d(u1_q), .q(u2_q));
 assign a = u1_q; assign b = u2_q; endmodule";
 
-// Whether the clock rises, the reset, the enable and the data of a step, and its outputs.
-const STEPS: [([u128; 4], [u128; 2]); 4] = [
-    ([1, 0, 1, 0x11], [0x05, 0x06]),
-    ([1, 0, 0, 0x22], [0x11, 0x05]),
-    ([1, 1, 0, 0x33], [0x11, 0x05]),
-    ([0, 1, 1, 0x44], [0x09, 0x09]),
+/// A cycle of the two registers.
+struct Cycle {
+    /// Whether the clock rises.
+    rise: u128,
+    reset: u128,
+    enable: u128,
+    data: u128,
+    outputs: [u128; 2],
+}
+
+const CYCLES: [Cycle; 4] = [
+    Cycle {
+        rise: 1,
+        reset: 0,
+        enable: 1,
+        data: 0x11,
+        outputs: [0x05, 0x06],
+    },
+    Cycle {
+        rise: 1,
+        reset: 0,
+        enable: 0,
+        data: 0x22,
+        outputs: [0x11, 0x05],
+    },
+    Cycle {
+        rise: 1,
+        reset: 1,
+        enable: 0,
+        data: 0x33,
+        outputs: [0x11, 0x05],
+    },
+    Cycle {
+        rise: 0,
+        reset: 1,
+        enable: 1,
+        data: 0x44,
+        outputs: [0x09, 0x09],
+    },
 ];
 
 // Checks that these words are the numbers.
@@ -222,8 +178,13 @@ fn are(rt: &impl Abort, words: &[Bits], numbers: &[u128]) {
 // Checks the steps of a module with two registers.
 fn registers_step(rt: &(impl AllocGlobal + Abort), text: &str) -> Result<(), Fail> {
     let mut content = Vec::from_slice(rt.alloc(), &[byte(5), byte(6)])?;
-    for ([rise, reset, enable, number], outputs) in STEPS {
-        let inputs = [bit(rise), bit(reset), bit(enable), byte(number)];
+    for row in &CYCLES {
+        let inputs = [
+            bit(row.rise),
+            bit(row.reset),
+            bit(row.enable),
+            byte(row.data),
+        ];
         let stepped = step(
             rt.alloc(),
             text.as_bytes(),
@@ -235,7 +196,7 @@ fn registers_step(rt: &(impl AllocGlobal + Abort), text: &str) -> Result<(), Fai
             assert!(rt; false, "of {text}");
             return Ok(());
         };
-        are(rt, stepped.outputs.as_slice(), outputs.as_slice());
+        are(rt, stepped.outputs.as_slice(), row.outputs.as_slice());
         content = stepped.content;
     }
     are(rt, content.as_slice(), &[9, 9]);
