@@ -1,4 +1,4 @@
--- Each operation that is as its row asks splits by the rules for all operations.
+-- Each operation that is as its rule asks splits by the rules for all operations.
 use Rattle.std.proofs.Common.{◌≡◌, ℕ, suc, Bool, true, false, cond, ◌&&◌, List, [], ◌∷◌, length, map, flat_map, slice_get, Option, Some, None, refl, sym, ap, subst, ◌∙◌, inl, inr}
 use Rattle.wiring.specs.Wiring.{In}
 use Rattle.wiring.proofs.Members.{position_of_In}
@@ -8,18 +8,18 @@ use Rattle.hw_model.specs.Kinds.{Kind}
 use Rattle.hw_model.specs.Kinds.Reset.{sync_reset}
 use Rattle.hw_model.specs.Kinds.ArrayOp.{array_create, array_concat, array_get, array_slice, array_inject}
 use Rattle.hw_model.specs.Kinds.StructOp.{struct_create, struct_extract, struct_inject, struct_explode}
-use Rattle.hw_model.specs.Kinds.Kind.{variadic, sub, division, shift, icmp, parity, extract, concat, replicate, mux, constant, aggregate_constant, on_array, on_struct, bitcast, wire, instance, output, register, async_firreg}
+use Rattle.hw_model.specs.Kinds.Kind.{mux, aggregate_constant, on_array, on_struct, bitcast, wire, instance, output, register, async_firreg}
 use Rattle.hw_model.specs.Value.{nth_type}
 use Rattle.hw_model.specs.Design.{Ref, Port, Op, Module, Design, RegisterForm, find_module, takes_enable, register_form, result_type}
 use Rattle.hw_model.specs.Sound.{type_in, OpFits, Fits}
-use Rattle.hw_edits.specs.Edit.{is_anchor}
-use Rattle.hw_edits.specs.Follows.{Valid, Follows}
+use Rattle.edit_laws.specs.Edit.{is_anchor}
+use Rattle.edit_laws.specs.Follows.{Valid, Follows}
 use Rattle.aggregate_laws.specs.Leaves.{bare_port, leaf_ports, bare_kind, result_types}
-use Rattle.aggregate_laws.specs.Rules.{Row, parts_of, lowered_design, Splits}
-use Rattle.aggregate_laws.specs.Rows.{unnamed, join_row, mux_row, stays_row, register_row, register_stays_row}
-use Rattle.aggregate_laws.specs.Choices.{get_row, slice_row, array_inject_row}
-use Rattle.aggregate_laws.specs.Bitcasts.{bitcast_row}
-use Rattle.aggregate_laws.specs.Aggregates.{is_scalar, first_type, array_length, element_type, index_bits, own_names, register_by, row_of, aggregate_rules, IsPlain, IsRegular}
+use Rattle.aggregate_laws.specs.Rules.{Rule, parts_of, lowered_design, Splits}
+use Rattle.aggregate_laws.specs.OperationRules.{unnamed, join_rule, mux_rule, stays_rule, register_rule, register_stays_rule}
+use Rattle.aggregate_laws.specs.Choices.{get_rule, slice_rule, array_inject_rule}
+use Rattle.aggregate_laws.specs.Bitcasts.{bitcast_rule}
+use Rattle.aggregate_laws.specs.Aggregates.{is_scalar, first_type, array_length, element_type, index_bits, own_names, register_by, rule_of, aggregate_rules, IsPlain, IsRegular}
 use Rattle.aggregate_laws.proofs.Bare.{type_listed}
 use Rattle.aggregate_laws.proofs.Joins.{plain_kind, wire_splits, struct_create_splits, array_create_splits, array_concat_splits}
 use Rattle.aggregate_laws.proofs.Structs.{struct_extract_splits, struct_inject_splits, struct_explode_splits}
@@ -44,27 +44,27 @@ both_scalar true false is = cc
 both_scalar false b is = cc
 
 module _ (named : Op → Kind) (o : Op) (old_type : Ref → Option HwType) (stand : Ref → List Ref) (fits : OpFits old_type o) where
-  abbrev SplitsBy : Row → Type 0
-  SplitsBy row = Splits row old_type stand o
+  abbrev SplitsBy : Rule → Type 0
+  SplitsBy rule = Splits rule old_type stand o
 
   first_fits : (t : HwType) → result_types o ≡ t ∷ [] → Fits o.kind o.types (map old_type o.operands) t 0
   first_fits t one = fits 0 t (type_listed o 0 ∙ ap (λ ts. slice_get ts 0) one)
 
-  -- one row or another, by whether a type has no parts
-  by_scalar : (b : Bool) (left right : Row) → (b ≡ true → SplitsBy left) → SplitsBy right → SplitsBy (cond b left right)
+  -- one rule or another, by whether a type has no parts
+  by_scalar : (b : Bool) (left right : Rule) → (b ≡ true → SplitsBy left) → SplitsBy right → SplitsBy (cond b left right)
   by_scalar true left right yes_so otherwise = yes_so refl
   by_scalar false left right yes_so otherwise = otherwise
 
   stays : (t : HwType) (us : List HwType) → is_anchor o ≡ false → result_types o ≡ t ∷ [] → is_scalar t ≡ true → map old_type o.operands ≡ map (λ (u : HwType). Some u) us
-      → ((u : HwType) → In u us → is_scalar u ≡ true) → SplitsBy (stays_row o)
+      → ((u : HwType) → In u us → is_scalar u ≡ true) → SplitsBy (stays_rule o)
   stays t us plain one scalar given scalars = stays_splits o old_type stand t us plain one (scalar_leaves t scalar) given (λ u here. scalar_leaves u (scalars u here)) fits
 
-  plain_splits : is_anchor o ≡ false → IsPlain old_type o → SplitsBy (stays_row o)
+  plain_splits : is_anchor o ≡ false → IsPlain old_type o → SplitsBy (stays_rule o)
   plain_splits plain is = stays is.type is.operand_types plain is.one is.scalar is.operands is.scalars
 
-  mux_by : o.kind ≡ mux → (t : HwType) → result_types o ≡ t ∷ [] → SplitsBy (cond (is_scalar (first_type o)) (stays_row o) (mux_row o))
+  mux_by : o.kind ≡ mux → (t : HwType) → result_types o ≡ t ∷ [] → SplitsBy (cond (is_scalar (first_type o)) (stays_rule o) (mux_rule o))
   mux_by is t one =
-      by_scalar (is_scalar (first_type o)) (stays_row o) (mux_row o)
+      by_scalar (is_scalar (first_type o)) (stays_rule o) (mux_rule o)
       (λ scalar.
       let scalar_t : is_scalar t ≡ true = ap is_scalar (sym (first_is o t one)) ∙ scalar in
       stays t (int 1 ∷ t ∷ t ∷ []) (plain_kind o mux is refl) one scalar_t (subst (λ k. Fits k o.types (map old_type o.operands) t 0) is (first_fits t one)) (among scalar_t))
@@ -80,30 +80,30 @@ module _ (named : Op → Kind) (o : Op) (old_type : Ref → Option HwType) (stan
   only_among t scalar u (inl same) = ap is_scalar same ∙ scalar
   only_among t scalar u (inr never) = absurd never
 
-  wire_by : o.kind ≡ wire → (t : HwType) → result_types o ≡ t ∷ [] → SplitsBy (cond (is_scalar (first_type o)) (stays_row o) (join_row o (own_names o)))
+  wire_by : o.kind ≡ wire → (t : HwType) → result_types o ≡ t ∷ [] → SplitsBy (cond (is_scalar (first_type o)) (stays_rule o) (join_rule o (own_names o)))
   wire_by is t one =
-      by_scalar (is_scalar (first_type o)) (stays_row o) (join_row o (own_names o))
+      by_scalar (is_scalar (first_type o)) (stays_rule o) (join_rule o (own_names o))
       (λ scalar.
       let scalar_t : is_scalar t ≡ true = ap is_scalar (sym (first_is o t one)) ∙ scalar in
       stays t (t ∷ []) (plain_kind o wire is refl) one scalar_t (subst (λ k. Fits k o.types (map old_type o.operands) t 0) is (first_fits t one)) (only_among t scalar_t))
       (wire_splits o (own_names o) old_type stand t is one fits)
 
   bitcast_by : o.kind ≡ bitcast → (u t : HwType) → result_types o ≡ t ∷ [] → map old_type o.operands ≡ Some u ∷ [] → nth_type o.types 0 ≡ u → width u ≡ width t
-      → SplitsBy (cond (is_scalar (first_type o) && is_scalar (nth_type o.types 0)) (stays_row o) (bitcast_row o (nth_type o.types 0)))
+      → SplitsBy (cond (is_scalar (first_type o) && is_scalar (nth_type o.types 0)) (stays_rule o) (bitcast_rule o (nth_type o.types 0)))
   bitcast_by is u t one given written same =
-      by_scalar (is_scalar (first_type o) && is_scalar (nth_type o.types 0)) (stays_row o) (bitcast_row o (nth_type o.types 0))
+      by_scalar (is_scalar (first_type o) && is_scalar (nth_type o.types 0)) (stays_rule o) (bitcast_rule o (nth_type o.types 0))
       (λ scalar.
       let both = both_scalar (is_scalar (first_type o)) (is_scalar (nth_type o.types 0)) scalar in
       stays t (u ∷ []) (plain_kind o bitcast is refl) one (ap is_scalar (sym (first_is o t one)) ∙ both.0) given (only_among u (ap is_scalar (sym written) ∙ both.1)))
-      (subst (λ v. SplitsBy (bitcast_row o v)) (sym written) (bitcast_splits o old_type stand u t is one given same))
+      (subst (λ v. SplitsBy (bitcast_rule o v)) (sym written) (bitcast_splits o old_type stand u t is one given same))
 
   register_by_form : (form : RegisterForm) → register_form o.kind ≡ Some form → (t : HwType) → result_types o ≡ t ∷ [] → SplitsBy (register_by o form)
   register_by_form form is t one =
-      by_scalar (is_scalar (first_type o)) (register_stays_row o form) (register_row o form (own_names o))
+      by_scalar (is_scalar (first_type o)) (register_stays_rule o form) (register_rule o form (own_names o))
       (λ scalar. register_stays_splits o form old_type stand t is one (scalar_leaves t (ap is_scalar (sym (first_is o t one)) ∙ scalar)))
       (register_splits o form (own_names o) old_type stand is (no_more o t one))
 
-  pub regular_splits : (kind : Kind) → o.kind ≡ kind → IsRegular named old_type o kind → SplitsBy (row_of named o kind)
+  pub regular_splits : (kind : Kind) → o.kind ≡ kind → IsRegular named old_type o kind → SplitsBy (rule_of named o kind)
   regular_splits mux is (t, one) = mux_by is t one
   regular_splits wire is (t, one) = wire_by is t one
   regular_splits bitcast is (u, t, one, given, written, same) = bitcast_by is u t one given written same
@@ -111,15 +111,15 @@ module _ (named : Op → Kind) (o : Op) (old_type : Ref → Option HwType) (stan
   regular_splits (on_array array_create) is (t, one) = array_create_splits o unnamed old_type stand t is one fits
   regular_splits (on_array array_concat) is (t, one) = array_concat_splits o unnamed old_type stand t is one fits
   regular_splits (on_array array_get) is (n, w, t, one, given, written, index, enough) =
-      subst (λ u. SplitsBy (get_row o (array_length u) (width (nth_type o.types 1)))) (sym written)
-      (subst (λ u. SplitsBy (get_row o n (width u))) (sym index) (get_splits o n w old_type stand t is one given written enough))
+      subst (λ u. SplitsBy (get_rule o (array_length u) (width (nth_type o.types 1)))) (sym written)
+      (subst (λ u. SplitsBy (get_rule o n (width u))) (sym index) (get_splits o n w old_type stand t is one given written enough))
   regular_splits (on_array array_slice) is (n, k, e, one, given, written, enough) =
-      subst (λ u. SplitsBy (slice_row o (array_length u) (array_length (first_type o)) (length (leaves (element_type u))) (index_bits (array_length u)))) (sym written)
-      (subst (λ u. SplitsBy (slice_row o n (array_length u) (length (leaves e)) (index_bits n))) (sym (first_is o (array k e) one))
+      subst (λ u. SplitsBy (slice_rule o (array_length u) (array_length (first_type o)) (length (leaves (element_type u))) (index_bits (array_length u)))) (sym written)
+      (subst (λ u. SplitsBy (slice_rule o n (array_length u) (length (leaves e)) (index_bits n))) (sym (first_is o (array k e) one))
       (slice_splits o n k (index_bits n) old_type stand e (array k e) is one refl given written enough))
   regular_splits (on_array array_inject) is (n, w, e, one, given, written, index, enough) =
-      subst (λ u. SplitsBy (array_inject_row o (array_length u) (length (leaves (element_type u))) (width (nth_type o.types 1)))) (sym written)
-      (subst (λ u. SplitsBy (array_inject_row o n (length (leaves e)) (width u))) (sym index)
+      subst (λ u. SplitsBy (array_inject_rule o (array_length u) (length (leaves (element_type u))) (width (nth_type o.types 1)))) (sym written)
+      (subst (λ u. SplitsBy (array_inject_rule o n (length (leaves e)) (width u))) (sym index)
       (inject_splits o n w old_type stand e (array n e) is one refl given written enough))
   regular_splits (on_struct struct_create) is (t, one) = struct_create_splits o unnamed old_type stand t is one fits
   regular_splits (on_struct (struct_extract name)) is (t, one) = struct_extract_splits o name old_type stand t is one fits
@@ -129,16 +129,7 @@ module _ (named : Op → Kind) (o : Op) (old_type : Ref → Option HwType) (stan
   regular_splits output is same = spread_splits o output old_type stand (ap (λ k. is_anchor (record o { kind = k })) is) (ap register_form is) (ap bare_kind (sym is))
   regular_splits (register f r) is (t, one) = register_by_form (record { has_enable = takes_enable f; reset = r }) (ap register_form is) t one
   regular_splits async_firreg is (t, one) = register_by_form (record { has_enable = false; reset = sync_reset }) (ap register_form is) t one
-  regular_splits (variadic v) is plain = plain_splits (plain_kind o (variadic v) is refl) plain
-  regular_splits sub is plain = plain_splits (plain_kind o sub is refl) plain
-  regular_splits (division v) is plain = plain_splits (plain_kind o (division v) is refl) plain
-  regular_splits (shift v) is plain = plain_splits (plain_kind o (shift v) is refl) plain
-  regular_splits (icmp p) is plain = plain_splits (plain_kind o (icmp p) is refl) plain
-  regular_splits parity is plain = plain_splits (plain_kind o parity is refl) plain
-  regular_splits (extract low) is plain = plain_splits (plain_kind o (extract low) is refl) plain
-  regular_splits concat is plain = plain_splits (plain_kind o concat is refl) plain
-  regular_splits replicate is plain = plain_splits (plain_kind o replicate is refl) plain
-  regular_splits (constant z) is plain = plain_splits (plain_kind o (constant z) is refl) plain
+  regular_splits k is plain = plain_splits (plain_kind o k is refl) plain
 
 pub aggregates_follow : (split : List Port → List Port) (named : Op → Kind) (d : Design) → ((ps : List Port) → map bare_port (split ps) ≡ flat_map leaf_ports ps)
     → ((s : Name) (m : Module) → find_module d s ≡ Some m → (o : Op) → In o m.body → IsRegular named (type_in m.ports m.body) o o.kind)

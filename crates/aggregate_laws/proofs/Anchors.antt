@@ -10,8 +10,8 @@ use Rattle.hw_model.specs.Hierarchy.{callee_symbols, called_by}
 use Rattle.hw_model.proofs.Content.{body_state-append}
 use Rattle.hw_model.proofs.Sorts.{Sort, sort_of}
 use Rattle.hw_model.proofs.Sorts.Sort.{a_register, an_instance, an_output, a_made}
-use Rattle.hw_edits.specs.Edit.{anchors}
-use Rattle.hw_edits.proofs.Anchors.{instances-anchors, output_refs-anchors, body_state-anchors, before_instance-anchors, called-anchors}
+use Rattle.edit_laws.specs.Edit.{anchors}
+use Rattle.edit_laws.proofs.Anchors.{instances-anchors, output_refs-anchors, body_state-anchors, before_instance-anchors, called-anchors}
 use Rattle.aggregate_laws.specs.Leaves.{bare, bare_kind, bare_op, leaf_operands, leaf_registers, leaves_of, spread, lower_by_form, lower_anchor}
 use Rattle.aggregate_laws.proofs.Words.{widths, leaves_width}
 use Rattle.aggregate_laws.proofs.Bare.{called_bare, form_bare, output_bare, instance_bare, state_by_symbol, op_symbol_state, symbol_list, called_by_symbol, body_state_bare, instances_bare, output_refs_bare, before_bare, callee_symbols_bare}

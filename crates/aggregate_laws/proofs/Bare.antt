@@ -1,14 +1,14 @@
 -- Operations without names: what they are to their module is as before.
-use Rattle.std.proofs.Common.{◌≡◌, ℕ, zero, suc, pred, ◌+◌, Bool, true, false, cond, List, [], ◌∷◌, ◌++◌, map, take, drop, slice_get, Option, Some, None, is_some, refl, sym, ap, ap₂, ◌∙◌}
+use Rattle.std.proofs.Common.{◌≡◌, ℕ, zero, suc, pred, ◌+◌, Bool, true, false, cond, List, [], ◌∷◌, ◌++◌, map, take, drop, slice_get, Option, Some, None, is_some, refl, sym, ap, ap₂, ◌∙◌, option_and_then, option_map}
 use Rattle.std.proofs.lemmas.List.{map-append}
 use Rattle.std.proofs.lemmas.Option.{slice_get-map}
-use Rattle.wiring.specs.Options.{bind, omap}
 use Rattle.bits_core.specs.Word.{Word, first}
 use Rattle.hw_model.specs.Types.{Name, HwType, width}
 use Rattle.hw_model.specs.Kinds.{Kind, Instance}
 use Rattle.hw_model.specs.Kinds.Kind.{instance}
 use Rattle.hw_model.specs.Design.{Ref, Port, OpResult, Op, Design, RegisterForm, find_module, instance_in, register_form, is_instance, is_register, is_output_op, is_output_kind, result_type, output_refs, callee}
-use Rattle.hw_model.specs.Flat.{Path, Slot, instances, before_instance, if_zero, op_state, body_state, held_width, width_of, op_registers, body_registers, register_parts, register_in, has_async_reset, async_parts, async_reset_in, port_ref, operand_for, input_count, input_width, input_of, instance_state, instance_registers}
+use Rattle.hw_model.specs.Flat.{Path, Slot, instances, before_instance, if_zero, op_state, body_state, held_width, width_of, op_registers, body_registers, register_parts, register_in, has_async_reset}
+use Rattle.hw_model.specs.Flat.{async_parts, async_reset_in, port_ref, operand_for, input_count, input_width, input_of, instance_state, instance_registers}
 use Rattle.hw_model.specs.Meaning.{map_slots}
 use Rattle.hw_model.specs.Hierarchy.{callee_symbols, called_by}
 use Rattle.hw_model.specs.Sound.{input_types, output_types, input_type}
@@ -18,7 +18,7 @@ use Rattle.aggregate_laws.specs.Leaves.{bare_port, bare_kind, bare_result, bare,
 
 -- the symbol of the module that a kind instances
 abbrev pub called_symbol : Kind → Option Name
-called_symbol k = omap (λ (i : Instance). i.symbol) (instance_in k)
+called_symbol k = option_map (λ (i : Instance). i.symbol) (instance_in k)
 
 pub called_bare : (k : Kind) → called_symbol (bare_kind k) ≡ called_symbol k
 called_bare (instance i) = refl
@@ -39,7 +39,7 @@ async_bare k = refl
 pub instance_by_symbol : (k : Kind) → is_some (instance_in k) ≡ is_some (called_symbol k)
 instance_by_symbol k = go (instance_in k)
   where
-    go : (x : Option Instance) → is_some x ≡ is_some (omap (λ (i : Instance). i.symbol) x)
+    go : (x : Option Instance) → is_some x ≡ is_some (option_map (λ (i : Instance). i.symbol) x)
     go None = refl
     go (Some i) = refl
 
@@ -47,10 +47,10 @@ pub instance_bare : (k : Kind) → is_some (instance_in (bare_kind k)) ≡ is_so
 instance_bare k = instance_by_symbol (bare_kind k) ∙ ap is_some (called_bare k) ∙ sym (instance_by_symbol k)
 
 -- the module that an operation instances, by its symbol
-pub callee_by_symbol : (d : Design) (o : Op) → callee d o ≡ bind (called_symbol o.kind) (find_module d)
+pub callee_by_symbol : (d : Design) (o : Op) → callee d o ≡ option_and_then (find_module d) (called_symbol o.kind)
 callee_by_symbol d o = go (instance_in o.kind)
   where
-    go : (x : Option Instance) → bind x (λ (i : Instance). find_module d i.symbol) ≡ bind (omap (λ (i : Instance). i.symbol) x) (find_module d)
+    go : (x : Option Instance) → option_and_then (λ (i : Instance). find_module d i.symbol) x ≡ option_and_then (find_module d) (option_map (λ (i : Instance). i.symbol) x)
     go None = refl
     go (Some i) = refl
 
@@ -59,7 +59,7 @@ abbrev pub op_symbol_state : (Name → ℕ) → Option Name → ℕ
 op_symbol_state inner None = 0
 op_symbol_state inner (Some s) = inner s
 
-pub state_by_symbol : (inner : Name → ℕ) (x : Option Instance) → instance_state inner x ≡ op_symbol_state inner (omap (λ (i : Instance). i.symbol) x)
+pub state_by_symbol : (inner : Name → ℕ) (x : Option Instance) → instance_state inner x ≡ op_symbol_state inner (option_map (λ (i : Instance). i.symbol) x)
 state_by_symbol inner None = refl
 state_by_symbol inner (Some i) = refl
 
@@ -68,7 +68,7 @@ symbol_registers inner p u None = []
 symbol_registers inner p u (Some s) = inner (u ∷ p) s
 
 pub registers_by_symbol : (inner : Path → Name → List Slot) (p : Path) (u : ℕ) (x : Option Instance)
-    → instance_registers inner p u x ≡ symbol_registers inner p u (omap (λ (i : Instance). i.symbol) x)
+    → instance_registers inner p u x ≡ symbol_registers inner p u (option_map (λ (i : Instance). i.symbol) x)
 registers_by_symbol inner p u None = refl
 registers_by_symbol inner p u (Some i) = refl
 
@@ -76,7 +76,7 @@ abbrev pub symbol_list : Option Name → List Name
 symbol_list None = []
 symbol_list (Some s) = s ∷ []
 
-pub called_by_symbol : (x : Option Instance) → called_by x ≡ symbol_list (omap (λ (i : Instance). i.symbol) x)
+pub called_by_symbol : (x : Option Instance) → called_by x ≡ symbol_list (option_map (λ (i : Instance). i.symbol) x)
 called_by_symbol None = refl
 called_by_symbol (Some i) = refl
 
@@ -106,7 +106,7 @@ pub is_output_bare : (o : Op) → is_output_op (bare_op o) ≡ is_output_op o
 is_output_bare o = output_bare o.kind
 
 pub register_in_bare : (o : Op) → register_in (bare_op o) ≡ register_in o
-register_in_bare o = ap (λ x. bind x (λ (f : RegisterForm). register_parts f.has_enable f.reset o.operands)) (form_bare o.kind)
+register_in_bare o = ap (λ x. option_and_then (λ (f : RegisterForm). register_parts f.has_enable f.reset o.operands) x) (form_bare o.kind)
 
 pub async_reset_bare : (o : Op) → async_reset_in (bare_op o) ≡ async_reset_in o
 async_reset_bare o = ap (λ b. cond b (async_parts o.operands) None) (async_bare o.kind)
@@ -225,7 +225,7 @@ pub port_ref_bare : (ps : List Port) (rs : List Ref) (j : ℕ) → port_ref (map
 port_ref_bare ps rs j =
     ap₂ (λ x k. operand_for x rs k) (slice_get-map bare_port ps j) (input_count_bare ps j) ∙ go (slice_get ps j)
   where
-    go : (x : Option Port) → operand_for (omap bare_port x) rs (input_count (take j ps)) ≡ operand_for x rs (input_count (take j ps))
+    go : (x : Option Port) → operand_for (option_map bare_port x) rs (input_count (take j ps)) ≡ operand_for x rs (input_count (take j ps))
     go None = refl
     go (Some q) = refl
 
@@ -234,13 +234,13 @@ pub input_bare : (ps : List Port) (j : ℕ)
     → input_of (slice_get (map bare_port ps) j) (input_width (take j (map bare_port ps))) ≡ input_of (slice_get ps j) (input_width (take j ps))
 input_bare ps j = ap₂ input_of (slice_get-map bare_port ps j) (input_width_bare ps j) ∙ go (slice_get ps j)
   where
-    go : (x : Option Port) → input_of (omap bare_port x) (input_width (take j ps)) ≡ input_of x (input_width (take j ps))
+    go : (x : Option Port) → input_of (option_map bare_port x) (input_width (take j ps)) ≡ input_of x (input_width (take j ps))
     go None = refl
     go (Some q) = refl
 
 pub input_type_bare : (ps : List Port) (j : ℕ) → input_type (slice_get (map bare_port ps) j) ≡ input_type (slice_get ps j)
 input_type_bare ps j = ap input_type (slice_get-map bare_port ps j) ∙ go (slice_get ps j)
   where
-    go : (x : Option Port) → input_type (omap bare_port x) ≡ input_type x
+    go : (x : Option Port) → input_type (option_map bare_port x) ≡ input_type x
     go None = refl
     go (Some q) = refl

@@ -1,7 +1,7 @@
 -- The same bits as leaves of another type: extracts of the leaves that each overlaps, joined.
-use Rattle.std.proofs.Common.{◌≡◌, ℕ, zero, suc, ◌+◌, ◌-◌, ◌<◌, ◌≤◌, min, Bool, true, false, cond, List, [], ◌∷◌, ◌++◌, length, map, take, drop, slice_get, Option, Some, refl, sym, ap, ap₂, subst, ◌∙◌, inl, inr, arith, zero-add, add-zero, append-nil, length-append, take-append-drop, length-drop}
+use Rattle.std.proofs.Common.{◌≡◌, ℕ, zero, suc, ◌+◌, ◌-◌, ◌<◌, ◌≤◌, min, Bool, true, false, cond, List, [], ◌∷◌, ◌++◌, length, map, take, drop, slice_get, Option, Some, refl, sym, ap, ap₂, subst}
+use Rattle.std.proofs.Common.{◌∙◌, inl, inr, arith, zero-add, add-zero, append-nil, length-append, take-append-drop, length-drop, option_and_then}
 use Rattle.wiring.specs.Lists.{total}
-use Rattle.wiring.specs.Options.{bind}
 use Rattle.wiring.specs.Wiring.{In}
 use Rattle.wiring.proofs.Lists.{slice_get-append_left, slice_get-append_right, drop_some}
 use Rattle.wiring.proofs.Members.{position_of_In}
@@ -14,20 +14,20 @@ use Rattle.hw_model.specs.Value.{concat_words, op_value}
 use Rattle.hw_model.specs.Design.{Ref, Op, result_type}
 use Rattle.hw_model.specs.Design.Ref.{result}
 use Rattle.hw_model.specs.Sound.{HasWidth, OpFits}
-use Rattle.hw_edits.specs.Edit.{is_anchor, result_word}
+use Rattle.edit_laws.specs.Edit.{is_anchor, result_word}
 use Rattle.aggregate_laws.specs.Leaves.{in_row, part, or_undefined, result_types, result_start}
 use Rattle.aggregate_laws.specs.Lowered.{whole}
 use Rattle.aggregate_laws.specs.Rules.{Splits, SplitsShape, StandsBefore, leaf_ref}
-use Rattle.aggregate_laws.specs.Rows.{made_op, all_leaves, argument}
-use Rattle.aggregate_laws.specs.Bitcasts.{Piece, with_piece, pieces, piece_type, extracts, joined_pieces, joined_end, leaf_pieces, piece_count, piece_end, bitcast_row}
+use Rattle.aggregate_laws.specs.OperationRules.{made_op, all_leaves, argument}
+use Rattle.aggregate_laws.specs.Bitcasts.{Piece, with_piece, pieces, piece_type, extracts, joined_pieces, joined_end, leaf_pieces, piece_count, piece_end, bitcast_rule}
 use Rattle.aggregate_laws.proofs.Lists.{map-in_row, from_In-in_row}
-use Rattle.aggregate_laws.proofs.Words.{widths, widths-append, leaves_width, joined_row}
+use Rattle.aggregate_laws.proofs.Words.{widths, widths-append, leaves_width, joined_rule}
 use Rattle.aggregate_laws.proofs.Bare.{type_listed}
 use Rattle.aggregate_laws.proofs.Registers.{single, joined_width}
 use Rattle.aggregate_laws.proofs.Bodies.{plain_not_one, plain_no_register}
 use Rattle.aggregate_laws.proofs.Leafwise.{made_fits, leaf_among}
 use Rattle.aggregate_laws.proofs.Joins.{plain_kind}
-use Rattle.aggregate_laws.proofs.Muxes.{part_there, one_row, all_of_one}
+use Rattle.aggregate_laws.proofs.Muxes.{part_there, one_rule, all_of_one}
 use Rattle.aggregate_laws.proofs.Gets.{EachOp, each_at, each_append, each_from, each_left, each_right, HoldsFrom, PlainOp, OwnType, GoodOp}
 
 -- ---- sizes
@@ -79,23 +79,23 @@ many_last : (o : Op) (rs : List Ref) (ps : List Piece) (x : Op) → slice_get (e
 many_last o rs ps x =
     ap (slice_get (extracts o rs ps ++ (x ∷ []))) (sym (add-zero (length (extracts o rs ps)) ∙ extracts_length o rs ps)) ∙ slice_get-append_right (extracts o rs ps) (x ∷ []) 0
 
-joined_last : (o : Op) (rs : List Ref) (t : HwType) (start : ℕ) (ps : List Piece) → bind (slice_get (joined_pieces o rs t start ps) (joined_end ps)) (λ (x : Op). result_type x 0) ≡ Some t
+joined_last : (o : Op) (rs : List Ref) (t : HwType) (start : ℕ) (ps : List Piece) → option_and_then (λ (x : Op). result_type x 0) (slice_get (joined_pieces o rs t start ps) (joined_end ps)) ≡ Some t
 joined_last o rs t start [] = refl
 joined_last o rs t start (p ∷ []) = refl
-joined_last o rs t start (p ∷ q ∷ ps) = ap (λ y. bind y (λ (x : Op). result_type x 0)) (many_last o rs (p ∷ q ∷ ps) _)
+joined_last o rs t start (p ∷ q ∷ ps) = ap (λ y. option_and_then (λ (x : Op). result_type x 0) y) (many_last o rs (p ∷ q ∷ ps) _)
 
 leaf_last : (o : Op) (rs : List Ref) (us : List HwType) (skip start : ℕ) (ts : List HwType) (i : ℕ) (u : HwType) → slice_get ts i ≡ Some u
-    → bind (slice_get (leaf_pieces o rs us skip start ts) (piece_end us skip ts i)) (λ (x : Op). result_type x 0) ≡ Some u
+    → option_and_then (λ (x : Op). result_type x 0) (slice_get (leaf_pieces o rs us skip start ts) (piece_end us skip ts i)) ≡ Some u
 leaf_last o rs us skip start [] i u is = cc
 leaf_last o rs us skip start (t ∷ ts) zero u is =
     let same : t ≡ u = cc in
     let there : joined_end (pieces 0 us skip (width t)) < length (joined_pieces o rs t start (pieces 0 us skip (width t))) = omega (arith, joined_length o rs t start (pieces 0 us skip (width t))) in
-    ap (λ y. bind y (λ (x : Op). result_type x 0))
+    ap (λ y. option_and_then (λ (x : Op). result_type x 0) y)
     (slice_get-append_left (joined_pieces o rs t start (pieces 0 us skip (width t))) (leaf_pieces o rs us (skip + width t) (start + suc (joined_end (pieces 0 us skip (width t)))) ts) (joined_end (pieces 0 us skip (width t))) there)
     ∙ joined_last o rs t start (pieces 0 us skip (width t)) ∙ ap Some same
 leaf_last o rs us skip start (t ∷ ts) (suc i) u is =
-    ap (λ m. bind (slice_get (leaf_pieces o rs us skip start (t ∷ ts)) (m + piece_end us (skip + width t) ts i)) (λ (x : Op). result_type x 0)) (sym (joined_length o rs t start (pieces 0 us skip (width t))))
-    ∙ ap (λ y. bind y (λ (x : Op). result_type x 0))
+    ap (λ m. option_and_then (λ (x : Op). result_type x 0) (slice_get (leaf_pieces o rs us skip start (t ∷ ts)) (m + piece_end us (skip + width t) ts i))) (sym (joined_length o rs t start (pieces 0 us skip (width t))))
+    ∙ ap (λ y. option_and_then (λ (x : Op). result_type x 0) y)
     (slice_get-append_right (joined_pieces o rs t start (pieces 0 us skip (width t))) (leaf_pieces o rs us (skip + width t) (start + suc (joined_end (pieces 0 us skip (width t)))) ts) (piece_end us (skip + width t) ts i))
     ∙ leaf_last o rs us (skip + width t) (start + suc (joined_end (pieces 0 us skip (width t)))) ts i u is
 
@@ -243,7 +243,8 @@ module _ (type_of : Ref → Option HwType) (τ : Ref → Word) (wide : (r : Ref)
       ∙ pieces_words 0 rs us skip (width t) typed (λ k r at_k. ap (part rs) (zero-add k) ∙ ap or_undefined at_k)
       ∙ ap₂ (λ a b. take (width a) (drop b (concat_words (map τ rs)))) same (sym (add-zero skip))
   leaf_hold o us skip start (t ∷ ts) within typed holds (suc i) u is =
-      ap (λ n. τ (result n 0)) (let e : start + (suc (joined_end (pieces 0 us skip (width t))) + piece_end us (skip + width t) ts i) ≡ start + suc (joined_end (pieces 0 us skip (width t))) + piece_end us (skip + width t) ts i = omega arith in e)
+      ap (λ n. τ (result n 0)) (let e : start + (suc (joined_end (pieces 0 us skip (width t))) + piece_end us (skip + width t) ts i)
+      ≡ start + suc (joined_end (pieces 0 us skip (width t))) + piece_end us (skip + width t) ts i = omega arith in e)
       ∙ leaf_hold o us (skip + width t) (start + suc (joined_end (pieces 0 us skip (width t)))) ts (omega arith) typed
       (subst (λ m. HoldsFrom τ m (leaf_pieces o rs us (skip + width t) (start + suc (joined_end (pieces 0 us skip (width t)))) ts)) (ap (λ n. start + n) (joined_length o rs t start (pieces 0 us skip (width t))))
       (each_right (λ m x. (v : HwType) → result_type x 0 ≡ Some v → τ (result m 0) ≡ result_word τ x 0 (Some v)) start (joined_pieces o rs t start (pieces 0 us skip (width t)))
@@ -324,7 +325,8 @@ module _ (new_type : Ref → Option HwType) (stand : Ref → List Ref) (start : 
       (each_left (OwnType new_type stand start operands) m (joined_pieces o (stand y) t begin (pieces 0 us skip (width t)))
       (leaf_pieces o (stand y) us (skip + width t) (begin + suc (joined_end (pieces 0 us skip (width t)))) ts) own))
       (leaf_good o (skip + width t) (m + length (joined_pieces o (stand y) t begin (pieces 0 us skip (width t)))) (begin + suc (joined_end (pieces 0 us skip (width t)))) ts (omega arith)
-      (let e : begin + suc (joined_end (pieces 0 us skip (width t))) ≡ start + (m + length (joined_pieces o (stand y) t begin (pieces 0 us skip (width t)))) = omega (arith, joined_length o (stand y) t begin (pieces 0 us skip (width t))) in e)
+      (let e : begin + suc (joined_end (pieces 0 us skip (width t))) ≡ start + (m + length (joined_pieces o (stand y) t begin (pieces 0 us skip (width t)))) = omega
+      (arith, joined_length o (stand y) t begin (pieces 0 us skip (width t))) in e)
       (each_right (OwnType new_type stand start operands) m (joined_pieces o (stand y) t begin (pieces 0 us skip (width t)))
       (leaf_pieces o (stand y) us (skip + width t) (begin + suc (joined_end (pieces 0 us skip (width t)))) ts) own))
 
@@ -350,7 +352,7 @@ module _ (o : Op) (old_type : Ref → Option HwType) (stand : Ref → List Ref) 
       let old : widths (leaves u) ≡ width u = leaves_width u in
       omega arith
 
-  cast_shape : SplitsShape (bitcast_row o u) stand o
+  cast_shape : SplitsShape (bitcast_rule o u) stand o
   unfolding PlainOp
   cast_shape = record {
     size = λ start. leaf_pieces_length o (argument 0 (map stand o.operands)) (leaves u) 0 start (all_leaves o);
@@ -367,21 +369,21 @@ module _ (o : Op) (old_type : Ref → Option HwType) (stand : Ref → List Ref) 
 
   cast_words : (new_type : Ref → Option HwType) (start : ℕ) → map new_type (stand operand.0) ≡ map (λ (v : HwType). Some v) (leaves u)
       → (τ : Ref → Word) → ((r : Ref) → HasWidth (new_type r) (τ r)) → HoldsFrom τ start (leaf_pieces o (stand operand.0) (leaves u) 0 start (all_leaves o))
-      → result_word (whole stand τ) o 0 (Some t) ≡ concat_words (map τ (in_row (leaf_ref (bitcast_row o u) start o) 0 (length (leaves t))))
+      → result_word (whole stand τ) o 0 (Some t) ≡ concat_words (map τ (in_row (leaf_ref (bitcast_rule o u) start o) 0 (length (leaves t))))
   cast_words new_type start typed τ wide holds =
       ap₂ (λ k rs. op_value k o.types t 0 (map (whole stand τ) rs)) is operand.1
       ∙ sym (first_all (width t) (whole stand τ operand.0) (word_size ∙ same_width))
       ∙ ap (λ n. first n (whole stand τ operand.0)) (sym (leaves_width t))
-      ∙ sym (joined_row (leaves t) (whole stand τ operand.0) (λ l. τ (leaf_ref (bitcast_row o u) start o l)) 0 leaf_is)
-      ∙ ap concat_words (sym (map-in_row τ (leaf_ref (bitcast_row o u) start o) 0 (length (leaves t))))
+      ∙ sym (joined_rule (leaves t) (whole stand τ operand.0) (λ l. τ (leaf_ref (bitcast_rule o u) start o l)) 0 leaf_is)
+      ∙ ap concat_words (sym (map-in_row τ (leaf_ref (bitcast_rule o u) start o) 0 (length (leaves t))))
     where
       word_size : length (whole stand τ operand.0) ≡ width u
       word_size = joined_width new_type τ wide (stand operand.0) (leaves u) typed ∙ leaves_width u
 
       leaf_is : (i : ℕ) (v : HwType) → slice_get (leaves t) i ≡ Some v
-          → τ (leaf_ref (bitcast_row o u) start o (0 + i)) ≡ first (width v) (drop (widths (take i (leaves t))) (whole stand τ operand.0))
+          → τ (leaf_ref (bitcast_rule o u) start o (0 + i)) ≡ first (width v) (drop (widths (take i (leaves t))) (whole stand τ operand.0))
       leaf_is i v at_v =
-          ap (λ n. τ (leaf_ref (bitcast_row o u) start o n)) (zero-add i)
+          ap (λ n. τ (leaf_ref (bitcast_rule o u) start o n)) (zero-add i)
           ∙ ap (λ b. τ (cond b (result start i) (result (start + piece_end (leaves u) 0 (all_leaves o) i) 0))) (plain_not_one o cast_plain)
           ∙ leaf_hold new_type τ wide (stand operand.0) o (leaves u) 0 start (all_leaves o) all_within typed holds i v (ap (λ ts. slice_get ts i) (all_of_one o t one) ∙ at_v)
           ∙ ap (λ n. take (width v) (drop n (concat_words (map τ (stand operand.0))))) (zero-add (widths (take i (all_leaves o))) ∙ ap (λ ts. widths (take i ts)) (all_of_one o t one))
@@ -395,7 +397,7 @@ module _ (o : Op) (old_type : Ref → Option HwType) (stand : Ref → List Ref) 
               let size : length (whole stand τ operand.0) ≡ width u = word_size in
               omega (arith, length-drop (widths (take i (leaves t))) (whole stand τ operand.0))
 
-  pub bitcast_splits : Splits (bitcast_row o u) old_type stand o
+  pub bitcast_splits : Splits (bitcast_rule o u) old_type stand o
   unfolding OwnType GoodOp
   bitcast_splits = record {
     shape = cast_shape;
@@ -409,7 +411,7 @@ module _ (o : Op) (old_type : Ref → Option HwType) (stand : Ref → List Ref) 
           fits = λ i x at_i. (good_at new_type start good i x at_i).0;
           operands = λ i x r at_i here. (good_at new_type start good i x at_i).1 r here;
           words = λ τ wide holds.
-              one_row o t (λ k v. result_word (whole stand τ) o k (Some v) ≡ concat_words (map τ (in_row (leaf_ref (bitcast_row o u) start o) (result_start o k) (length (leaves v))))) one
+              one_rule o t (λ k v. result_word (whole stand τ) o k (Some v) ≡ concat_words (map τ (in_row (leaf_ref (bitcast_rule o u) start o) (result_start o k) (length (leaves v))))) one
               (cast_words new_type start (stands.typed operand.0 u operand_type) τ wide
               (subst (λ rs. HoldsFrom τ start (leaf_pieces o rs (leaves u) 0 start (all_leaves o))) arguments
               (each_from (λ m x. (v : HwType) → result_type x 0 ≡ Some v → τ (result m 0) ≡ result_word τ x 0 (Some v)) start (leaf_pieces o (argument 0 (map stand o.operands)) (leaves u) 0 start (all_leaves o))

@@ -1,5 +1,6 @@
 -- Blocks of operations, one for each operation of a body: what stands where, and the registers, instances and outputs.
-use Rattle.std.proofs.Common.{◌≡◌, ◌⊎◌, ℕ, zero, suc, ◌+◌, ◌-◌, ◌<◌, ◌≤◌, Bool, true, false, cond, List, [], ◌∷◌, ◌++◌, length, map, take, drop, flat_map, slice_get, Option, Some, is_some, refl, sym, ap, ap₂, subst, ◌∙◌, inl, inr, arith, zero-add, add-zero, append_assoc, length-append}
+use Rattle.std.proofs.Common.{◌≡◌, ◌⊎◌, ℕ, zero, suc, ◌+◌, ◌-◌, ◌<◌, ◌≤◌, Bool, true, false, cond, List, [], ◌∷◌, ◌++◌, length, map, take, drop, flat_map, slice_get, Option, Some, is_some, refl, sym}
+use Rattle.std.proofs.Common.{ap, ap₂, subst, ◌∙◌, inl, inr, arith, zero-add, add-zero, append_assoc, length-append}
 use Rattle.std.proofs.lemmas.List.{map-append, take-append-le}
 use Rattle.std.proofs.lemmas.List.Elements.{filter-append}
 use Rattle.wiring.specs.Lists.{total}
@@ -8,8 +9,8 @@ use Rattle.wiring.proofs.Lists.{slice_get-append_left, slice_get-append_right, t
 use Rattle.wiring.proofs.Members.{In-slice_get, In-map, from_In-take, position_of_In}
 use Rattle.hw_model.specs.Design.{Ref, Op, RegisterForm, is_register, is_instance, is_output_op, result_type}
 use Rattle.hw_model.specs.Types.{HwType}
-use Rattle.hw_edits.specs.Edit.{is_anchor, anchors}
-use Rattle.hw_edits.proofs.Positions.{take_map}
+use Rattle.edit_laws.specs.Edit.{is_anchor, anchors}
+use Rattle.edit_laws.proofs.Positions.{take_map}
 use Rattle.aggregate_laws.specs.Leaves.{bare, bare_kind, bare_op, leaf_operands, leaf_registers, leaves_of, spread, lower_anchor}
 use Rattle.aggregate_laws.specs.Rules.{Rules, begin, leaf_ref, leaf_refs, block, blocks, count_by, SplitsShape}
 use Rattle.aggregate_laws.proofs.Bare.{form_bare, is_instance_bare, is_register_bare, is_output_bare, instance_bare, output_bare}
@@ -18,16 +19,16 @@ use Rattle.aggregate_laws.proofs.Anchors.{by_form, from_leaf_register}
 -- ---- by rules
 
 abbrev pub block_by : Rules → (Ref → List Ref) → ℕ → Op → List Op
-block_by rules parts start o = block (rules.row o) parts start o
+block_by rules parts start o = block (rules.rule o) parts start o
 
 abbrev pub place_by : Rules → Op → ℕ → ℕ
-place_by rules o = (rules.row o).place
+place_by rules o = (rules.rule o).place
 
 abbrev pub leaf_by : Rules → ℕ → Op → ℕ → Ref
-leaf_by rules start o = leaf_ref (rules.row o) start o
+leaf_by rules start o = leaf_ref (rules.rule o) start o
 
 abbrev pub leaves_by : Rules → ℕ → Op → ℕ → Option HwType → List Ref
-leaves_by rules start o = leaf_refs (rules.row o) start o
+leaves_by rules start o = leaf_refs (rules.rule o) start o
 
 -- ---- anchors
 
@@ -66,12 +67,12 @@ anchors_none (o ∷ os) none = ap₂ (λ b xs. cond b (o ∷ xs) xs) (none o (in
 
 module _ (rules : Rules) (parts : Ref → List Ref) where
   -- the block of a register, an instance or an output has these alone
-  pub block_anchors : (o : Op) → SplitsShape (rules.row o) parts o → is_anchor o ≡ true → (start : ℕ) (x : Op) → In x (block_by rules parts start o) → is_anchor x ≡ true
+  pub block_anchors : (o : Op) → SplitsShape (rules.rule o) parts o → is_anchor o ≡ true → (start : ℕ) (x : Op) → In x (block_by rules parts start o) → is_anchor x ≡ true
   block_anchors o shape is start x here =
       sym (is_anchor_bare x)
       ∙ lowered_anchors parts o is (bare_op x) (subst (In (bare_op x)) (shape.anchor is start) (In-map bare_op x (block_by rules parts start o) here))
 
-  own_anchors : (o : Op) → SplitsShape (rules.row o) parts o → (start : ℕ) → map bare_op (anchors (block_by rules parts start o)) ≡ cond (is_anchor o) (lower_anchor parts o) []
+  own_anchors : (o : Op) → SplitsShape (rules.rule o) parts o → (start : ℕ) → map bare_op (anchors (block_by rules parts start o)) ≡ cond (is_anchor o) (lower_anchor parts o) []
   own_anchors o shape start = go (is_anchor o) refl
     where
       go : (b : Bool) → is_anchor o ≡ b → map bare_op (anchors (block_by rules parts start o)) ≡ cond b (lower_anchor parts o) []
@@ -83,18 +84,18 @@ module _ (rules : Rules) (parts : Ref → List Ref) where
   pub begin_past : (o : Op) (os : List Op) (j start : ℕ) → (start + count_by rules o) + begin rules os j ≡ start + begin rules (o ∷ os) (suc j)
   begin_past o os j start = omega arith
 
-  module _ (os : List Op) (shapes : (o : Op) → In o os → SplitsShape (rules.row o) parts o) where
+  module _ (os : List Op) (shapes : (o : Op) → In o os → SplitsShape (rules.rule o) parts o) where
     pub length_blocks : (start : ℕ) → length (blocks rules parts start os) ≡ total (map (count_by rules) os)
     length_blocks start = go os shapes start
       where
-        go : (os : List Op) → ((o : Op) → In o os → SplitsShape (rules.row o) parts o) → (start : ℕ) → length (blocks rules parts start os) ≡ total (map (count_by rules) os)
+        go : (os : List Op) → ((o : Op) → In o os → SplitsShape (rules.rule o) parts o) → (start : ℕ) → length (blocks rules parts start os) ≡ total (map (count_by rules) os)
         go [] shapes start = refl
         go (o ∷ os) shapes start =
             length-append (block_by rules parts start o) (blocks rules parts (start + count_by rules o) os)
             ∙ ap₂ (λ a b. a + b) ((shapes o (inl refl)).size start) (go os (λ x here. shapes x (inr here)) (start + count_by rules o))
 
-  length_front : (os : List Op) (shapes : (o : Op) → In o os → SplitsShape (rules.row o) parts o) (j start : ℕ) → length (blocks rules parts start (take j os)) ≡ begin rules os j
-  length_front os shapes j start = length_blocks (take j os) (λ o here. shapes o (from_In-take o j os here)) start
+  length_prefix : (os : List Op) (shapes : (o : Op) → In o os → SplitsShape (rules.rule o) parts o) (j start : ℕ) → length (blocks rules parts start (take j os)) ≡ begin rules os j
+  length_prefix os shapes j start = length_blocks (take j os) (λ o here. shapes o (from_In-take o j os here)) start
 
   -- the blocks before a position, its own, and those after it
   pub blocks_split : (os : List Op) (j start : ℕ) (o : Op) → slice_get os j ≡ Some o
@@ -110,25 +111,25 @@ module _ (rules : Rules) (parts : Ref → List Ref) where
       ∙ ap (λ n. block_by rules parts start x ++ (blocks rules parts (start + count_by rules x) (take j os) ++ (block_by rules parts n o ++ blocks rules parts (n + count_by rules o) (drop (suc j) os)))) (begin_past x os j start)
       ∙ sym (append_assoc (block_by rules parts start x) (blocks rules parts (start + count_by rules x) (take j os)) _)
 
-  pub blocks_at : (os : List Op) → ((o : Op) → In o os → SplitsShape (rules.row o) parts o) → (j : ℕ) (o : Op) → slice_get os j ≡ Some o → (i start : ℕ) → i < count_by rules o
+  pub blocks_at : (os : List Op) → ((o : Op) → In o os → SplitsShape (rules.rule o) parts o) → (j : ℕ) (o : Op) → slice_get os j ≡ Some o → (i start : ℕ) → i < count_by rules o
       → slice_get (blocks rules parts start os) (begin rules os j + i) ≡ slice_get (block_by rules parts (start + begin rules os j) o) i
   blocks_at os shapes j o is i start below =
       let size : length (block_by rules parts (start + begin rules os j) o) ≡ count_by rules o = (shapes o (In-slice_get o os j is)).size (start + begin rules os j) in
-      ap₂ (λ xs n. slice_get xs (n + i)) (blocks_split os j start o is) (sym (length_front os shapes j start))
+      ap₂ (λ xs n. slice_get xs (n + i)) (blocks_split os j start o is) (sym (length_prefix os shapes j start))
       ∙ slice_get-append_right (blocks rules parts start (take j os)) (block_by rules parts (start + begin rules os j) o ++ blocks rules parts ((start + begin rules os j) + count_by rules o) (drop (suc j) os)) i
       ∙ slice_get-append_left (block_by rules parts (start + begin rules os j) o) (blocks rules parts ((start + begin rules os j) + count_by rules o) (drop (suc j) os)) i (omega arith)
 
-  pub blocks_take : (os : List Op) → ((o : Op) → In o os → SplitsShape (rules.row o) parts o) → (j : ℕ) (o : Op) → slice_get os j ≡ Some o → (i start : ℕ) → i ≤ count_by rules o
+  pub blocks_take : (os : List Op) → ((o : Op) → In o os → SplitsShape (rules.rule o) parts o) → (j : ℕ) (o : Op) → slice_get os j ≡ Some o → (i start : ℕ) → i ≤ count_by rules o
       → take (begin rules os j + i) (blocks rules parts start os) ≡ blocks rules parts start (take j os) ++ take i (block_by rules parts (start + begin rules os j) o)
   blocks_take os shapes j o is i start below =
       let size : length (block_by rules parts (start + begin rules os j) o) ≡ count_by rules o = (shapes o (In-slice_get o os j is)).size (start + begin rules os j) in
-      ap₂ (λ xs n. take (n + i) xs) (blocks_split os j start o is) (sym (length_front os shapes j start))
+      ap₂ (λ xs n. take (n + i) xs) (blocks_split os j start o is) (sym (length_prefix os shapes j start))
       ∙ take-append_right (blocks rules parts start (take j os)) (block_by rules parts (start + begin rules os j) o ++ blocks rules parts ((start + begin rules os j) + count_by rules o) (drop (suc j) os)) i
       ∙ ap (λ xs. blocks rules parts start (take j os) ++ xs)
       (take-append-le i (block_by rules parts (start + begin rules os j) o) (blocks rules parts ((start + begin rules os j) + count_by rules o) (drop (suc j) os)) (omega arith))
 
   -- a position among the blocks is one in the block of an operation
-  pub blocks_position : (os : List Op) → ((o : Op) → In o os → SplitsShape (rules.row o) parts o) → (start n : ℕ) (x : Op) → slice_get (blocks rules parts start os) n ≡ Some x
+  pub blocks_position : (os : List Op) → ((o : Op) → In o os → SplitsShape (rules.rule o) parts o) → (start n : ℕ) (x : Op) → slice_get (blocks rules parts start os) n ≡ Some x
       → (j : ℕ) × (o : Op) × (i : ℕ) × (slice_get os j ≡ Some o) × (slice_get (block_by rules parts (start + begin rules os j) o) i ≡ Some x) × (i < count_by rules o) × (n ≡ begin rules os j + i)
   blocks_position [] shapes start n x is = cc
   blocks_position (o ∷ os) shapes start n x is =
@@ -147,7 +148,8 @@ module _ (rules : Rules) (parts : Ref → List Ref) where
         n,
         refl,
         ap (λ m. slice_get (block_by rules parts m o) n) (add-zero start)
-            ∙ sym (slice_get-append_left (block_by rules parts start o) (blocks rules parts (start + count_by rules o) os) n (let e : length (block_by rules parts start o) ≡ count_by rules o = (shapes o (inl refl)).size start in omega arith)) ∙ is,
+            ∙ sym (slice_get-append_left (block_by rules parts start o) (blocks rules parts (start + count_by rules o) os) n
+            (let e : length (block_by rules parts start o) ≡ count_by rules o = (shapes o (inl refl)).size start in omega arith)) ∙ is,
         below,
         sym (zero-add n),
       )
@@ -170,7 +172,7 @@ module _ (rules : Rules) (parts : Ref → List Ref) where
 
   -- ---- the registers, instances and outputs of the blocks
 
-  pub anchors_blocks : (os : List Op) → ((o : Op) → In o os → SplitsShape (rules.row o) parts o) → (start : ℕ)
+  pub anchors_blocks : (os : List Op) → ((o : Op) → In o os → SplitsShape (rules.rule o) parts o) → (start : ℕ)
       → map bare_op (anchors (blocks rules parts start os)) ≡ flat_map (lower_anchor parts) (anchors os)
   anchors_blocks [] shapes start = refl
   anchors_blocks (o ∷ os) shapes start =
@@ -184,7 +186,7 @@ module _ (rules : Rules) (parts : Ref → List Ref) where
       go false = refl
 
   -- those before the i-th of a block of these
-  pub anchors_before : (os : List Op) → ((o : Op) → In o os → SplitsShape (rules.row o) parts o) → (j : ℕ) (o : Op) → slice_get os j ≡ Some o → is_anchor o ≡ true → (i start : ℕ) → i ≤ count_by rules o
+  pub anchors_before : (os : List Op) → ((o : Op) → In o os → SplitsShape (rules.rule o) parts o) → (j : ℕ) (o : Op) → slice_get os j ≡ Some o → is_anchor o ≡ true → (i start : ℕ) → i ≤ count_by rules o
       → map bare_op (anchors (take (begin rules os j + i) (blocks rules parts start os))) ≡ flat_map (lower_anchor parts) (anchors (take j os)) ++ take i (lower_anchor parts o)
   anchors_before os shapes j o is anchor i start within =
       let shape = shapes o (In-slice_get o os j is) in

@@ -1,11 +1,11 @@
 -- A module whose operations split by rules has the leaves of its values.
-use Rattle.std.proofs.Common.{◌≡◌, ℕ, zero, suc, ◌+◌, ◌-◌, ◌*◌, ◌<◌, ◌≤◌, Bool, true, false, cond, List, [], ◌∷◌, length, map, flat_map, slice_get, Option, Some, None, is_some, refl, sym, ap, ap₂, subst, ◌∙◌, inl, inr, arith, zero-add, add-zero, suc-mul}
+use Rattle.std.proofs.Common.{◌≡◌, ℕ, zero, suc, ◌+◌, ◌-◌, ◌*◌, ◌<◌, ◌≤◌, Bool, true, false, cond, List, [], ◌∷◌, length, map, flat_map, slice_get, Option, Some, None, is_some, refl, sym, ap, ap₂}
+use Rattle.std.proofs.Common.{subst, ◌∙◌, inl, inr, arith, zero-add, add-zero, suc-mul, option_and_then, option_map}
 use Rattle.std.proofs.Math.Nat.{mul-le-mul}
 use Rattle.std.proofs.lemmas.List.{length-map}
 use Rattle.std.proofs.lemmas.Option.{slice_get-map, slice_get_within}
-use Rattle.wiring.specs.Options.{bind, omap}
 use Rattle.wiring.specs.Wiring.{In, greatest}
-use Rattle.wiring.proofs.Options.{bind_some, omap_some}
+use Rattle.wiring.proofs.Options.{and_then_some, option_map_some}
 use Rattle.wiring.proofs.Lists.{slice_get_some}
 use Rattle.wiring.proofs.Members.{In-slice_get, In-map}
 use Rattle.wiring.proofs.Heights.{le-greatest}
@@ -18,10 +18,10 @@ use Rattle.hw_model.specs.Design.Ref.{port, result, undefined}
 use Rattle.hw_model.specs.Sound.{input_type, type_in, OpFits}
 use Rattle.hw_model.proofs.Sorts.{Sort, sort_of}
 use Rattle.hw_model.proofs.Sorts.Sort.{a_register, an_instance, an_output, a_made}
-use Rattle.hw_edits.specs.Edit.{is_anchor, result_word, word_of, Holds}
-use Rattle.hw_edits.specs.Falls.{LocalHeight}
-use Rattle.hw_edits.specs.Follows.{Wide}
-use Rattle.hw_edits.proofs.ChangeInPlace.{plain_word}
+use Rattle.edit_laws.specs.Edit.{is_anchor, result_word, word_of, Holds}
+use Rattle.edit_laws.specs.Falls.{LocalHeight}
+use Rattle.edit_laws.specs.Follows.{Wide}
+use Rattle.edit_laws.proofs.ChangeInPlace.{plain_word}
 use Rattle.aggregate_laws.specs.Leaves.{in_row, bare_port, leaf_port, leaf_ports, leaf_start, parts_of_port, bare, bare_kind, bare_op, leaf_operands, leaf_registers, leaves_of, spread, lower_anchor, result_types, result_start}
 use Rattle.aggregate_laws.specs.Lowered.{whole, Standing, Lowered, LoweredWell}
 use Rattle.aggregate_laws.specs.Rules.{Rules, begin, stays_one, parts_of_result, parts_of, blocks, count_by, lowered_module, SplitsShape, StandsBefore, StandsTyped, BlockHolds, SplitsWell, Splits}
@@ -34,18 +34,18 @@ use Rattle.aggregate_laws.proofs.Types.{bare_types}
 use Rattle.aggregate_laws.proofs.Blocks.{block_by, place_by, leaf_by, leaves_by, block_anchors, blocks_at, blocks_position, anchors_blocks, anchors_before}
 use Rattle.aggregate_laws.proofs.Owners.{owner, owner_at, starts, take_counts}
 
--- ---- rows
+-- ---- rules
 
-row_types : (type_of : Ref → Option HwType) (f : ℕ → Ref) (ts : List HwType) (s : ℕ) → ((i : ℕ) (u : HwType) → slice_get ts i ≡ Some u → type_of (f (s + i)) ≡ Some u)
+rule_types : (type_of : Ref → Option HwType) (f : ℕ → Ref) (ts : List HwType) (s : ℕ) → ((i : ℕ) (u : HwType) → slice_get ts i ≡ Some u → type_of (f (s + i)) ≡ Some u)
     → map type_of (in_row f s (length ts)) ≡ map (λ (u : HwType). Some u) ts
-row_types type_of f [] s each = refl
-row_types type_of f (t ∷ ts) s each =
+rule_types type_of f [] s each = refl
+rule_types type_of f (t ∷ ts) s each =
     ap₂ (λ x xs. x ∷ xs) (ap (λ n. type_of (f n)) (sym (add-zero s)) ∙ each 0 t refl)
-    (row_types type_of f ts (suc s) (λ i u is. ap (λ n. type_of (f n)) (let e : suc s + i ≡ s + suc i = omega arith in e) ∙ each (suc i) u is))
+    (rule_types type_of f ts (suc s) (λ i u is. ap (λ n. type_of (f n)) (let e : suc s + i ≡ s + suc i = omega arith in e) ∙ each (suc i) u is))
 
-row_same : {A : Type 0} (f g : ℕ → A) (s n : ℕ) → ((i : ℕ) → f i ≡ g i) → in_row f s n ≡ in_row g s n
-row_same f g s zero same = refl
-row_same f g s (suc n) same = ap₂ (λ x xs. x ∷ xs) (same s) (row_same f g (suc s) n same)
+rule_same : {A : Type 0} (f g : ℕ → A) (s n : ℕ) → ((i : ℕ) → f i ≡ g i) → in_row f s n ≡ in_row g s n
+rule_same f g s zero same = refl
+rule_same f g s (suc n) same = ap₂ (λ x xs. x ∷ xs) (same s) (rule_same f g (suc s) n same)
 
 leaf_registers_length : (K : Kind) (g : ℕ → List Ref) (n : ℕ) (ts : List HwType) → length (leaf_registers K g n ts) ≡ length ts
 leaf_registers_length K g n [] = refl
@@ -90,8 +90,8 @@ plain_no_register o is = go (is_register o) refl is
     go false here plain = here
 
 module _ (rules : Rules) (ps ps' : List Port) (os : List Op) (ports_are : map bare_port ps' ≡ flat_map leaf_ports ps)
-    (splits : (o : Op) → In o os → Splits (rules.row o) (type_in ps os) (parts_of rules ps os) o) where
-  shapes : (o : Op) → In o os → SplitsShape (rules.row o) (parts_of rules ps os) o
+    (splits : (o : Op) → In o os → Splits (rules.rule o) (type_in ps os) (parts_of rules ps os) o) where
+  shapes : (o : Op) → In o os → SplitsShape (rules.rule o) (parts_of rules ps os) o
   shapes o here = (splits o here).shape
 
   module _ (j : ℕ) (o : Op) (is : slice_get os j ≡ Some o) where
@@ -109,10 +109,10 @@ module _ (rules : Rules) (ps ps' : List Port) (os : List Op) (ports_are : map ba
 
     -- the i-th of what a register, an instance or an output becomes
     anchor_at : is_anchor o ≡ true → (i : ℕ) (x : Op) → slice_get (lower_anchor (parts_of rules ps os) o) i ≡ Some x
-        → omap bare_op (slice_get (blocks rules (parts_of rules ps os) 0 os) (begin rules os j + i)) ≡ Some x
+        → option_map bare_op (slice_get (blocks rules (parts_of rules ps os) 0 os) (begin rules os j + i)) ≡ Some x
     anchor_at anchor i x at_i =
         let below : i < length (lower_anchor (parts_of rules ps os) o) = slice_get_within (lower_anchor (parts_of rules ps os) o) i x at_i in
-        ap (omap bare_op) (block_at i (omega (arith, anchor_count anchor)))
+        ap (option_map bare_op) (block_at i (omega (arith, anchor_count anchor)))
         ∙ sym (slice_get-map bare_op (block_by rules (parts_of rules ps os) (begin rules os j) o) i)
         ∙ ap (λ xs. slice_get xs i) ((splits o (In-slice_get o os j is)).shape.anchor anchor (begin rules os j)) ∙ at_i
 
@@ -129,7 +129,7 @@ module _ (rules : Rules) (ps ps' : List Port) (os : List Op) (ports_are : map ba
     leaf_made : is_anchor o ≡ false → (k i : ℕ) (t u : HwType) → result_type o k ≡ Some t → slice_get (leaves t) i ≡ Some u
         → (x : Op) × (slice_get (block_by rules (parts_of rules ps os) (begin rules os j) o) (place_by rules o (result_start o k + i)) ≡ Some x) × (result_type x 0 ≡ Some u)
     leaf_made plain k i t u typed at_u =
-        bind_some (slice_get (block_by rules (parts_of rules ps os) (begin rules os j) o) (place_by rules o (result_start o k + i))) (λ (x : Op). result_type x 0)
+        and_then_some (slice_get (block_by rules (parts_of rules ps os) (begin rules os j) o) (place_by rules o (result_start o k + i))) (λ (x : Op). result_type x 0)
         ((splits o (In-slice_get o os j is)).shape.leaf_type plain (begin rules os j) k i t u typed at_u)
 
     -- ---- the types of leaves
@@ -140,12 +140,12 @@ module _ (rules : Rules) (ps ps' : List Port) (os : List Op) (ports_are : map ba
       where
         one : is_anchor o ≡ true → register_form o.kind ≡ None → type_in ps' (blocks rules (parts_of rules ps os) 0 os) (leaf_by rules (begin rules os j) o (result_start o k + i)) ≡ Some u
         one anchor none =
-            let there = omap_some bare_op (slice_get (blocks rules (parts_of rules ps os) 0 os) (begin rules os j + 0))
+            let there = option_map_some bare_op (slice_get (blocks rules (parts_of rules ps os) 0 os) (begin rules os j + 0))
             (anchor_at anchor 0 (spread (parts_of rules ps os) o) (ap (λ xs. slice_get xs 0) (lowered_other (parts_of rules ps os) o none))) in
             ap (λ b. type_in ps' (blocks rules (parts_of rules ps os) 0 os) (cond b (result (begin rules os j) (result_start o k + i)) (result (begin rules os j + place_by rules o (result_start o k + i)) 0)))
             (one_from_anchor o anchor none)
-            ∙ ap (λ n. bind (slice_get (blocks rules (parts_of rules ps os) 0 os) n) (λ (x : Op). result_type x (result_start o k + i))) (sym (add-zero (begin rules os j)))
-            ∙ ap (λ y. bind y (λ (x : Op). result_type x (result_start o k + i))) there.1
+            ∙ ap (λ n. option_and_then (λ (x : Op). result_type x (result_start o k + i)) (slice_get (blocks rules (parts_of rules ps os) 0 os) n)) (sym (add-zero (begin rules os j)))
+            ∙ ap (λ y. option_and_then (λ (x : Op). result_type x (result_start o k + i)) y) there.1
             ∙ type_listed there.0 (result_start o k + i)
             ∙ ap (λ ts. slice_get ts (result_start o k + i))
             (bare_types there.0 (bare_kind o.kind) (flat_map (parts_of rules ps os) o.operands) (flat_map leaves (result_types o)) there.2)
@@ -156,7 +156,7 @@ module _ (rules : Rules) (ps ps' : List Port) (os : List Op) (ports_are : map ba
             → type_in ps' (blocks rules (parts_of rules ps os) 0 os) (leaf_by rules (begin rules os j) o (result_start o k + i)) ≡ Some u
         two not_one n place x at_n typed_x =
             ap₂ (λ b m. type_in ps' (blocks rules (parts_of rules ps os) 0 os) (cond b (result (begin rules os j) (result_start o k + i)) (result (begin rules os j + m) 0))) not_one place
-            ∙ ap (λ y. bind y (λ (z : Op). result_type z 0)) at_n ∙ typed_x
+            ∙ ap (λ y. option_and_then (λ (z : Op). result_type z 0) y) at_n ∙ typed_x
 
         by_number : (f : RegisterForm) → register_form o.kind ≡ Some f → (m : ℕ) → k ≡ m
             → type_in ps' (blocks rules (parts_of rules ps os) 0 os) (leaf_by rules (begin rules os j) o (result_start o k + i)) ≡ Some u
@@ -167,7 +167,7 @@ module _ (rules : Rules) (ps ps' : List Port) (os : List Op) (ports_are : map ba
             let leaf : slice_get (lower_anchor (parts_of rules ps os) o) i ≡ Some (bare (bare_kind o.kind) (leaf_operands f.has_enable f.reset (map (parts_of rules ps os) o.operands) (0 + i)) (u ∷ [])) =
             ap (λ xs. slice_get xs i) (lowered_register (parts_of rules ps os) o f form ∙ ap (λ y. leaf_registers (bare_kind o.kind) (leaf_operands f.has_enable f.reset (map (parts_of rules ps os) o.operands)) 0 (leaves_of y)) typed_0)
             ∙ leaf_register_at (bare_kind o.kind) (leaf_operands f.has_enable f.reset (map (parts_of rules ps os) o.operands)) (leaves t) 0 i u at_u in
-            let there = omap_some bare_op (slice_get (blocks rules (parts_of rules ps os) 0 os) (begin rules os j + i)) (anchor_at (register_anchor o f form) i _ leaf) in
+            let there = option_map_some bare_op (slice_get (blocks rules (parts_of rules ps os) 0 os) (begin rules os j + i)) (anchor_at (register_anchor o f form) i _ leaf) in
             two (register_not_one o f form) i
             ((splits o (In-slice_get o os j is)).shape.register_place (ap is_some form) (result_start o k + i) ∙ ap (λ n. result_start o n + i) is_m ∙ zero-add i)
             there.0 there.1 (sym (type_bare there.0 0) ∙ ap (λ (z : Op). result_type z 0) there.2)
@@ -197,7 +197,7 @@ module _ (rules : Rules) (ps ps' : List Port) (os : List Op) (ports_are : map ba
       by_way q at_q true way never = cc
       by_way q at_q false way typed =
           let same : q.type ≡ t = cc in
-          row_types (type_in ps' (blocks rules (parts_of rules ps os) 0 os)) port (leaves q.type) (leaf_start ps j)
+          rule_types (type_in ps' (blocks rules (parts_of rules ps os) 0 os)) port (leaves q.type) (leaf_start ps j)
           (λ i u at_u.
           sym (input_type_bare ps' (leaf_start ps j + i)) ∙ ap (λ P. input_type (slice_get P (leaf_start ps j + i))) ports_are
           ∙ ap input_type (leaf_port_at ps j q at_q i u at_u ∙ ap (λ b. Some (leaf_port b u)) way))
@@ -214,10 +214,10 @@ module _ (rules : Rules) (ps ps' : List Port) (os : List Op) (ports_are : map ba
       by_type o at_j None typed never = cc
       by_type o at_j (Some v) typed same =
           let v_is : v ≡ t = cc in
-          row_types (type_in ps' (blocks rules (parts_of rules ps os) 0 os)) (leaf_by rules (begin rules os j) o) (leaves v) (result_start o k) (leaf_types j o at_j k v typed)
+          rule_types (type_in ps' (blocks rules (parts_of rules ps os) 0 os)) (leaf_by rules (begin rules os j) o) (leaves v) (result_start o k) (leaf_types j o at_j k v typed)
           ∙ ap (λ x. map (λ (u : HwType). Some u) (leaves x)) v_is
 
-      go : (x : Option Op) → slice_get os j ≡ x → bind x (λ (o : Op). result_type o k) ≡ Some t
+      go : (x : Option Op) → slice_get os j ≡ x → option_and_then (λ (o : Op). result_type o k) x ≡ Some t
           → map (type_in ps' (blocks rules (parts_of rules ps os) 0 os)) (parts_of_result rules (begin rules os j) k x) ≡ map (λ (u : HwType). Some u) (leaves t)
       go None at_j typed = cc
       go (Some o) at_j typed = by_type o at_j (result_type o k) refl typed
@@ -235,7 +235,7 @@ module _ (rules : Rules) (ps ps' : List Port) (os : List Op) (ports_are : map ba
       go (Some q) typed = by_way q q.is_output typed
   untyped_all (result j k) is = go (slice_get os j) is
     where
-      go : (x : Option Op) → bind x (λ (o : Op). result_type o k) ≡ None → parts_of_result rules (begin rules os j) k x ≡ []
+      go : (x : Option Op) → option_and_then (λ (o : Op). result_type o k) x ≡ None → parts_of_result rules (begin rules os j) k x ≡ []
       go None typed = refl
       go (Some o) typed = ap (leaves_by rules (begin rules os j) o (result_start o k)) typed
   untyped_all undefined is = refl
@@ -248,10 +248,10 @@ module _ (rules : Rules) (ps ps' : List Port) (os : List Op) (ports_are : map ba
       typed = typed_all;
       own = λ i x at_i.
           let below : i < length (block_by rules (parts_of rules ps os) (begin rules os j) o) = slice_get_within (block_by rules (parts_of rules ps os) (begin rules os j) o) i x at_i in
-          ap (λ y. bind y (λ (z : Op). result_type z 0)) (block_at j o is i (omega (arith, count_is j o is)) ∙ at_i);
+          ap (λ y. option_and_then (λ (z : Op). result_type z 0) y) (block_at j o is i (omega (arith, count_is j o is)) ∙ at_i);
     }
 
-    well : SplitsWell (rules.row o) (type_in ps os) (type_in ps' (blocks rules (parts_of rules ps os) 0 os)) (parts_of rules ps os) (begin rules os j) o
+    well : SplitsWell (rules.rule o) (type_in ps os) (type_in ps' (blocks rules (parts_of rules ps os) 0 os)) (parts_of rules ps os) (begin rules os j) o
     well = (splits o (In-slice_get o os j is)).well plain (type_in ps' (blocks rules (parts_of rules ps os) 0 os)) (begin rules os j) stands_typed
 
     block_holds : (τ : Ref → Word) → Holds (blocks rules (parts_of rules ps os) 0 os) τ → BlockHolds τ (begin rules os j) (block_by rules (parts_of rules ps os) (begin rules os j) o)
@@ -271,7 +271,7 @@ module _ (rules : Rules) (ps ps' : List Port) (os : List Op) (ports_are : map ba
       → parts_of rules ps os (result j 0) ≡ in_row (λ i. result (begin rules os j + i) 0) 0 (length (leaves t))
   register_parts_are j o t is register typed =
       parts_result j o 0 t is typed
-      ∙ row_same (leaf_by rules (begin rules os j) o) (λ i. result (begin rules os j + i) 0) 0 (length (leaves t))
+      ∙ rule_same (leaf_by rules (begin rules os j) o) (λ i. result (begin rules os j + i) 0) 0 (length (leaves t))
       (λ i.
       ap₂ (λ b n. cond b (result (begin rules os j) i) (result (begin rules os j + n) 0)) (register_one_not o register)
       ((splits o (In-slice_get o os j is)).shape.register_place register i))
@@ -280,7 +280,7 @@ module _ (rules : Rules) (ps ps' : List Port) (os : List Op) (ports_are : map ba
       → parts_of rules ps os (result j k) ≡ in_row (result (begin rules os j + 0)) (result_start o k) (length (leaves t))
   instance_parts_are j o k t is inst typed =
       parts_result j o k t is typed
-      ∙ row_same (leaf_by rules (begin rules os j) o) (result (begin rules os j + 0)) (result_start o k) (length (leaves t))
+      ∙ rule_same (leaf_by rules (begin rules os j) o) (result (begin rules os j + 0)) (result_start o k) (length (leaves t))
       (λ i.
       ap (λ b. cond (cond b true (is_output_op o)) (result (begin rules os j) i) (result (begin rules os j + place_by rules o i) 0)) inst
       ∙ ap (λ n. result n i) (sym (add-zero (begin rules os j))))
@@ -326,7 +326,7 @@ module _ (rules : Rules) (ps ps' : List Port) (os : List Op) (ports_are : map ba
   block_owner : (j : ℕ) (o : Op) → slice_get os j ≡ Some o → (i : ℕ) → i < count_by rules o → owner (map (count_by rules) os) (begin rules os j + i) ≡ j
   block_owner j o is i below =
       ap (λ n. owner (map (count_by rules) os) (n + i)) (take_counts (count_by rules) os j)
-      ∙ owner_at (map (count_by rules) os) j i (count_by rules o) (slice_get-map (count_by rules) os j ∙ ap (omap (count_by rules)) is) below
+      ∙ owner_at (map (count_by rules) os) j i (count_by rules o) (slice_get-map (count_by rules) os j ∙ ap (option_map (count_by rules)) is) below
 
   home_at : (j : ℕ) (o : Op) → slice_get os j ≡ Some o → (i k' : ℕ) → i < count_by rules o
       → home_of (result (begin rules os j + i) k') ≡ result j (cond (stays_one o) (owner (map (λ (t : HwType). length (leaves t)) (result_types o)) k') 0)
@@ -389,7 +389,7 @@ module _ (rules : Rules) (ps ps' : List Port) (os : List Op) (ports_are : map ba
             ∙ ap (λ n. h (result j (owner (map (λ (u : HwType). length (leaves u)) (result_types o)) (n + i)))) (starts leaves (result_types o) k)
             ∙ ap (λ n. h (result j n))
             (owner_at (map (λ (u : HwType). length (leaves u)) (result_types o)) k i (length (leaves t))
-            (slice_get-map (λ (u : HwType). length (leaves u)) (result_types o) k ∙ ap (omap (λ (u : HwType). length (leaves u))) (sym (type_listed o k) ∙ typed)) below)
+            (slice_get-map (λ (u : HwType). length (leaves u)) (result_types o) k ∙ ap (option_map (λ (u : HwType). length (leaves u))) (sym (type_listed o k) ∙ typed)) below)
 
         -- each is the result of one
         two : stays_one o ≡ false → place_by rules o (result_start o k + i) < count_by rules o → h (result j 0) ≡ h (result j k)
@@ -435,7 +435,7 @@ module _ (rules : Rules) (ps ps' : List Port) (os : List Op) (ports_are : map ba
             ap (λ r. h (home_of r)) found.2
             ∙ ap (λ n. h (port (owner (map (λ (x : Port). length (leaf_ports x)) ps) (n + found.0)))) (starts leaf_ports ps j)
             ∙ ap (λ n. h (port n)) (owner_at (map (λ (x : Port). length (leaf_ports x)) ps) j found.0 (length (leaf_ports q))
-            (slice_get-map (λ (x : Port). length (leaf_ports x)) ps j ∙ ap (omap (λ (x : Port). length (leaf_ports x))) is) below)
+            (slice_get-map (λ (x : Port). length (leaf_ports x)) ps j ∙ ap (option_map (λ (x : Port). length (leaf_ports x))) is) below)
 
         go : (x : Option Port) → slice_get ps j ≡ x → In r' (parts_of_port (leaf_start ps j) x) → h (home_of r') ≡ h (port j)
         go None is never = absurd never
@@ -518,7 +518,7 @@ module _ (rules : Rules) (ps ps' : List Port) (os : List Op) (ports_are : map ba
 -- ---- the module
 
 pub split_lowered : (rules : Rules) (m : Module) → map bare_port (rules.ports m.ports) ≡ flat_map leaf_ports m.ports
-    → ((o : Op) → In o m.body → Splits (rules.row o) (type_in m.ports m.body) (parts_of rules m.ports m.body) o) → Lowered (Some m) (Some (lowered_module rules m))
+    → ((o : Op) → In o m.body → Splits (rules.rule o) (type_in m.ports m.body) (parts_of rules m.ports m.body) o) → Lowered (Some m) (Some (lowered_module rules m))
 split_lowered rules m ports_are splits = record {
   is_there = refl;
   ports_are = ports_are;
@@ -536,7 +536,7 @@ split_lowered rules m ports_are splits = record {
 }
 
 pub split_well : (scale : ℕ) (rules : Rules) (m : Module) → 0 < scale → ((o : Op) → In o m.body → count_by rules o < scale) → map bare_port (rules.ports m.ports) ≡ flat_map leaf_ports m.ports
-    → ((o : Op) → In o m.body → Splits (rules.row o) (type_in m.ports m.body) (parts_of rules m.ports m.body) o) → ((j : ℕ) (o : Op) → slice_get m.body j ≡ Some o → OpFits (type_in m.ports m.body) o)
+    → ((o : Op) → In o m.body → Splits (rules.rule o) (type_in m.ports m.body) (parts_of rules m.ports m.body) o) → ((j : ℕ) (o : Op) → slice_get m.body j ≡ Some o → OpFits (type_in m.ports m.body) o)
     → LoweredWell scale (Some m) (Some (lowered_module rules m))
 unfolding split_lowered
 split_well scale rules m positive counts ports_are splits fit = record {
@@ -562,7 +562,7 @@ split_well scale rules m positive counts ports_are splits fit = record {
         found.3,
         own,
         ap (λ xs. slice_get xs found.2) (sym ((splits found.1 (In-slice_get found.1 m.body found.0 found.3)).shape.anchor own (begin rules m.body found.0)))
-            ∙ slice_get-map bare_op (block_by rules (parts_of rules m.ports m.body) (begin rules m.body found.0) found.1) found.2 ∙ ap (omap bare_op) found.4,
+            ∙ slice_get-map bare_op (block_by rules (parts_of rules m.ports m.body) (begin rules m.body found.0) found.1) found.2 ∙ ap (option_map bare_op) found.4,
         found.6,
       );
   falls = λ h local j' k x t is plain typed r here.

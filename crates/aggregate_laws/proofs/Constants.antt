@@ -8,15 +8,15 @@ use Rattle.hw_model.specs.Kinds.Literals.{no_literals, literal}
 use Rattle.hw_model.specs.Kinds.Kind.{constant, aggregate_constant}
 use Rattle.hw_model.specs.Value.{concat_words, op_value, word_of_literal, word_of_literals}
 use Rattle.hw_model.specs.Design.{Ref, Op}
-use Rattle.hw_edits.specs.Edit.{result_word}
+use Rattle.edit_laws.specs.Edit.{result_word}
 use Rattle.aggregate_laws.specs.Leaves.{in_row, result_types, result_start}
 use Rattle.aggregate_laws.specs.Lowered.{whole}
 use Rattle.aggregate_laws.specs.Rules.{Splits}
-use Rattle.aggregate_laws.specs.Rows.{made_op, literal_numbers, literals_numbers, literal_types, literals_types, number_at, constant_row}
+use Rattle.aggregate_laws.specs.OperationRules.{made_op, literal_numbers, literals_numbers, literal_types, literals_types, number_at, constant_rule}
 use Rattle.aggregate_laws.proofs.Words.{concat-append}
 use Rattle.aggregate_laws.proofs.Leafwise.{made_fits, leafwise_splits}
 use Rattle.aggregate_laws.proofs.Joins.{plain_kind}
-use Rattle.aggregate_laws.proofs.Muxes.{one_row, all_of_one}
+use Rattle.aggregate_laws.proofs.Muxes.{one_rule, all_of_one}
 
 -- the word of a list of numbers of types
 abbrev words_of : List ℤ → List HwType → List Word
@@ -53,17 +53,17 @@ mutual
       ∙ sym (concat-append (words_of (literal_numbers l) (literal_types l)) (words_of (literals_numbers ls) (literals_types ls)))
       ∙ ap concat_words (sym (words_of-append (literal_numbers l) (literals_numbers ls) (literal_types l) (literals_types ls) (literal_sizes l)))
 
-words_of_row : (zs : List ℤ) (ts : List HwType) (g : ℕ → Word) (n : ℕ) → length zs ≡ length ts
+words_of_rule : (zs : List ℤ) (ts : List HwType) (g : ℕ → Word) (n : ℕ) → length zs ≡ length ts
     → ((i : ℕ) (t : HwType) → slice_get ts i ≡ Some t → g (n + i) ≡ bits_of_ℤ (width t) (number_at zs i)) → words_of zs ts ≡ in_row g n (length ts)
-words_of_row [] [] g n same is = refl
-words_of_row [] (t ∷ ts) g n same is = absurd (omega arith)
-words_of_row (z ∷ zs) [] g n same is = absurd (omega arith)
-words_of_row (z ∷ zs) (t ∷ ts) g n same is =
+words_of_rule [] [] g n same is = refl
+words_of_rule [] (t ∷ ts) g n same is = absurd (omega arith)
+words_of_rule (z ∷ zs) [] g n same is = absurd (omega arith)
+words_of_rule (z ∷ zs) (t ∷ ts) g n same is =
     ap₂ (λ x xs. x ∷ xs) (sym (ap g (sym (add-zero n)) ∙ is 0 t refl))
-    (words_of_row zs ts g (suc n) (omega arith) (λ i u at_u. ap g (let e : suc n + i ≡ n + suc i = omega arith in e) ∙ is (suc i) u at_u))
+    (words_of_rule zs ts g (suc n) (omega arith) (λ i u at_u. ap g (let e : suc n + i ≡ n + suc i = omega arith in e) ∙ is (suc i) u at_u))
 
 pub constant_splits : (o : Op) (ls : Literals) (old_type : Ref → Option HwType) (stand : Ref → List Ref) (t : HwType) → o.kind ≡ aggregate_constant ls → result_types o ≡ t ∷ []
-    → literals_types ls ≡ leaves t → Splits (constant_row o ls) old_type stand o
+    → literals_types ls ≡ leaves t → Splits (constant_rule o ls) old_type stand o
 constant_splits o ls old_type stand t is one shape =
     leafwise_splits o (λ args i u. made_op o (constant (number_at (literals_numbers ls) i)) [] (u ∷ []) [] u) old_type stand
     (λ args i u. refl) (λ args i u. refl) (plain_kind o (aggregate_constant ls) is refl)
@@ -71,10 +71,10 @@ constant_splits o ls old_type stand t is one shape =
       fits = λ i u at_u. made_fits new_type o (constant (number_at (literals_numbers ls) i)) [] (u ∷ []) [] u refl;
       operands = λ i u r at_u never. absurd never;
       words = λ τ wide g is_g.
-          one_row o t (λ k u. result_word (whole stand τ) o k (Some u) ≡ concat_words (in_row g (result_start o k) (length (leaves u)))) one
+          one_rule o t (λ k u. result_word (whole stand τ) o k (Some u) ≡ concat_words (in_row g (result_start o k) (length (leaves u)))) one
           (ap (λ k. op_value k o.types t 0 (map (whole stand τ) o.operands)) is
           ∙ literals_words ls
           ∙ ap (λ ts. concat_words (words_of (literals_numbers ls) ts)) shape
-          ∙ ap concat_words (words_of_row (literals_numbers ls) (leaves t) g 0 (literals_sizes ls ∙ ap length shape)
+          ∙ ap concat_words (words_of_rule (literals_numbers ls) (leaves t) g 0 (literals_sizes ls ∙ ap length shape)
           (λ i u at_u. ap g (zero-add i) ∙ is_g i u (ap (λ ts. slice_get ts i) (all_of_one o t one) ∙ at_u))));
     })

@@ -13,10 +13,10 @@ use Rattle.hw_model.specs.Sound.{HasWidth, body_of, ports_of, type_in}
 use Rattle.hw_model.proofs.Machines.{same_back}
 use Rattle.hw_model.proofs.NetWidths.{net_widths}
 use Rattle.hw_model.proofs.Paths.{outputs_body}
-use Rattle.hw_edits.specs.Follows.{Valid, Follows}
-use Rattle.hw_edits.proofs.Edited.{holds_at}
-use Rattle.hw_edits.proofs.Follows.{valid_settles}
-use Rattle.hw_edits.proofs.OtherOperands.{reads}
+use Rattle.edit_laws.specs.Follows.{Valid, Follows}
+use Rattle.edit_laws.proofs.Edited.{holds_at}
+use Rattle.edit_laws.proofs.Follows.{valid_settles}
+use Rattle.edit_laws.proofs.OtherOperands.{reads}
 use Rattle.aggregate_laws.specs.Lowered.{LoweredWell}
 use Rattle.aggregate_laws.proofs.Words.{whole_flat_map}
 use Rattle.aggregate_laws.proofs.Anchors.{called_follow, output_refs_follow}

@@ -1,12 +1,13 @@
 -- An element of an array by its leaves: a test for each index, and multiplexers for each leaf.
-use Rattle.std.proofs.Common.{◌≡◌, ◌⊎◌, ℕ, zero, suc, ◌+◌, ◌-◌, ◌*◌, ◌%◌, ◌^◌, ◌<◌, ◌≤◌, Bool, true, false, cond, nat_lt, ◌==◌, List, [], ◌∷◌, ◌++◌, pos, length, map, take, drop, slice_get, Option, Some, refl, sym, ap, ap₂, subst, ◌∙◌, inl, inr, arith, zero-add, add-zero, append-nil, length-append, suc-mul, zero-mul, add-mul, suc-add, append_assoc, mod-eq_of_lt, ◌≢◌}
+use Rattle.std.proofs.Common.{◌≡◌, ◌⊎◌, ℕ, zero, suc, ◌+◌, ◌-◌, ◌*◌, ◌%◌, ◌^◌, ◌<◌, ◌≤◌, Bool, true, false, cond, nat_lt, ◌==◌, List, [], ◌∷◌, ◌++◌, pos, length, map, take, drop, slice_get, Option}
+use Rattle.std.proofs.Common.{Some, refl, sym, ap, ap₂, subst, ◌∙◌, inl, inr, arith, zero-add, add-zero, append-nil, length-append, suc-mul, zero-mul, add-mul, suc-add, append_assoc, mod-eq_of_lt}
+use Rattle.std.proofs.Common.{◌≢◌, option_and_then}
 use Rattle.std.proofs.lemmas.Bool.{lt-ltb, le-ltb, ltb-true, eq-eqb, ne_eqb}
 use Rattle.std.proofs.lemmas.Bool.Decides.{eqb_tells}
 use Rattle.bits_core.proofs.Numbers.{bits-number}
 use Rattle.std.proofs.Math.Nat.{mul-add-mod_self_right}
 use Rattle.std.proofs.lemmas.Nat.{div-mul-add, mod-mul-add}
 use Rattle.std.proofs.lemmas.Option.{slice_get_within}
-use Rattle.wiring.specs.Options.{bind}
 use Rattle.wiring.specs.Wiring.{In}
 use Rattle.wiring.proofs.Lists.{slice_get_some, slice_get-append_left, slice_get-append_right}
 use Rattle.wiring.proofs.Members.{position_of_In}
@@ -23,21 +24,21 @@ use Rattle.hw_model.specs.Value.{concat_words, is_high, element, elements_from, 
 use Rattle.hw_model.specs.Design.{Ref, Op, result_type}
 use Rattle.hw_model.specs.Design.Ref.{result}
 use Rattle.hw_model.specs.Sound.{HasWidth, OpFits}
-use Rattle.hw_edits.specs.Edit.{is_anchor, result_word}
+use Rattle.edit_laws.specs.Edit.{is_anchor, result_word}
 use Rattle.aggregate_laws.specs.Leaves.{in_row, part, result_types, result_start}
 use Rattle.aggregate_laws.specs.Lowered.{whole}
 use Rattle.aggregate_laws.specs.Rules.{Splits, SplitsShape, StandsBefore, leaf_ref}
-use Rattle.aggregate_laws.specs.Rows.{made_op, all_leaves, argument}
-use Rattle.aggregate_laws.specs.Choices.{tests, test_at, choices, leaf_choices, choice_count, choice_end, choice_row, element_leaf, get_row, element_of, slice_row}
+use Rattle.aggregate_laws.specs.OperationRules.{made_op, all_leaves, argument}
+use Rattle.aggregate_laws.specs.Choices.{tests, test_at, choices, leaf_choices, choice_count, choice_end, choice_rule, element_leaf, get_rule, element_of, slice_rule}
 use Rattle.aggregate_laws.proofs.Lists.{map-in_row}
 use Rattle.aggregate_laws.proofs.Words.{widths, leaves_width, concat-append}
 use Rattle.aggregate_laws.proofs.Bare.{type_listed}
 use Rattle.aggregate_laws.proofs.Bodies.{plain_not_one, plain_no_register}
 use Rattle.aggregate_laws.proofs.Registers.{single, joined_width}
 use Rattle.aggregate_laws.proofs.Leafwise.{made_fits, leaf_among}
-use Rattle.aggregate_laws.proofs.Joins.{row_alike, row_taken, plain_kind}
+use Rattle.aggregate_laws.proofs.Joins.{rule_alike, rule_taken, plain_kind}
 use Rattle.aggregate_laws.proofs.Structs.{two_operands, take_word, drop_word, drop_typed}
-use Rattle.aggregate_laws.proofs.Muxes.{part_there, typed_size, one_row, all_of_one}
+use Rattle.aggregate_laws.proofs.Muxes.{part_there, typed_size, one_rule, all_of_one}
 
 -- ---- sizes
 
@@ -170,9 +171,9 @@ zero_words (t ∷ ts) g s each =
     (zero_words ts g (suc s) (λ i u is. ap g (let e : suc s + i ≡ s + suc i = omega arith in e) ∙ each (suc i) u is))
     ∙ zeros-add (width t) (widths ts)
 
-pub row_shift : {A : Type 0} (f : ℕ → A) (s k n : ℕ) → in_row (λ l. f (s + l)) k n ≡ in_row f (s + k) n
-row_shift f s k zero = refl
-row_shift f s k (suc n) = ap (λ xs. f (s + k) ∷ xs) (row_shift f s (suc k) n ∙ ap (λ m. in_row f m n) (let e : s + suc k ≡ suc (s + k) = omega arith in e))
+pub rule_shift : {A : Type 0} (f : ℕ → A) (s k n : ℕ) → in_row (λ l. f (s + l)) k n ≡ in_row f (s + k) n
+rule_shift f s k zero = refl
+rule_shift f s k (suc n) = ap (λ xs. f (s + k) ∷ xs) (rule_shift f s (suc k) n ∙ ap (λ m. in_row f m n) (let e : s + suc k ≡ suc (s + k) = omega arith in e))
 
 copies_split : {A : Type 0} (k m : ℕ) (xs : List A) → list_copies (k + m) xs ≡ list_copies k xs ++ list_copies m xs
 copies_split zero m xs = ap (λ n. list_copies n xs) (zero-add m)
@@ -194,9 +195,9 @@ module _ (type_of : Ref → Option HwType) (τ : Ref → Word) (wide : (r : Ref)
       ∙ take_word type_of τ wide (drop (length (list_copies (n - suc i) (leaves t))) rs) t (list_copies i (leaves t))
       (drop_typed type_of rs (list_copies (n - suc i) (leaves t)) (list_copies (suc i) (leaves t)) cut)
       ∙ ap (λ m. concat_words (map τ (take (length (leaves t)) (drop m rs)))) (copies_length (n - suc i) (leaves t))
-      ∙ ap concat_words (sym (row_taken τ rs ((n - suc i) * length (leaves t)) (length (leaves t)) within)
+      ∙ ap concat_words (sym (rule_taken τ rs ((n - suc i) * length (leaves t)) (length (leaves t)) within)
       ∙ ap (λ m. in_row (λ k. τ (part rs k)) m (length (leaves t))) (sym (add-zero ((n - suc i) * length (leaves t))))
-      ∙ sym (row_shift (λ k. τ (part rs k)) ((n - suc i) * length (leaves t)) 0 (length (leaves t))))
+      ∙ sym (rule_shift (λ k. τ (part rs k)) ((n - suc i) * length (leaves t)) 0 (length (leaves t))))
     where
       parts_of_count : (n - suc i) + suc i ≡ n
       parts_of_count = omega arith
@@ -210,7 +211,7 @@ module _ (type_of : Ref → Option HwType) (τ : Ref → Word) (wide : (r : Ref)
       from_top : length (concat_words (map τ rs)) - (i * width t + width t) ≡ (n - suc i) * width t
       from_top =
           let all : length (concat_words (map τ rs)) ≡ n * width t = size in
-          let front : ((n - suc i) + suc i) * width t ≡ (n - suc i) * width t + suc i * width t = add-mul (n - suc i) (suc i) (width t) in
+          let prefix : ((n - suc i) + suc i) * width t ≡ (n - suc i) * width t + suc i * width t = add-mul (n - suc i) (suc i) (width t) in
           let whole_is : ((n - suc i) + suc i) * width t ≡ n * width t = ap (λ m. m * width t) parts_of_count in
           let own : suc i * width t ≡ i * width t + width t = suc-mul i (width t) in
           omega arith
@@ -218,7 +219,7 @@ module _ (type_of : Ref → Option HwType) (τ : Ref → Word) (wide : (r : Ref)
       within : (n - suc i) * length (leaves t) + length (leaves t) ≤ length rs
       within =
           let all : length rs ≡ n * length (leaves t) = typed_size type_of rs (list_copies n (leaves t)) typed ∙ copies_length n (leaves t) in
-          let front : ((n - suc i) + suc i) * length (leaves t) ≡ (n - suc i) * length (leaves t) + suc i * length (leaves t) = add-mul (n - suc i) (suc i) (length (leaves t)) in
+          let prefix : ((n - suc i) + suc i) * length (leaves t) ≡ (n - suc i) * length (leaves t) + suc i * length (leaves t) = add-mul (n - suc i) (suc i) (length (leaves t)) in
           let whole_is : ((n - suc i) + suc i) * length (leaves t) ≡ n * length (leaves t) = ap (λ m. m * length (leaves t)) parts_of_count in
           let own : suc i * length (leaves t) ≡ i * length (leaves t) + length (leaves t) = suc-mul i (length (leaves t)) in
           omega arith
@@ -234,7 +235,7 @@ module _ (type_of : Ref → Option HwType) (τ : Ref → Word) (wide : (r : Ref)
           → cond b (extract (i * width t) (width t) (concat_words (map τ rs))) (zeros (width t)) ≡ concat_words (in_row g 0 (length (leaves t)))
       go true below each =
           element_words i (ltb-true i n below)
-          ∙ ap concat_words (row_alike (λ l. τ (part rs ((n - suc i) * length (leaves t) + l))) g 0 (length (leaves t))
+          ∙ ap concat_words (rule_alike (λ l. τ (part rs ((n - suc i) * length (leaves t) + l))) g 0 (length (leaves t))
           (λ l past under. let there = slice_get_some (leaves t) l (omega arith) in sym (each l there.0 there.1)))
       go false past each =
           ap zeros (sym (leaves_width t)) ∙ sym (zero_words (leaves t) g 0 (λ l u at_l. ap g (zero-add l) ∙ each l u at_l))
@@ -249,14 +250,17 @@ module _ (τ : Ref → Word) where
   leaf_choices_hold o test element sizes start l (u ∷ ts) (zero_holds, rest) zero t is =
       let same : u ≡ t = cc in
       choices_hold τ o u test (element l) start (sizes l)
-      (each_left (λ m x. (v : HwType) → result_type x 0 ≡ Some v → τ (result m 0) ≡ result_word τ x 0 (Some v)) (suc start) (choices o u test (element l) start (sizes l)) (leaf_choices o test element sizes (start + suc (sizes l)) (suc l) ts) rest)
+      (each_left (λ m x. (v : HwType) → result_type x 0 ≡ Some v → τ (result m 0) ≡ result_word τ x 0 (Some v)) (suc start) (choices o u test (element l) start (sizes l))
+      (leaf_choices o test element sizes (start + suc (sizes l)) (suc l) ts) rest)
       ∙ ap (picked τ (λ e. is_high (τ (test e))) (λ e. τ (element l e)) (sizes l)) (zero_holds u refl ∙ bits-zero (width u) ∙ ap (λ v. zeros (width v)) same)
       ∙ ap (λ m. picked τ (λ e. is_high (τ (test e))) (λ e. τ (element m e)) (sizes m) (zeros (width t))) (sym (add-zero l))
   leaf_choices_hold o test element sizes start l (u ∷ ts) (zero_holds, rest) (suc i) t is =
       ap (λ m. τ (result m 0)) (let e : start + (suc (sizes l) + choice_end sizes (suc l) i) ≡ start + suc (sizes l) + choice_end sizes (suc l) i = omega arith in e)
       ∙ leaf_choices_hold o test element sizes (start + suc (sizes l)) (suc l) ts
-      (subst (λ m. HoldsFrom τ m (leaf_choices o test element sizes (start + suc (sizes l)) (suc l) ts)) (let e : suc start + length (choices o u test (element l) start (sizes l)) ≡ start + suc (sizes l) = omega (arith, length-choices o u test (element l) start (sizes l)) in e)
-      (each_right (λ m x. (v : HwType) → result_type x 0 ≡ Some v → τ (result m 0) ≡ result_word τ x 0 (Some v)) (suc start) (choices o u test (element l) start (sizes l)) (leaf_choices o test element sizes (start + suc (sizes l)) (suc l) ts) rest)) i t is
+      (subst (λ m. HoldsFrom τ m (leaf_choices o test element sizes (start + suc (sizes l)) (suc l) ts))
+      (let e : suc start + length (choices o u test (element l) start (sizes l)) ≡ start + suc (sizes l) = omega (arith, length-choices o u test (element l) start (sizes l)) in e)
+      (each_right (λ m x. (v : HwType) → result_type x 0 ≡ Some v → τ (result m 0) ≡ result_word τ x 0 (Some v)) (suc start) (choices o u test (element l) start (sizes l))
+      (leaf_choices o test element sizes (start + suc (sizes l)) (suc l) ts) rest)) i t is
       ∙ ap (λ m. picked τ (λ e. is_high (τ (test e))) (λ e. τ (element m e)) (sizes m) (zeros (width t))) (let e : suc l + i ≡ l + suc i = omega arith in e)
 
 -- ---- the shape of a block
@@ -284,14 +288,14 @@ leaf_choices_plain o test element sizes m start l (t ∷ ts) = (
       (leaf_choices_plain o test element sizes (suc m + length (choices o t test (element l) start (sizes l))) (start + suc (sizes l)) (suc l) ts),
 )
 
-choice_type : (o : Op) (t : HwType) (test element : ℕ → Ref) (before n i : ℕ) → i < n → bind (slice_get (choices o t test element before n) i) (λ (x : Op). result_type x 0) ≡ Some t
+choice_type : (o : Op) (t : HwType) (test element : ℕ → Ref) (before n i : ℕ) → i < n → option_and_then (λ (x : Op). result_type x 0) (slice_get (choices o t test element before n) i) ≡ Some t
 choice_type o t test element before zero i below = absurd (omega arith)
 choice_type o t test element before (suc n) zero below = refl
 choice_type o t test element before (suc n) (suc i) below = choice_type o t test element (suc before) n i (omega arith)
 
 -- the last operation of a leaf has its type
 leaf_last : (o : Op) (test : ℕ → Ref) (element : ℕ → ℕ → Ref) (sizes : ℕ → ℕ) (start l : ℕ) (ts : List HwType) (i : ℕ) (u : HwType) → slice_get ts i ≡ Some u
-    → bind (slice_get (leaf_choices o test element sizes start l ts) (choice_end sizes l i)) (λ (x : Op). result_type x 0) ≡ Some u
+    → option_and_then (λ (x : Op). result_type x 0) (slice_get (leaf_choices o test element sizes start l ts) (choice_end sizes l i)) ≡ Some u
 leaf_last o test element sizes start l [] i u is = cc
 leaf_last o test element sizes start l (t ∷ ts) zero u is = go (sizes l) refl
   where
@@ -299,19 +303,22 @@ leaf_last o test element sizes start l (t ∷ ts) zero u is = go (sizes l) refl
     same = cc
 
     go : (k : ℕ) → sizes l ≡ k
-        → bind (slice_get (made_op o (constant (pos 0)) [] (t ∷ []) [] t ∷ (choices o t test (element l) start (sizes l) ++ leaf_choices o test element sizes (start + suc (sizes l)) (suc l) ts)) (sizes l)) (λ (x : Op). result_type x 0) ≡ Some u
+        → option_and_then (λ (x : Op). result_type x 0) (slice_get (made_op o (constant (pos 0)) [] (t ∷ []) [] t
+        ∷ (choices o t test (element l) start (sizes l) ++ leaf_choices o test element sizes (start + suc (sizes l)) (suc l) ts)) (sizes l)) ≡ Some u
     go zero size =
-        ap (λ m. bind (slice_get (made_op o (constant (pos 0)) [] (t ∷ []) [] t ∷ (choices o t test (element l) start (sizes l) ++ leaf_choices o test element sizes (start + suc (sizes l)) (suc l) ts)) m) (λ (x : Op). result_type x 0)) size
+        ap (λ m. option_and_then (λ (x : Op). result_type x 0) (slice_get (made_op o (constant (pos 0)) [] (t ∷ []) [] t
+        ∷ (choices o t test (element l) start (sizes l) ++ leaf_choices o test element sizes (start + suc (sizes l)) (suc l) ts)) m)) size
         ∙ ap Some same
     go (suc k) size =
         let there : k < length (choices o t test (element l) start (sizes l)) = omega (arith, length-choices o t test (element l) start (sizes l)) in
-        ap (λ m. bind (slice_get (made_op o (constant (pos 0)) [] (t ∷ []) [] t ∷ (choices o t test (element l) start (sizes l) ++ leaf_choices o test element sizes (start + suc (sizes l)) (suc l) ts)) m) (λ (x : Op). result_type x 0)) size
-        ∙ ap (λ x. bind x (λ (y : Op). result_type y 0)) (slice_get-append_left (choices o t test (element l) start (sizes l)) (leaf_choices o test element sizes (start + suc (sizes l)) (suc l) ts) k there)
+        ap (λ m. option_and_then (λ (x : Op). result_type x 0) (slice_get (made_op o (constant (pos 0)) [] (t ∷ []) [] t
+        ∷ (choices o t test (element l) start (sizes l) ++ leaf_choices o test element sizes (start + suc (sizes l)) (suc l) ts)) m)) size
+        ∙ ap (λ x. option_and_then (λ (y : Op). result_type y 0) x) (slice_get-append_left (choices o t test (element l) start (sizes l)) (leaf_choices o test element sizes (start + suc (sizes l)) (suc l) ts) k there)
         ∙ choice_type o t test (element l) start (sizes l) k (omega arith) ∙ ap Some same
 leaf_last o test element sizes start l (t ∷ ts) (suc i) u is =
-    ap (λ m. bind (slice_get (leaf_choices o test element sizes start l (t ∷ ts)) m) (λ (x : Op). result_type x 0))
+    ap (λ m. option_and_then (λ (x : Op). result_type x 0) (slice_get (leaf_choices o test element sizes start l (t ∷ ts)) m))
     (let e : suc (sizes l) + choice_end sizes (suc l) i ≡ suc (length (choices o t test (element l) start (sizes l)) + choice_end sizes (suc l) i) = omega (arith, length-choices o t test (element l) start (sizes l)) in e)
-    ∙ ap (λ x. bind x (λ (y : Op). result_type y 0))
+    ∙ ap (λ x. option_and_then (λ (y : Op). result_type y 0) x)
     (slice_get-append_right (choices o t test (element l) start (sizes l)) (leaf_choices o test element sizes (start + suc (sizes l)) (suc l) ts) (choice_end sizes (suc l) i))
     ∙ leaf_last o test element sizes (start + suc (sizes l)) (suc l) ts i u is
 
@@ -465,13 +472,13 @@ module _ (o : Op) (n w : ℕ) (sizes : ℕ → ℕ) (pick : List Ref → ℕ →
       (leaf_choices_plain o (test_at start) (pick (argument 0 args)) sizes (0 + length (first_part args start)) (start + 2 * n) 0 (all_leaves o))) place.0 x place.1
 
   choice_leaf : (args : List (List Ref)) (start l : ℕ) (u : HwType) → slice_get (all_leaves o) l ≡ Some u
-      → bind (slice_get (first_part args start ++ second_part args start) (2 * n + choice_end sizes 0 l)) (λ (x : Op). result_type x 0) ≡ Some u
+      → option_and_then (λ (x : Op). result_type x 0) (slice_get (first_part args start ++ second_part args start) (2 * n + choice_end sizes 0 l)) ≡ Some u
   choice_leaf args start l u at_u =
-      ap (λ m. bind (slice_get (first_part args start ++ second_part args start) (m + choice_end sizes 0 l)) (λ (x : Op). result_type x 0)) (sym (length-tests o w (index_of args) start 0 n))
-      ∙ ap (λ x. bind x (λ (y : Op). result_type y 0)) (slice_get-append_right (first_part args start) (second_part args start) (choice_end sizes 0 l))
+      ap (λ m. option_and_then (λ (x : Op). result_type x 0) (slice_get (first_part args start ++ second_part args start) (m + choice_end sizes 0 l))) (sym (length-tests o w (index_of args) start 0 n))
+      ∙ ap (λ x. option_and_then (λ (y : Op). result_type y 0) x) (slice_get-append_right (first_part args start) (second_part args start) (choice_end sizes 0 l))
       ∙ leaf_last o (test_at start) (pick (argument 0 args)) sizes (start + 2 * n) 0 (all_leaves o) l u at_u
 
-  choice_shape : SplitsShape (choice_row o n w sizes pick) stand o
+  choice_shape : SplitsShape (choice_rule o n w sizes pick) stand o
   choice_shape = record {
     size = λ start. choice_size (map stand o.operands) start;
     anchor = λ anchored start. let clash : true ≡ false = sym anchored ∙ plain_o in cc;
@@ -524,10 +531,10 @@ module _ (o : Op) (n w : ℕ) (sizes : ℕ → ℕ) (pick : List Ref → ℕ →
         own_first = each_left (OwnType new_type stand start o.operands) 0 (first_part args start) (second_part args start) own
 
     choice_words : (τ : Ref → Word) → ((r : Ref) → HasWidth (new_type r) (τ r)) → HoldsFrom τ start (first_part args start ++ second_part args start)
-        → result_word (whole stand τ) o 0 (Some t) ≡ concat_words (map τ (in_row (leaf_ref (choice_row o n w sizes pick) start o) 0 (length (leaves t))))
+        → result_word (whole stand τ) o 0 (Some t) ≡ concat_words (map τ (in_row (leaf_ref (choice_rule o n w sizes pick) start o) 0 (length (leaves t))))
     choice_words τ wide holds =
-        wells.words τ wide (λ l. τ (leaf_ref (choice_row o n w sizes pick) start o l)) leaf_is index_word
-        ∙ ap concat_words (sym (map-in_row τ (leaf_ref (choice_row o n w sizes pick) start o) 0 (length (leaves t))))
+        wells.words τ wide (λ l. τ (leaf_ref (choice_rule o n w sizes pick) start o l)) leaf_is index_word
+        ∙ ap concat_words (sym (map-in_row τ (leaf_ref (choice_rule o n w sizes pick) start o) 0 (length (leaves t))))
       where
         index_word : whole stand τ index_ref ≡ τ index
         index_word =
@@ -546,7 +553,7 @@ module _ (o : Op) (n w : ℕ) (sizes : ℕ → ℕ) (pick : List Ref → ℕ →
             (each_right (λ m x. (v : HwType) → result_type x 0 ≡ Some v → τ (result m 0) ≡ result_word τ x 0 (Some v)) start (first_part args start) (second_part args start) holds)
 
         leaf_is : (l : ℕ) (u : HwType) → slice_get (leaves t) l ≡ Some u
-            → τ (leaf_ref (choice_row o n w sizes pick) start o l) ≡ cond (nat_lt (number (τ index)) (sizes l)) (τ (pick (stand array_ref) l (number (τ index)))) (zeros (width u))
+            → τ (leaf_ref (choice_rule o n w sizes pick) start o l) ≡ cond (nat_lt (number (τ index)) (sizes l)) (τ (pick (stand array_ref) l (number (τ index)))) (zeros (width u))
         leaf_is l u at_u =
             let small : sizes l ≤ n = few l in
             ap (λ b. τ (cond b (result start l) (result (start + (2 * n + choice_end sizes 0 l)) 0))) (plain_not_one o plain_o)
@@ -557,7 +564,7 @@ module _ (o : Op) (n w : ℕ) (sizes : ℕ → ℕ) (pick : List Ref → ℕ →
             (λ e below. tests_hold τ o w index start 0 n index_size (omega arith) tests_held e (omega arith) ∙ ap (λ m. number (τ index) == m) (zero-add e))
 
   pub choice_splits : ((new_type : Ref → Option HwType) → ((r : Ref) (u : HwType) → old_type r ≡ Some u → map new_type (stand r) ≡ map (λ (v : HwType). Some v) (leaves u))
-      → ChoiceWell o array_ref index_ref sizes pick stand t new_type) → Splits (choice_row o n w sizes pick) old_type stand o
+      → ChoiceWell o array_ref index_ref sizes pick stand t new_type) → Splits (choice_rule o n w sizes pick) old_type stand o
   unfolding OwnType GoodOp
   choice_splits well = record {
     shape = choice_shape;
@@ -571,7 +578,7 @@ module _ (o : Op) (n w : ℕ) (sizes : ℕ → ℕ) (pick : List Ref → ℕ →
           fits = λ i x at_i. (good_at new_type start good i x at_i).0;
           operands = λ i x r at_i here. (good_at new_type start good i x at_i).1 r here;
           words = λ τ wide holds.
-              one_row o t (λ k u. result_word (whole stand τ) o k (Some u) ≡ concat_words (map τ (in_row (leaf_ref (choice_row o n w sizes pick) start o) (result_start o k) (length (leaves u))))) one
+              one_rule o t (λ k u. result_word (whole stand τ) o k (Some u) ≡ concat_words (map τ (in_row (leaf_ref (choice_rule o n w sizes pick) start o) (result_start o k) (length (leaves u))))) one
               (choice_words new_type stands.typed (well new_type stands.typed) start τ wide
               (subst (λ given_args. HoldsFrom τ start (first_part given_args start ++ second_part given_args start)) arguments
               (each_from (λ m x. (v : HwType) → result_type x 0 ≡ Some v → τ (result m 0) ≡ result_word τ x 0 (Some v)) start (first_part (map stand o.operands) start ++ second_part (map stand o.operands) start)
@@ -601,7 +608,7 @@ element_typed new_type rs n e typed l k u at_u below =
     (found.1, found.0)
 
 pub get_splits : (o : Op) (n w : ℕ) (old_type : Ref → Option HwType) (stand : Ref → List Ref) (t : HwType) → o.kind ≡ on_array array_get → result_types o ≡ t ∷ []
-    → map old_type o.operands ≡ Some (array n t) ∷ Some (int w) ∷ [] → nth_type o.types 0 ≡ array n t → n ≤ 2 ^ w → Splits (get_row o n w) old_type stand o
+    → map old_type o.operands ≡ Some (array n t) ∷ Some (int w) ∷ [] → nth_type o.types 0 ≡ array n t → n ≤ 2 ^ w → Splits (get_rule o n w) old_type stand o
 get_splits o n w old_type stand t is one given written enough =
     choice_splits o n w (λ l. n) (element_leaf n (length (all_leaves o))) old_type stand t (plain_kind o (on_array array_get) is refl) one enough (λ l. omega arith) operands.0 operands.1 operands.2 operands.4
     (λ new_type typed.
@@ -624,10 +631,10 @@ get_splits o n w old_type stand t is one given written enough =
 pub leaf_number : (m k a l : ℕ) → a < k → l < m → (element_of k m (a * m + l) ≡ k - suc a) × ((a * m + l) % m ≡ l)
 leaf_number m k a l few below = (ap (λ x. k - suc x) (div-mul-add a m l below), mod-mul-add a m l below)
 
-row_cut : {A : Type 0} (f : ℕ → A) (s n m : ℕ) → in_row f s (n + m) ≡ in_row f s n ++ in_row f (s + n) m
-row_cut f s zero m = ap (λ k. in_row f s k) (zero-add m) ∙ ap (λ k. in_row f k m) (sym (add-zero s))
-row_cut f s (suc n) m =
-    ap (λ k. in_row f s k) (suc-add n m) ∙ ap (λ xs. f s ∷ xs) (row_cut f (suc s) n m)
+rule_cut : {A : Type 0} (f : ℕ → A) (s n m : ℕ) → in_row f s (n + m) ≡ in_row f s n ++ in_row f (s + n) m
+rule_cut f s zero m = ap (λ k. in_row f s k) (zero-add m) ∙ ap (λ k. in_row f k m) (sym (add-zero s))
+rule_cut f s (suc n) m =
+    ap (λ k. in_row f s k) (suc-add n m) ∙ ap (λ xs. f s ∷ xs) (rule_cut f (suc s) n m)
     ∙ ap (λ k. f s ∷ (in_row f (suc s) n ++ in_row f k m)) (let e : suc s + n ≡ s + suc n = omega arith in e)
 
 -- words below a number joined, the highest first
@@ -636,20 +643,20 @@ stacked h zero = []
 stacked h (suc j) = h j ++ stacked h j
 
 -- the same where each is given by its leaves
-pub stacked_rows : (h : ℕ → Word) (m k : ℕ) (g : ℕ → Word) → ((j : ℕ) → j < k → h j ≡ concat_words (in_row g ((k - suc j) * m) m)) → stacked h k ≡ concat_words (in_row g 0 (k * m))
-stacked_rows h m k g each = go k 0 (let q : 0 + k * m ≡ k * m = omega arith in q) (omega arith)
+pub stacked_rules : (h : ℕ → Word) (m k : ℕ) (g : ℕ → Word) → ((j : ℕ) → j < k → h j ≡ concat_words (in_row g ((k - suc j) * m) m)) → stacked h k ≡ concat_words (in_row g 0 (k * m))
+stacked_rules h m k g each = go k 0 (let q : 0 + k * m ≡ k * m = omega arith in q) (omega arith)
   where
     go : (j s : ℕ) → s + j * m ≡ k * m → j ≤ k → stacked h j ≡ concat_words (in_row g s (j * m))
     go zero s place few = ap (λ x. concat_words (in_row g s x)) (sym (zero-mul m))
     go (suc j) s place few =
         let more : suc j * m ≡ j * m + m = suc-mul j m in
-        let front : ((k - suc j) + suc j) * m ≡ (k - suc j) * m + suc j * m = add-mul (k - suc j) (suc j) m in
+        let prefix : ((k - suc j) + suc j) * m ≡ (k - suc j) * m + suc j * m = add-mul (k - suc j) (suc j) m in
         let whole_is : ((k - suc j) + suc j) * m ≡ k * m = ap (λ x. x * m) (let q : (k - suc j) + suc j ≡ k = omega arith in q) in
         let begins : (k - suc j) * m ≡ s = omega arith in
         ap₂ (λ x y. x ++ y) (each j (omega arith) ∙ ap (λ x. concat_words (in_row g x m)) begins)
         (go j (s + m) (omega arith) (omega arith))
         ∙ sym (concat-append (in_row g s m) (in_row g (s + m) (j * m)))
-        ∙ ap concat_words (sym (row_cut g s m (j * m)))
+        ∙ ap concat_words (sym (rule_cut g s m (j * m)))
         ∙ ap (λ x. concat_words (in_row g s x)) (let q : m + j * m ≡ suc j * m = omega arith in q)
 
 elements_stacked : (t : HwType) (a : Word) (i k : ℕ) → elements_from t a i k ≡ stacked (λ j. element t a (i + j)) k
@@ -657,7 +664,7 @@ elements_stacked t a i zero = refl
 elements_stacked t a i (suc k) = ap (λ x. element t a (i + k) ++ x) (elements_stacked t a i k)
 
 pub slice_splits : (o : Op) (n k w : ℕ) (old_type : Ref → Option HwType) (stand : Ref → List Ref) (e t : HwType) → o.kind ≡ on_array array_slice → result_types o ≡ t ∷ [] → t ≡ array k e
-    → map old_type o.operands ≡ Some (array n e) ∷ Some (int w) ∷ [] → nth_type o.types 0 ≡ array n e → n ≤ 2 ^ w → Splits (slice_row o n k (length (leaves e)) w) old_type stand o
+    → map old_type o.operands ≡ Some (array n e) ∷ Some (int w) ∷ [] → nth_type o.types 0 ≡ array n e → n ≤ 2 ^ w → Splits (slice_rule o n k (length (leaves e)) w) old_type stand o
 slice_splits o n k w old_type stand e t is one t_is given written enough =
     choice_splits o n w (λ l. n - element_of k (length (leaves e)) l) (λ rs l j. element_leaf n (length (leaves e)) rs (l % length (leaves e)) (j + element_of k (length (leaves e)) l)) old_type stand t
     (plain_kind o (on_array array_slice) is refl) one enough (λ l. omega arith) operands.0 operands.1 operands.2 operands.4
@@ -672,12 +679,12 @@ slice_splits o n k w old_type stand e t is one t_is given written enough =
           ∙ ap₂ (λ u v. slice_of u (whole stand τ operands.0) (number (whole stand τ operands.1)) v) written t_is
           ∙ ap (λ x. elements_from (array n e) (whole stand τ operands.0) (number x) k) index_word
           ∙ elements_stacked (array n e) (whole stand τ operands.0) (number (τ (part (stand operands.1) 0))) k
-          ∙ stacked_rows (λ j. element (array n e) (whole stand τ operands.0) (number (τ (part (stand operands.1) 0)) + j)) (length (leaves e)) k g
+          ∙ stacked_rules (λ j. element (array n e) (whole stand τ operands.0) (number (τ (part (stand operands.1) 0)) + j)) (length (leaves e)) k g
           (λ j below.
           picked_words new_type τ wide n e (stand operands.0) (typed operands.0 (array n e) operands.3) (number (τ (part (stand operands.1) 0)) + j)
           (λ l. g ((k - suc j) * length (leaves e) + l))
           (λ l u at_u. element_word τ g is_g j below l u at_u)
-          ∙ ap concat_words (row_shift g ((k - suc j) * length (leaves e)) 0 (length (leaves e)) ∙ ap (λ x. in_row g x (length (leaves e))) (add-zero ((k - suc j) * length (leaves e)))))
+          ∙ ap concat_words (rule_shift g ((k - suc j) * length (leaves e)) 0 (length (leaves e)) ∙ ap (λ x. in_row g x (length (leaves e))) (add-zero ((k - suc j) * length (leaves e)))))
           ∙ ap (λ x. concat_words (in_row g 0 x)) (sym (ap (λ x. length (leaves x)) t_is ∙ copies_length k (leaves e)));
     })
   where

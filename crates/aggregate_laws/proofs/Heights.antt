@@ -1,10 +1,10 @@
 -- The nets of a design with the leaves of another's values have heights where the other's have.
-use Rattle.std.proofs.Common.{◌≡◌, ℕ, suc, ◌+◌, ◌-◌, ◌*◌, ◌<◌, ◌≤◌, Bool, true, false, cond, List, [], ◌∷◌, length, map, take, flat_map, slice_get, Option, Some, None, is_some, refl, sym, ap, ap₂, subst, ◌∙◌, inl, inr, arith, suc-mul}
+use Rattle.std.proofs.Common.{◌≡◌, ℕ, suc, ◌+◌, ◌-◌, ◌*◌, ◌<◌, ◌≤◌, Bool, true, false, cond, List, [], ◌∷◌, length, map, take, flat_map, slice_get, Option, Some, None, is_some, refl, sym, ap, ap₂}
+use Rattle.std.proofs.Common.{subst, ◌∙◌, inl, inr, arith, suc-mul, option_and_then, option_map}
 use Rattle.std.proofs.Math.Nat.{mul-le-mul}
 use Rattle.std.proofs.lemmas.Option.{slice_get-map, slice_get_within}
-use Rattle.wiring.specs.Options.{bind, omap}
 use Rattle.wiring.specs.Wiring.{In, IsHeight}
-use Rattle.wiring.proofs.Options.{bind_some, omap_some}
+use Rattle.wiring.proofs.Options.{and_then_some, option_map_some}
 use Rattle.wiring.proofs.Members.{In-slice_get, from_In-map}
 use Rattle.wiring.proofs.Heights.{heights, FallsAlong-height}
 use Rattle.hw_model.specs.Types.{Name, HwType, width, leaves}
@@ -19,8 +19,8 @@ use Rattle.hw_model.proofs.Sorts.{Sort, sort_of, instance_found}
 use Rattle.hw_model.proofs.Sorts.Sort.{a_register, an_instance, an_output, a_made}
 use Rattle.hw_model.proofs.Paths.{input_ports, joined_body, port_of, op_in, result_in, result_here}
 use Rattle.hw_model.proofs.NetWidths.{sound_at, input_found}
-use Rattle.hw_edits.specs.Edit.{is_anchor}
-use Rattle.hw_edits.proofs.Heights.{local_height}
+use Rattle.edit_laws.specs.Edit.{is_anchor}
+use Rattle.edit_laws.proofs.Heights.{local_height}
 use Rattle.aggregate_laws.specs.Leaves.{in_row, leaf_ports, leaf_start, parts_of_port, bare_op, spread, result_types, result_start}
 use Rattle.aggregate_laws.specs.Lowered.{LoweredWell}
 use Rattle.aggregate_laws.proofs.Lists.{In-in_row, flat_map_position, flat_map_lengths}
@@ -91,11 +91,11 @@ module _ (scale : ℕ) (d d' : Design) (each : (s : Name) → LoweredWell scale 
       (ap needs_of (input_ports j' (find_module d' top)) ∙ input_needs (slice_get (ports_of (find_module d' top)) j') (input_width (take j' (ports_of (find_module d' top))))) need)
   port_falls (u ∷ p) j' b need = subst (λ y. lifted y < lifted (net (u ∷ p) (port j'))) (sym copied.2) inner
     where
-      copied : (r : Ref) × (bind (module_at d' top p) (joined_at d' u j') ≡ Some r) × (b ≡ net p r)
-      copied = copy_need p (bind (module_at d' top p) (joined_at d' u j')) b need
+      copied : (r : Ref) × (option_and_then (joined_at d' u j') (module_at d' top p) ≡ Some r) × (b ≡ net p r)
+      copied = copy_need p (option_and_then (joined_at d' u j') (module_at d' top p)) b need
 
       from : (o' : Op) × (slice_get (instances (body_of (module_at d' top p))) u ≡ Some o') × (joined_ref d' j' o' ≡ Some copied.0)
-      from = bind_some (slice_get (instances (body_of (module_at d' top p))) u) (joined_ref d' j') (sym (joined_body d' u j' (module_at d' top p)) ∙ copied.1)
+      from = and_then_some (slice_get (instances (body_of (module_at d' top p))) u) (joined_ref d' j') (sym (joined_body d' u j' (module_at d' top p)) ∙ copied.1)
 
       old : (o : Op) × (slice_get (instances (body_of (module_at d top p))) u ≡ Some o) × (spread (parts_at scale d d' each top p) o ≡ bare_op from.0)
       old = instance_back scale d d' each top p u from.0 from.1
@@ -145,7 +145,7 @@ module _ (scale : ℕ) (d d' : Design) (each : (s : Name) → LoweredWell scale 
       copied_before : source d top (net (u ∷ p) (port leaf.0)) ≡ copy (net p operand.0)
       copied_before =
           ap (copy_of p)
-          (joined_body d u leaf.0 (module_at d top p) ∙ ap (λ x. bind x (joined_ref d leaf.0)) old.1 ∙ port_of (callee d old.0) old.0.operands leaf.0
+          (joined_body d u leaf.0 (module_at d top p) ∙ ap (λ x. option_and_then (joined_ref d leaf.0) x) old.1 ∙ port_of (callee d old.0) old.0.operands leaf.0
           ∙ ap (λ m. port_ref (ports_of m) old.0.operands leaf.0) (sym (inside scale d d' each top p u old.0 old.1))
           ∙ ap (λ x. operand_for x old.0.operands (input_count (take leaf.0 (ports_of (module_at d top (u ∷ p)))))) leaf.3
           ∙ ap (λ b. cond b None (slice_get old.0.operands (input_count (take leaf.0 (ports_of (module_at d top (u ∷ p))))))) leaf.4
@@ -198,11 +198,11 @@ module _ (scale : ℕ) (d d' : Design) (each : (s : Name) → LoweredWell scale 
 
       out_type : (t : HwType) × (slice_get (result_types o) found.0 ≡ Some t)
       out_type =
-          let e : omap (λ (t : HwType). Some t) (slice_get (result_types o) found.0) ≡ Some (type_in (ports_of (module_at d top path)) (body_of (module_at d top path)) found.2) =
+          let e : option_map (λ (t : HwType). Some t) (slice_get (result_types o) found.0) ≡ Some (type_in (ports_of (module_at d top path)) (body_of (module_at d top path)) found.2) =
           sym (slice_get-map (λ (t : HwType). Some t) (result_types o) found.0) ∙ ap (λ xs. slice_get xs found.0) (sym given_typed)
           ∙ slice_get-map (type_in (ports_of (module_at d top path)) (body_of (module_at d top path))) (output_refs (body_of (module_at d top path))) found.0
-          ∙ ap (omap (type_in (ports_of (module_at d top path)) (body_of (module_at d top path)))) found.3 in
-          let some = omap_some (λ (t : HwType). Some t) (slice_get (result_types o) found.0) e in
+          ∙ ap (option_map (type_in (ports_of (module_at d top path)) (body_of (module_at d top path)))) found.3 in
+          let some = option_map_some (λ (t : HwType). Some t) (slice_get (result_types o) found.0) e in
           (some.0, some.1)
 
       out_typed : type_in (ports_of (module_at d top path)) (body_of (module_at d top path)) found.2 ≡ Some out_type.0
@@ -252,7 +252,7 @@ module _ (scale : ℕ) (d d' : Design) (each : (s : Name) → LoweredWell scale 
           cc
       by_origin o n is inst (of_other j y at_j none anchored alike place) =
           let called : called_symbol y.kind ≡ Some n.symbol =
-          sym (called_bare y.kind) ∙ ap (λ (w : Op). called_symbol w.kind) (sym alike) ∙ called_bare o.kind ∙ ap (omap (λ (m : Instance). m.symbol)) inst in
+          sym (called_bare y.kind) ∙ ap (λ (w : Op). called_symbol w.kind) (sym alike) ∙ called_bare o.kind ∙ ap (option_map (λ (m : Instance). m.symbol)) inst in
           let found = called_instance y.kind n.symbol called in
           instance_falls p j' k j y found.0 at_j found.1 place o is (instance_anchor o n inst) b need
 

@@ -1,10 +1,10 @@
 -- An array with another element by its leaves: a test for each index, and a multiplexer for each leaf.
-use Rattle.std.proofs.Common.{◌≡◌, ◌⊎◌, ℕ, zero, suc, ◌+◌, ◌-◌, ◌*◌, ◌%◌, ◌^◌, ◌<◌, ◌≤◌, Bool, true, false, cond, ◌==◌, List, [], ◌∷◌, ◌++◌, length, map, slice_get, Option, Some, refl, sym, ap, ap₂, subst, ◌∙◌, inl, inr, arith, zero-add, add-zero, append-nil, length-append, ◌≢◌}
+use Rattle.std.proofs.Common.{◌≡◌, ◌⊎◌, ℕ, zero, suc, ◌+◌, ◌-◌, ◌*◌, ◌%◌, ◌^◌, ◌<◌, ◌≤◌, Bool, true, false, cond, ◌==◌, List, [], ◌∷◌, ◌++◌, length, map, slice_get, Option, Some, refl, sym, ap, ap₂}
+use Rattle.std.proofs.Common.{subst, ◌∙◌, inl, inr, arith, zero-add, add-zero, append-nil, length-append, ◌≢◌, option_and_then, option_map}
 use Rattle.std.proofs.lemmas.Bool.{lt-ltb, eq-eqb, ne_eqb}
 use Rattle.std.proofs.lemmas.Bool.Decides.{eqb_tells}
-use Rattle.wiring.specs.Options.{bind, omap}
 use Rattle.wiring.specs.Wiring.{In}
-use Rattle.wiring.proofs.Options.{omap_some}
+use Rattle.wiring.proofs.Options.{option_map_some}
 use Rattle.wiring.proofs.Lists.{slice_get_some, slice_get-append_right}
 use Rattle.wiring.proofs.Members.{position_of_In}
 use Rattle.bits_core.specs.Word.{Word, number, zeros, extract}
@@ -16,20 +16,21 @@ use Rattle.hw_model.specs.Value.{concat_words, element, injected_below, inject_e
 use Rattle.hw_model.specs.Design.{Ref, Op, result_type}
 use Rattle.hw_model.specs.Design.Ref.{result}
 use Rattle.hw_model.specs.Sound.{HasWidth, OpFits}
-use Rattle.hw_edits.specs.Edit.{is_anchor, result_word}
+use Rattle.edit_laws.specs.Edit.{is_anchor, result_word}
 use Rattle.aggregate_laws.specs.Leaves.{in_row, part, result_types, result_start}
 use Rattle.aggregate_laws.specs.Lowered.{whole}
 use Rattle.aggregate_laws.specs.Rules.{Splits, SplitsShape, StandsBefore, leaf_ref}
-use Rattle.aggregate_laws.specs.Rows.{made_op, all_leaves, argument, for_each}
-use Rattle.aggregate_laws.specs.Choices.{tests, test_at, element_of, array_inject_row}
+use Rattle.aggregate_laws.specs.OperationRules.{made_op, all_leaves, argument, for_each}
+use Rattle.aggregate_laws.specs.Choices.{tests, test_at, element_of, array_inject_rule}
 use Rattle.aggregate_laws.proofs.Lists.{map-in_row}
 use Rattle.aggregate_laws.proofs.Bare.{type_listed}
 use Rattle.aggregate_laws.proofs.Registers.{single}
 use Rattle.aggregate_laws.proofs.Bodies.{plain_not_one, plain_no_register}
 use Rattle.aggregate_laws.proofs.Leafwise.{made_fits, leaf_among, length-for_each, for_each_at}
-use Rattle.aggregate_laws.proofs.Joins.{row_alike, plain_kind}
-use Rattle.aggregate_laws.proofs.Muxes.{three_operands, part_there, typed_size, words_in_row, one_row, all_of_one}
-use Rattle.aggregate_laws.proofs.Gets.{length-tests, EachOp, each_at, each_append, each_from, each_left, each_right, HoldsFrom, tests_hold, PlainOp, tests_plain, OwnType, GoodOp, tests_good, tests_typed, element_words, row_shift, copies_at, copies_length, copies_place, leaf_number, stacked, stacked_rows}
+use Rattle.aggregate_laws.proofs.Joins.{rule_alike, plain_kind}
+use Rattle.aggregate_laws.proofs.Muxes.{three_operands, part_there, typed_size, words_in_rule, one_rule, all_of_one}
+use Rattle.aggregate_laws.proofs.Gets.{length-tests, EachOp, each_at, each_append, each_from, each_left, each_right, HoldsFrom, tests_hold, PlainOp, tests_plain, OwnType, GoodOp, tests_good}
+use Rattle.aggregate_laws.proofs.Gets.{tests_typed, element_words, rule_shift, copies_at, copies_length, copies_place, leaf_number, stacked, stacked_rules}
 
 injected_stacked : (t : HwType) (a : Word) (i : ℕ) (v : Word) (k : ℕ) → injected_below k t a i v ≡ stacked (λ j. cond (j == i) v (element t a j)) k
 injected_stacked t a i v zero = refl
@@ -68,8 +69,8 @@ module _ (o : Op) (n w : ℕ) (old_type : Ref → Option HwType) (stand : Ref �
 
   found_mux : (args : List (List Ref)) (start i : ℕ) (x : Op) → slice_get (second_part args start) i ≡ Some x → (u : HwType) × (slice_get (all_leaves o) i ≡ Some u) × (leaf_mux args start i u ≡ x)
   found_mux args start i x at_i =
-      omap_some (leaf_mux args start i) (slice_get (all_leaves o) i)
-      (ap (λ m. omap (leaf_mux args start m) (slice_get (all_leaves o) i)) (sym (zero-add i)) ∙ sym (for_each_at (leaf_mux args start) (all_leaves o) 0 i) ∙ at_i)
+      option_map_some (leaf_mux args start i) (slice_get (all_leaves o) i)
+      (ap (λ m. option_map (leaf_mux args start m) (slice_get (all_leaves o) i)) (sym (zero-add i)) ∙ sym (for_each_at (leaf_mux args start) (all_leaves o) 0 i) ∙ at_i)
 
   inject_size : (args : List (List Ref)) (start : ℕ) → length (first_part args start ++ second_part args start) ≡ 2 * n + length (all_leaves o)
   inject_size args start =
@@ -86,13 +87,13 @@ module _ (o : Op) (n w : ℕ) (old_type : Ref → Option HwType) (stand : Ref �
       (λ i y at_i. let found = found_mux args start i y at_i in ap is_anchor (sym found.2)))) place.0 x place.1
 
   inject_leaf : (args : List (List Ref)) (start l : ℕ) (u : HwType) → slice_get (all_leaves o) l ≡ Some u
-      → bind (slice_get (first_part args start ++ second_part args start) (2 * n + l)) (λ (x : Op). result_type x 0) ≡ Some u
+      → option_and_then (λ (x : Op). result_type x 0) (slice_get (first_part args start ++ second_part args start) (2 * n + l)) ≡ Some u
   inject_leaf args start l u at_u =
-      ap (λ m. bind (slice_get (first_part args start ++ second_part args start) (m + l)) (λ (x : Op). result_type x 0)) (sym (length-tests o w (part (argument 1 args) 0) start 0 n))
-      ∙ ap (λ x. bind x (λ (y : Op). result_type y 0)) (slice_get-append_right (first_part args start) (second_part args start) l)
-      ∙ ap (λ x. bind x (λ (y : Op). result_type y 0)) (for_each_at (leaf_mux args start) (all_leaves o) 0 l ∙ ap (omap (leaf_mux args start (0 + l))) at_u)
+      ap (λ m. option_and_then (λ (x : Op). result_type x 0) (slice_get (first_part args start ++ second_part args start) (m + l))) (sym (length-tests o w (part (argument 1 args) 0) start 0 n))
+      ∙ ap (λ x. option_and_then (λ (y : Op). result_type y 0) x) (slice_get-append_right (first_part args start) (second_part args start) l)
+      ∙ ap (λ x. option_and_then (λ (y : Op). result_type y 0) x) (for_each_at (leaf_mux args start) (all_leaves o) 0 l ∙ ap (option_map (leaf_mux args start (0 + l))) at_u)
 
-  inject_shape : SplitsShape (array_inject_row o n (length (leaves e)) w) stand o
+  inject_shape : SplitsShape (array_inject_rule o n (length (leaves e)) w) stand o
   inject_shape = record {
     size = λ start. inject_size (map stand o.operands) start;
     anchor = λ anchored start. let clash : true ≡ false = sym anchored ∙ plain_o in cc;
@@ -169,18 +170,18 @@ module _ (o : Op) (n w : ℕ) (old_type : Ref → Option HwType) (stand : Ref �
             member r (inr (inr (inr never))) = absurd never
 
     inject_words : (τ : Ref → Word) → ((r : Ref) → HasWidth (new_type r) (τ r)) → HoldsFrom τ start (first_part args start ++ second_part args start)
-        → result_word (whole stand τ) o 0 (Some t) ≡ concat_words (map τ (in_row (leaf_ref (array_inject_row o n (length (leaves e)) w) start o) 0 (length (leaves t))))
+        → result_word (whole stand τ) o 0 (Some t) ≡ concat_words (map τ (in_row (leaf_ref (array_inject_rule o n (length (leaves e)) w) start o) 0 (length (leaves t))))
     inject_words τ wide holds =
         ap₂ (λ k rs. op_value k o.types t 0 (map (whole stand τ) rs)) is operands.3
         ∙ ap (λ u. inject_element u (whole stand τ operands.0) (number (whole stand τ operands.1)) (whole stand τ operands.2)) (written ∙ t_is)
         ∙ ap (λ x. injected_below n (array n e) (whole stand τ operands.0) (number x) (whole stand τ operands.2)) index_word
         ∙ injected_stacked (array n e) (whole stand τ operands.0) (number (τ index)) (whole stand τ operands.2) n
-        ∙ stacked_rows (λ j. cond (j == number (τ index)) (whole stand τ operands.2) (element (array n e) (whole stand τ operands.0) j)) (length (leaves e)) n g element_row
+        ∙ stacked_rules (λ j. cond (j == number (τ index)) (whole stand τ operands.2) (element (array n e) (whole stand τ operands.0) j)) (length (leaves e)) n g element_rule
         ∙ ap (λ x. concat_words (in_row g 0 x)) (sym (ap (λ x. length (leaves x)) t_is ∙ copies_length n (leaves e)))
-        ∙ ap concat_words (sym (map-in_row τ (leaf_ref (array_inject_row o n (length (leaves e)) w) start o) 0 (length (leaves t))))
+        ∙ ap concat_words (sym (map-in_row τ (leaf_ref (array_inject_rule o n (length (leaves e)) w) start o) 0 (length (leaves t))))
       where
         g : ℕ → Word
-        g l = τ (leaf_ref (array_inject_row o n (length (leaves e)) w) start o l)
+        g l = τ (leaf_ref (array_inject_rule o n (length (leaves e)) w) start o l)
 
         index_word : whole stand τ operands.1 ≡ τ index
         index_word =
@@ -198,12 +199,12 @@ module _ (o : Op) (n w : ℕ) (old_type : Ref → Option HwType) (stand : Ref �
 
         -- a leaf is the value's where the index is that of its element
         leaf_is : (l : ℕ) (u : HwType) → slice_get (all_leaves o) l ≡ Some u
-            → τ (leaf_ref (array_inject_row o n (length (leaves e)) w) start o l)
+            → τ (leaf_ref (array_inject_rule o n (length (leaves e)) w) start o l)
             ≡ cond (number (τ index) == element_of n (length (leaves e)) l) (τ (part (stand operands.2) (l % length (leaves e)))) (τ (part (stand operands.0) l))
         leaf_is l u at_u =
             let some : 0 < n = some_copies n l (leaves e) u (leaf_copy l u at_u) in
             let there : slice_get (second_part args start) l ≡ Some (leaf_mux args start l u) =
-            for_each_at (leaf_mux args start) (all_leaves o) 0 l ∙ ap (λ m. omap (leaf_mux args start m) (slice_get (all_leaves o) l)) (zero-add l) ∙ ap (omap (leaf_mux args start l)) at_u in
+            for_each_at (leaf_mux args start) (all_leaves o) 0 l ∙ ap (λ m. option_map (leaf_mux args start m) (slice_get (all_leaves o) l)) (zero-add l) ∙ ap (option_map (leaf_mux args start l)) at_u in
             ap (λ b. τ (cond b (result start l) (result (start + (2 * n + l)) 0))) (plain_not_one o plain_o)
             ∙ ap (λ m. τ (result m 0)) (let q : start + (2 * n + l) ≡ start + length (first_part args start) + l = omega (arith, length-tests o w index start 0 n) in q)
             ∙ each_at (λ m x. (v : HwType) → result_type x 0 ≡ Some v → τ (result m 0) ≡ result_word τ x 0 (Some v)) (start + length (first_part args start)) (second_part args start) muxes_held l (leaf_mux args start l u) there u refl
@@ -211,26 +212,26 @@ module _ (o : Op) (n w : ℕ) (old_type : Ref → Option HwType) (stand : Ref �
             (tests_hold τ o w index start 0 n index_size (omega arith) tests_held (element_of n (length (leaves e)) l) (omega arith)
             ∙ ap (λ m. number (τ index) == m) (zero-add (element_of n (length (leaves e)) l)))
 
-        element_row : (j : ℕ) → j < n → cond (j == number (τ index)) (whole stand τ operands.2) (element (array n e) (whole stand τ operands.0) j)
-            ≡ concat_words (in_row (λ l. τ (leaf_ref (array_inject_row o n (length (leaves e)) w) start o l)) ((n - suc j) * length (leaves e)) (length (leaves e)))
-        element_row j below =
+        element_rule : (j : ℕ) → j < n → cond (j == number (τ index)) (whole stand τ operands.2) (element (array n e) (whole stand τ operands.0) j)
+            ≡ concat_words (in_row (λ l. τ (leaf_ref (array_inject_rule o n (length (leaves e)) w) start o l)) ((n - suc j) * length (leaves e)) (length (leaves e)))
+        element_rule j below =
             by_test (j == number (τ index))
             ∙ ap concat_words
-            (row_alike (λ l. cond (j == number (τ index)) (τ (part (stand operands.2) l)) (τ (part (stand operands.0) ((n - suc j) * length (leaves e) + l))))
-            (λ l. τ (leaf_ref (array_inject_row o n (length (leaves e)) w) start o ((n - suc j) * length (leaves e) + l))) 0 (length (leaves e)) leaf_same
-            ∙ row_shift (λ l. τ (leaf_ref (array_inject_row o n (length (leaves e)) w) start o l)) ((n - suc j) * length (leaves e)) 0 (length (leaves e))
-            ∙ ap (λ x. in_row (λ l. τ (leaf_ref (array_inject_row o n (length (leaves e)) w) start o l)) x (length (leaves e))) (add-zero ((n - suc j) * length (leaves e))))
+            (rule_alike (λ l. cond (j == number (τ index)) (τ (part (stand operands.2) l)) (τ (part (stand operands.0) ((n - suc j) * length (leaves e) + l))))
+            (λ l. τ (leaf_ref (array_inject_rule o n (length (leaves e)) w) start o ((n - suc j) * length (leaves e) + l))) 0 (length (leaves e)) leaf_same
+            ∙ rule_shift (λ l. τ (leaf_ref (array_inject_rule o n (length (leaves e)) w) start o l)) ((n - suc j) * length (leaves e)) 0 (length (leaves e))
+            ∙ ap (λ x. in_row (λ l. τ (leaf_ref (array_inject_rule o n (length (leaves e)) w) start o l)) x (length (leaves e))) (add-zero ((n - suc j) * length (leaves e))))
           where
             by_test : (b : Bool) → cond b (whole stand τ operands.2) (element (array n e) (whole stand τ operands.0) j)
                 ≡ concat_words (in_row (λ l. cond b (τ (part (stand operands.2) l)) (τ (part (stand operands.0) ((n - suc j) * length (leaves e) + l)))) 0 (length (leaves e)))
-            by_test true = sym (words_in_row τ (stand operands.2) (length (leaves e)) (typed_size new_type (stand operands.2) (leaves e) (typed operands.2 e operands.6)))
+            by_test true = sym (words_in_rule τ (stand operands.2) (length (leaves e)) (typed_size new_type (stand operands.2) (leaves e) (typed operands.2 e operands.6)))
             by_test false =
                 ap (λ b. cond b (extract (j * width e) (width e) (whole stand τ operands.0)) (zeros (width e))) (lt-ltb j n below)
                 ∙ element_words new_type τ wide n e (stand operands.0) array_typed j below
 
             leaf_same : (l : ℕ) → 0 ≤ l → l < 0 + length (leaves e)
                 → cond (j == number (τ index)) (τ (part (stand operands.2) l)) (τ (part (stand operands.0) ((n - suc j) * length (leaves e) + l)))
-                ≡ τ (leaf_ref (array_inject_row o n (length (leaves e)) w) start o ((n - suc j) * length (leaves e) + l))
+                ≡ τ (leaf_ref (array_inject_rule o n (length (leaves e)) w) start o ((n - suc j) * length (leaves e) + l))
             leaf_same l past within =
                 let leaf_there = slice_get_some (leaves e) l (omega arith) in
                 let numbers = leaf_number (length (leaves e)) n (n - suc j) l (omega arith) (omega arith) in
@@ -242,7 +243,7 @@ module _ (o : Op) (n w : ℕ) (old_type : Ref → Option HwType) (stand : Ref �
                 (tested_back j (number (τ index)) ∙ ap (λ x. number (τ index) == x) (sym of_j)) (sym numbers.1)
                 ∙ sym (leaf_is ((n - suc j) * length (leaves e) + l) leaf_there.0 at_all)
 
-  pub inject_splits : Splits (array_inject_row o n (length (leaves e)) w) old_type stand o
+  pub inject_splits : Splits (array_inject_rule o n (length (leaves e)) w) old_type stand o
   unfolding OwnType GoodOp
   inject_splits = record {
     shape = inject_shape;
@@ -256,7 +257,7 @@ module _ (o : Op) (n w : ℕ) (old_type : Ref → Option HwType) (stand : Ref �
           fits = λ i x at_i. (good_at new_type start good i x at_i).0;
           operands = λ i x r at_i here. (good_at new_type start good i x at_i).1 r here;
           words = λ τ wide holds.
-              one_row o t (λ k u. result_word (whole stand τ) o k (Some u) ≡ concat_words (map τ (in_row (leaf_ref (array_inject_row o n (length (leaves e)) w) start o) (result_start o k) (length (leaves u))))) one
+              one_rule o t (λ k u. result_word (whole stand τ) o k (Some u) ≡ concat_words (map τ (in_row (leaf_ref (array_inject_rule o n (length (leaves e)) w) start o) (result_start o k) (length (leaves u))))) one
               (inject_words new_type stands.typed start τ wide
               (subst (λ given_args. HoldsFrom τ start (first_part given_args start ++ second_part given_args start)) arguments
               (each_from (λ m x. (v : HwType) → result_type x 0 ≡ Some v → τ (result m 0) ≡ result_word τ x 0 (Some v)) start (first_part (map stand o.operands) start ++ second_part (map stand o.operands) start)

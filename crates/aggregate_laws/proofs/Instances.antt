@@ -1,9 +1,8 @@
 -- Instances: what is known of their operands and results, and where the values at their ports and results come from.
-use Rattle.std.proofs.Common.{◌≡◌, ℕ, ◌+◌, ◌<◌, true, false, List, [], ◌∷◌, ◌++◌, length, map, take, flat_map, slice_get, Option, Some, None, is_some, refl, sym, ap, ap₂, ◌∙◌, append-nil}
+use Rattle.std.proofs.Common.{◌≡◌, ℕ, ◌+◌, ◌<◌, true, false, List, [], ◌∷◌, ◌++◌, length, map, take, flat_map, slice_get, Option, Some, None, is_some, refl, sym, ap, ap₂, ◌∙◌, append-nil, option_and_then, option_map}
 use Rattle.std.proofs.lemmas.List.{length-map}
 use Rattle.std.proofs.lemmas.Option.{slice_get-map}
-use Rattle.wiring.specs.Options.{bind, omap}
-use Rattle.wiring.proofs.Options.{omap_some}
+use Rattle.wiring.proofs.Options.{option_map_some}
 use Rattle.hw_model.specs.Types.{Name, HwType, leaves}
 use Rattle.hw_model.specs.Kinds.{Instance}
 use Rattle.hw_model.specs.Design.{Ref, Port, Op, Design, RegisterForm, find_module, instance_in, register_form, is_instance, is_register, output_refs, callee}
@@ -13,8 +12,8 @@ use Rattle.hw_model.specs.Sound.{body_of, ports_of, input_types, output_types, t
 use Rattle.hw_model.proofs.Sorts.{instance_found}
 use Rattle.hw_model.proofs.Paths.{joined_body, port_of, output_of, result_in, result_here}
 use Rattle.hw_model.proofs.NetWidths.{sound_at, typed_at, input_found, chosen_instance}
-use Rattle.hw_edits.specs.Edit.{is_anchor, anchors}
-use Rattle.hw_edits.proofs.Anchors.{instances-anchors}
+use Rattle.edit_laws.specs.Edit.{is_anchor, anchors}
+use Rattle.edit_laws.proofs.Anchors.{instances-anchors}
 use Rattle.aggregate_laws.specs.Leaves.{leaf_start, bare_op, spread, lower_anchor, result_types}
 use Rattle.aggregate_laws.specs.Lowered.{Standing, LoweredWell}
 use Rattle.aggregate_laws.proofs.Lists.{filter_position}
@@ -28,9 +27,9 @@ use Rattle.aggregate_laws.proofs.Paths.{low, parts_at, length_parts, instance_pa
 pub typed_here : (type_of : Ref → Option HwType) (rs : List Ref) (ts : List HwType) (n : ℕ) (r : Ref) (t : HwType) → map type_of rs ≡ map (λ (u : HwType). Some u) ts
     → slice_get rs n ≡ Some r → slice_get ts n ≡ Some t → type_of r ≡ Some t
 typed_here type_of rs ts n r t same at_r at_t =
-    let e : omap type_of (slice_get rs n) ≡ omap (λ (u : HwType). Some u) (slice_get ts n) =
+    let e : option_map type_of (slice_get rs n) ≡ option_map (λ (u : HwType). Some u) (slice_get ts n) =
     sym (slice_get-map type_of rs n) ∙ ap (λ xs. slice_get xs n) same ∙ slice_get-map (λ (u : HwType). Some u) ts n in
-    let f : Some (type_of r) ≡ Some (Some t) = ap (omap type_of) (sym at_r) ∙ e ∙ ap (omap (λ (u : HwType). Some u)) at_t in
+    let f : Some (type_of r) ≡ Some (Some t) = ap (option_map type_of) (sym at_r) ∙ e ∙ ap (option_map (λ (u : HwType). Some u)) at_t in
     cc
 
 pub typed_length : (type_of : Ref → Option HwType) (rs : List Ref) (ts : List HwType) → map type_of rs ≡ map (λ (u : HwType). Some u) ts → length rs ≡ length ts
@@ -72,7 +71,7 @@ module _ (scale : ℕ) (d d' : Design) (each : (s : Name) → LoweredWell scale 
         let stands = instance_stands p u o is in
         let fits = (sound_at d sound top p).instances stands.0 o stands.2 stands.1 stands.3 in
         let there : module_at d top (u ∷ p) ≡ Some fits.0 =
-        inside scale d d' each top p u o is ∙ ap (λ x. bind x (λ (i : Instance). find_module d i.symbol)) stands.3 ∙ fits.1 in
+        inside scale d d' each top p u o is ∙ ap (λ x. option_and_then (λ (i : Instance). find_module d i.symbol) x) stands.3 ∙ fits.1 in
         fits.2 ∙ ap (λ m. map (λ (t : HwType). Some t) (input_types (ports_of m))) (sym there)
 
     pub instance_results : (p : Path) (u : ℕ) (o : Op) → slice_get (instances (body_of (module_at d top p))) u ≡ Some o
@@ -81,7 +80,7 @@ module _ (scale : ℕ) (d d' : Design) (each : (s : Name) → LoweredWell scale 
         let stands = instance_stands p u o is in
         let fits = (sound_at d sound top p).instances stands.0 o stands.2 stands.1 stands.3 in
         let there : module_at d top (u ∷ p) ≡ Some fits.0 =
-        inside scale d d' each top p u o is ∙ ap (λ x. bind x (λ (i : Instance). find_module d i.symbol)) stands.3 ∙ fits.1 in
+        inside scale d d' each top p u o is ∙ ap (λ x. option_and_then (λ (i : Instance). find_module d i.symbol) x) stands.3 ∙ fits.1 in
         fits.3 ∙ ap (λ m. output_types (ports_of m)) (sym there)
 
     -- what it joins to an input of its module, with the type of that
@@ -109,7 +108,7 @@ module _ (scale : ℕ) (d d' : Design) (each : (s : Name) → LoweredWell scale 
         let typed = instance_operands p u o is in
         ap (copy_of p)
         (joined_body d' u j' (module_at d' top p)
-        ∙ ap (λ x. bind x (joined_ref d' j')) pair.1
+        ∙ ap (λ x. option_and_then (joined_ref d' j') x) pair.1
         ∙ port_of (callee d' o') o'.operands j'
         ∙ ap (λ m. port_ref (ports_of m) o'.operands j') (sym (inside' scale d d' each top p u o' pair.1))
         ∙ sym (port_ref_bare (ports_of (module_at d' top (u ∷ p))) o'.operands j')
@@ -134,7 +133,7 @@ module _ (scale : ℕ) (d d' : Design) (each : (s : Name) → LoweredWell scale 
         (ap (λ xs. slice_get xs 0) (lowered_other (parts_at scale d d' each top p) o (instance_no_register o x inst)))
 
     pub new_instance : (o' : Op) × (slice_get (body_of (module_at d' top p)) ((low scale d d' each top p).start j 0) ≡ Some o') × (bare_op o' ≡ spread (parts_at scale d d' each top p) o)
-    new_instance = omap_some bare_op (slice_get (body_of (module_at d' top p)) ((low scale d d' each top p).start j 0)) one_stands.op
+    new_instance = option_map_some bare_op (slice_get (body_of (module_at d' top p)) ((low scale d d' each top p).start j 0)) one_stands.op
 
     new_is_instance : is_instance new_instance.0 ≡ true
     unfolding new_instance

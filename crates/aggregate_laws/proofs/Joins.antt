@@ -1,11 +1,11 @@
 -- Operations that only join and take apart become a wire for each leaf: wires, structs and arrays that are created or joined.
-use Rattle.std.proofs.Common.{◌≡◌, ℕ, zero, suc, ◌+◌, ◌<◌, ◌≤◌, false, List, [], ◌∷◌, ◌++◌, length, map, take, drop, flat_map, slice_get, Option, Some, refl, sym, ap, ap₂, subst, ◌∙◌, inl, inr, arith, zero-add, suc-add, append-nil, append_assoc, length-append, take_all}
+use Rattle.std.proofs.Common.{◌≡◌, ℕ, zero, suc, ◌+◌, ◌<◌, ◌≤◌, false, List, [], ◌∷◌, ◌++◌, length, map, take, drop, flat_map, slice_get, Option, Some, refl, sym, ap, ap₂, subst, ◌∙◌, inl, inr, arith}
+use Rattle.std.proofs.Common.{zero-add, suc-add, append-nil, append_assoc, length-append, take_all, option_map}
 use Rattle.std.proofs.lemmas.List.{length-map}
 use Rattle.std.proofs.lemmas.Option.{slice_get-map}
 use Rattle.wiring.specs.Lists.{total}
-use Rattle.wiring.specs.Options.{omap}
 use Rattle.wiring.specs.Wiring.{In}
-use Rattle.wiring.proofs.Options.{omap_some}
+use Rattle.wiring.proofs.Options.{option_map_some}
 use Rattle.wiring.proofs.Lists.{map-map, slice_get_some, drop_some}
 use Rattle.wiring.proofs.Members.{In-slice_get, from_In-flat_map}
 use Rattle.bits_core.specs.Word.{Word}
@@ -19,11 +19,11 @@ use Rattle.hw_model.specs.Kinds.StructOp.{struct_create}
 use Rattle.hw_model.specs.Value.{concat_words, op_value}
 use Rattle.hw_model.specs.Design.{Ref, Op, result_type}
 use Rattle.hw_model.specs.Sound.{HasWidth, field_list, AllAre, OpFits, Fits}
-use Rattle.hw_edits.specs.Edit.{is_anchor, result_word}
+use Rattle.edit_laws.specs.Edit.{is_anchor, result_word}
 use Rattle.aggregate_laws.specs.Leaves.{in_row, part, or_undefined, result_types, result_start}
 use Rattle.aggregate_laws.specs.Lowered.{whole}
 use Rattle.aggregate_laws.specs.Rules.{Splits}
-use Rattle.aggregate_laws.specs.Rows.{made_op, all_leaves, joined_parts, wires, join_row}
+use Rattle.aggregate_laws.specs.OperationRules.{made_op, all_leaves, joined_parts, wires, join_rule}
 use Rattle.aggregate_laws.proofs.Lists.{flat_map-map, flat_map_split}
 use Rattle.aggregate_laws.proofs.Words.{whole_flat_map}
 use Rattle.aggregate_laws.proofs.Bare.{type_listed}
@@ -32,17 +32,17 @@ use Rattle.aggregate_laws.proofs.Leafwise.{made_fits, only_result, EachWell, lea
 
 -- ---- values in a row out of a list
 
-pub row_taken : (g : Ref → Word) (xs : List Ref) (s n : ℕ) → s + n ≤ length xs → in_row (λ i. g (part xs i)) s n ≡ map g (take n (drop s xs))
-row_taken g xs s zero within = refl
-row_taken g xs s (suc n) within =
+pub rule_taken : (g : Ref → Word) (xs : List Ref) (s n : ℕ) → s + n ≤ length xs → in_row (λ i. g (part xs i)) s n ≡ map g (take n (drop s xs))
+rule_taken g xs s zero within = refl
+rule_taken g xs s (suc n) within =
     let there = slice_get_some xs s (omega arith) in
-    ap₂ (λ y ys. y ∷ ys) (ap (λ x. g (or_undefined x)) there.1) (row_taken g xs (suc s) n (omega arith))
+    ap₂ (λ y ys. y ∷ ys) (ap (λ x. g (or_undefined x)) there.1) (rule_taken g xs (suc s) n (omega arith))
     ∙ ap (λ ys. map g (take (suc n) ys)) (sym (drop_some xs s there.0 there.1))
 
--- two rows that agree on their numbers
-pub row_alike : {A : Type 0} (f g : ℕ → A) (s n : ℕ) → ((i : ℕ) → s ≤ i → i < s + n → f i ≡ g i) → in_row f s n ≡ in_row g s n
-row_alike f g s zero same = refl
-row_alike f g s (suc n) same = ap₂ (λ x xs. x ∷ xs) (same s (omega arith) (omega arith)) (row_alike f g (suc s) n (λ i past below. same i (omega arith) (omega arith)))
+-- two rules that agree on their numbers
+pub rule_alike : {A : Type 0} (f g : ℕ → A) (s n : ℕ) → ((i : ℕ) → s ≤ i → i < s + n → f i ≡ g i) → in_row f s n ≡ in_row g s n
+rule_alike f g s zero same = refl
+rule_alike f g s (suc n) same = ap₂ (λ x xs. x ∷ xs) (same s (omega arith) (omega arith)) (rule_alike f g (suc s) n (λ i past below. same i (omega arith) (omega arith)))
 
 -- ---- wires
 
@@ -73,9 +73,9 @@ wires_split o names chosen old_type parts plain well =
     there : (new_type : Ref → Option HwType) → ChosenWell o (chosen (map parts o.operands)) new_type parts → (i : ℕ) (t : HwType) → slice_get (all_leaves o) i ≡ Some t
         → (r : Ref) × (slice_get (chosen (map parts o.operands)) i ≡ Some r) × (new_type r ≡ Some t)
     there new_type wells i t is =
-        omap_some new_type (slice_get (chosen (map parts o.operands)) i)
+        option_map_some new_type (slice_get (chosen (map parts o.operands)) i)
         (sym (slice_get-map new_type (chosen (map parts o.operands)) i) ∙ ap (λ xs. slice_get xs i) wells.typed
-        ∙ slice_get-map (λ (u : HwType). Some u) (all_leaves o) i ∙ ap (omap (λ (u : HwType). Some u)) is)
+        ∙ slice_get-map (λ (u : HwType). Some u) (all_leaves o) i ∙ ap (option_map (λ (u : HwType). Some u)) is)
 
     size : (new_type : Ref → Option HwType) → ChosenWell o (chosen (map parts o.operands)) new_type parts → length (chosen (map parts o.operands)) ≡ length (all_leaves o)
     size new_type wells =
@@ -100,8 +100,8 @@ wires_split o names chosen old_type parts plain well =
       words = λ τ wide g is k t typed.
           wells.words τ wide k t typed
           ∙ ap concat_words
-          (sym (row_taken τ (chosen (map parts o.operands)) (result_start o k) (length (leaves t)) (omega (arith, size new_type wells, start_within o k t typed)))
-          ∙ row_alike (λ i. τ (part (chosen (map parts o.operands)) i)) g (result_start o k) (length (leaves t))
+          (sym (rule_taken τ (chosen (map parts o.operands)) (result_start o k) (length (leaves t)) (omega (arith, size new_type wells, start_within o k t typed)))
+          ∙ rule_alike (λ i. τ (part (chosen (map parts o.operands)) i)) g (result_start o k) (length (leaves t))
           (λ i past below.
           let found = slice_get_some (all_leaves o) i (omega (arith, start_within o k t typed)) in
           sym (is i found.0 found.1)));
@@ -112,7 +112,7 @@ wires_split o names chosen old_type parts plain well =
 -- what stands for all operands, where the types of the operands have the leaves of the result
 pub join_splits : (o : Op) (names : ℕ → Name) (old_type : Ref → Option HwType) (parts : Ref → List Ref) (t : HwType) (us : List HwType) → is_anchor o ≡ false
     → result_types o ≡ t ∷ [] → map old_type o.operands ≡ map (λ (u : HwType). Some u) us → leaves t ≡ flat_map leaves us
-    → ((ws : List Word) → length ws ≡ length o.operands → op_value o.kind o.types t 0 ws ≡ concat_words ws) → Splits (join_row o names) old_type parts o
+    → ((ws : List Word) → length ws ≡ length o.operands → op_value o.kind o.types t 0 ws ≡ concat_words ws) → Splits (join_rule o names) old_type parts o
 join_splits o names old_type parts t us plain one typed_operands same_leaves value =
     wires_split o names joined_parts old_type parts plain
     (λ new_type typed. record {
@@ -153,7 +153,7 @@ leaves_fields no_fields = refl
 leaves_fields (field name t fs) = ap (λ ts. leaves t ++ ts) (leaves_fields fs)
 
 pub wire_splits : (o : Op) (names : ℕ → Name) (old_type : Ref → Option HwType) (parts : Ref → List Ref) (t : HwType) → o.kind ≡ wire → result_types o ≡ t ∷ [] → OpFits old_type o
-    → Splits (join_row o names) old_type parts o
+    → Splits (join_rule o names) old_type parts o
 wire_splits o names old_type parts t is one fits =
     join_splits o names old_type parts t (t ∷ []) (plain_kind o wire is refl) one operands (sym (append-nil (leaves t)))
     (λ ws size. ap (λ k. op_value k o.types t 0 ws) is ∙ value ws (size ∙ one_operand))
@@ -170,7 +170,7 @@ wire_splits o names old_type parts t is one fits =
     value (w ∷ v ∷ ws) size = absurd (omega arith)
 
 pub struct_create_splits : (o : Op) (names : ℕ → Name) (old_type : Ref → Option HwType) (parts : Ref → List Ref) (t : HwType) → o.kind ≡ on_struct struct_create
-    → result_types o ≡ t ∷ [] → OpFits old_type o → Splits (join_row o names) old_type parts o
+    → result_types o ≡ t ∷ [] → OpFits old_type o → Splits (join_rule o names) old_type parts o
 struct_create_splits o names old_type parts t is one fits =
     join_splits o names old_type parts t (field_list made.0) (plain_kind o (on_struct struct_create) is refl) one made.2 (ap leaves made.1 ∙ leaves_fields made.0)
     (λ ws size. ap (λ k. op_value k o.types t 0 ws) is)
@@ -188,7 +188,7 @@ copies_leaves zero e = refl
 copies_leaves (suc n) e = ap (λ ts. leaves e ++ ts) (copies_leaves n e)
 
 pub array_create_splits : (o : Op) (names : ℕ → Name) (old_type : Ref → Option HwType) (parts : Ref → List Ref) (t : HwType) → o.kind ≡ on_array array_create
-    → result_types o ≡ t ∷ [] → OpFits old_type o → Splits (join_row o names) old_type parts o
+    → result_types o ≡ t ∷ [] → OpFits old_type o → Splits (join_rule o names) old_type parts o
 array_create_splits o names old_type parts t is one fits =
     join_splits o names old_type parts t (list_copies (length (map old_type o.operands)) (made.0 ∷ [])) (plain_kind o (on_array array_create) is refl) one
     (copies_types made.0 (map old_type o.operands) made.2) (ap leaves made.1 ∙ sym (copies_leaves (length (map old_type o.operands)) made.0))
@@ -207,7 +207,7 @@ arrays_leaves e [] = refl
 arrays_leaves e (n ∷ ns) = list_copies-add n (total ns) (leaves e) ∙ ap (λ ts. list_copies n (leaves e) ++ ts) (arrays_leaves e ns)
 
 pub array_concat_splits : (o : Op) (names : ℕ → Name) (old_type : Ref → Option HwType) (parts : Ref → List Ref) (t : HwType) → o.kind ≡ on_array array_concat
-    → result_types o ≡ t ∷ [] → OpFits old_type o → Splits (join_row o names) old_type parts o
+    → result_types o ≡ t ∷ [] → OpFits old_type o → Splits (join_rule o names) old_type parts o
 array_concat_splits o names old_type parts t is one fits =
     join_splits o names old_type parts t (map (λ (n : ℕ). array n made.0) made.1) (plain_kind o (on_array array_concat) is refl) one
     (made.2 ∙ sym (map-map (λ (u : HwType). Some u) (λ (n : ℕ). array n made.0) made.1)) (ap leaves made.3 ∙ arrays_leaves made.0 made.1)

@@ -1,9 +1,8 @@
 -- Operations that become one for each leaf of their results.
-use Rattle.std.proofs.Common.{◌≡◌, ℕ, zero, suc, ◌+◌, true, false, cond, List, [], ◌∷◌, length, map, flat_map, slice_get, Option, Some, refl, sym, ap, ap₂, subst, ◌∙◌, inl, arith, zero-add, add-zero}
+use Rattle.std.proofs.Common.{◌≡◌, ℕ, zero, suc, ◌+◌, true, false, cond, List, [], ◌∷◌, length, map, flat_map, slice_get, Option, Some, refl, sym, ap, ap₂, subst, ◌∙◌, inl, arith, zero-add, add-zero, option_and_then, option_map}
 use Rattle.std.proofs.lemmas.Option.{slice_get_within}
-use Rattle.wiring.specs.Options.{bind, omap}
 use Rattle.wiring.specs.Wiring.{In}
-use Rattle.wiring.proofs.Options.{omap_some}
+use Rattle.wiring.proofs.Options.{option_map_some}
 use Rattle.wiring.proofs.Members.{position_of_In}
 use Rattle.bits_core.specs.Word.{Word}
 use Rattle.hw_model.specs.Types.{Name, HwType, leaves}
@@ -12,11 +11,11 @@ use Rattle.hw_model.specs.Value.{concat_words}
 use Rattle.hw_model.specs.Design.{Ref, Op, result_type}
 use Rattle.hw_model.specs.Design.Ref.{result}
 use Rattle.hw_model.specs.Sound.{HasWidth, Fits, OpFits}
-use Rattle.hw_edits.specs.Edit.{is_anchor, result_word}
+use Rattle.edit_laws.specs.Edit.{is_anchor, result_word}
 use Rattle.aggregate_laws.specs.Leaves.{in_row, result_types, result_start}
 use Rattle.aggregate_laws.specs.Lowered.{whole}
 use Rattle.aggregate_laws.specs.Rules.{leaf_ref, SplitsShape, Splits}
-use Rattle.aggregate_laws.specs.Rows.{made_op, all_leaves, for_each, leafwise}
+use Rattle.aggregate_laws.specs.OperationRules.{made_op, all_leaves, for_each, leafwise}
 use Rattle.aggregate_laws.proofs.Lists.{flat_map_at}
 use Rattle.aggregate_laws.proofs.Bare.{type_listed}
 use Rattle.aggregate_laws.proofs.Bodies.{plain_not_one, plain_no_register}
@@ -27,10 +26,10 @@ pub length-for_each : (each : ℕ → HwType → Op) (n : ℕ) (ts : List HwType
 length-for_each each n [] = refl
 length-for_each each n (t ∷ ts) = ap suc (length-for_each each (suc n) ts)
 
-pub for_each_at : (each : ℕ → HwType → Op) (ts : List HwType) (n i : ℕ) → slice_get (for_each each n ts) i ≡ omap (each (n + i)) (slice_get ts i)
+pub for_each_at : (each : ℕ → HwType → Op) (ts : List HwType) (n i : ℕ) → slice_get (for_each each n ts) i ≡ option_map (each (n + i)) (slice_get ts i)
 for_each_at each [] n i = refl
 for_each_at each (t ∷ ts) n zero = ap (λ m. Some (each m t)) (sym (add-zero n))
-for_each_at each (t ∷ ts) n (suc i) = for_each_at each ts (suc n) i ∙ ap (λ m. omap (each m) (slice_get ts i)) (let e : suc n + i ≡ n + suc i = omega arith in e)
+for_each_at each (t ∷ ts) n (suc i) = for_each_at each ts (suc n) i ∙ ap (λ m. option_map (each m) (slice_get ts i)) (let e : suc n + i ≡ n + suc i = omega arith in e)
 
 -- a made operation has one result
 pub one_result : (o : Op) (kind : Kind) (rs : List Ref) (ts : List HwType) (name : Name) (t t' : HwType) (k : ℕ)
@@ -76,13 +75,13 @@ module _ (o : Op) (each : List (List Ref) → ℕ → HwType → Op) (old_type :
   found_each : (i : ℕ) (x : Op) → slice_get (for_each (each (map parts o.operands)) 0 (all_leaves o)) i ≡ Some x
       → (t : HwType) × (slice_get (all_leaves o) i ≡ Some t) × (each (map parts o.operands) i t ≡ x)
   found_each i x is =
-      omap_some (each (map parts o.operands) i) (slice_get (all_leaves o) i)
-      (ap (λ n. omap (each (map parts o.operands) n) (slice_get (all_leaves o) i)) (sym (zero-add i)) ∙ sym (for_each_at (each (map parts o.operands)) (all_leaves o) 0 i) ∙ is)
+      option_map_some (each (map parts o.operands) i) (slice_get (all_leaves o) i)
+      (ap (λ n. option_map (each (map parts o.operands) n) (slice_get (all_leaves o) i)) (sym (zero-add i)) ∙ sym (for_each_at (each (map parts o.operands)) (all_leaves o) 0 i) ∙ is)
 
   leaf_there : (i : ℕ) (t : HwType) → slice_get (all_leaves o) i ≡ Some t → slice_get (for_each (each (map parts o.operands)) 0 (all_leaves o)) i ≡ Some (each (map parts o.operands) i t)
   leaf_there i t is =
-      for_each_at (each (map parts o.operands)) (all_leaves o) 0 i ∙ ap (λ n. omap (each (map parts o.operands) n) (slice_get (all_leaves o) i)) (zero-add i)
-      ∙ ap (omap (each (map parts o.operands) i)) is
+      for_each_at (each (map parts o.operands)) (all_leaves o) 0 i ∙ ap (λ n. option_map (each (map parts o.operands) n) (slice_get (all_leaves o) i)) (zero-add i)
+      ∙ ap (option_map (each (map parts o.operands) i)) is
 
   leafwise_shape : SplitsShape (leafwise o each) parts o
   leafwise_shape = record {
@@ -95,7 +94,7 @@ module _ (o : Op) (each : List (List Ref) → ℕ → HwType → Op) (old_type :
     register_has_one = λ register k. let clash : true ≡ false = sym register ∙ plain_no_register o plain in cc;
     register_place = λ register i. refl;
     leaf_type = λ is start k i t u typed at_u.
-        ap (λ y. bind y (λ (x : Op). result_type x 0)) (leaf_there (result_start o k + i) u (leaf_among o k i t u typed at_u))
+        ap (λ y. option_and_then (λ (x : Op). result_type x 0) y) (leaf_there (result_start o k + i) u (leaf_among o k i t u typed at_u))
         ∙ typed_each (map parts o.operands) (result_start o k + i) u;
   }
 
@@ -122,11 +121,11 @@ module _ (o : Op) (each : List (List Ref) → ℕ → HwType → Op) (old_type :
           words = λ τ wide holds k t typed.
               wells.words τ wide (λ i. τ (result (start + i) 0))
               (λ i u at_u. holds i (each (map parts o.operands) i u) u (leaf_there i u at_u) (typed_each (map parts o.operands) i u)) k t typed
-              ∙ ap concat_words (row_of τ start (result_start o k) (length (leaves t)));
+              ∙ ap concat_words (rule_of τ start (result_start o k) (length (leaves t)));
         };
   }
     where
-      row_of : (τ : Ref → Word) (start s n : ℕ) → in_row (λ i. τ (result (start + i) 0)) s n ≡ map τ (in_row (leaf_ref (leafwise o each) start o) s n)
-      row_of τ start s zero = refl
-      row_of τ start s (suc n) =
-          ap₂ (λ x xs. x ∷ xs) (ap (λ b. τ (cond b (result start s) (result (start + s) 0))) (sym (plain_not_one o plain))) (row_of τ start (suc s) n)
+      rule_of : (τ : Ref → Word) (start s n : ℕ) → in_row (λ i. τ (result (start + i) 0)) s n ≡ map τ (in_row (leaf_ref (leafwise o each) start o) s n)
+      rule_of τ start s zero = refl
+      rule_of τ start s (suc n) =
+          ap₂ (λ x xs. x ∷ xs) (ap (λ b. τ (cond b (result start s) (result (start + s) 0))) (sym (plain_not_one o plain))) (rule_of τ start (suc s) n)

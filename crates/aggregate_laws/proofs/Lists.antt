@@ -1,5 +1,6 @@
 -- Values in a row, and joined lists by positions.
-use Rattle.std.proofs.Common.{◌≡◌, ◌⊎◌, ℕ, zero, suc, ◌+◌, ◌-◌, ◌<◌, ◌≤◌, Bool, true, false, cond, List, [], ◌∷◌, ◌++◌, length, map, take, drop, flat_map, filter, slice_get, Some, refl, sym, ap, ap₂, ◌∙◌, inl, inr, arith, add-zero, zero-add, length-append}
+use Rattle.std.proofs.Common.{◌≡◌, ◌⊎◌, ℕ, zero, suc, ◌+◌, ◌-◌, ◌<◌, ◌≤◌, Bool, true, false, cond, List, [], ◌∷◌, ◌++◌, length, map, take, drop, flat_map, filter, slice_get, Some, refl, sym, ap, ap₂}
+use Rattle.std.proofs.Common.{◌∙◌, inl, inr, arith, add-zero, zero-add, length-append}
 use Rattle.std.proofs.lemmas.List.{map-append, take-append-le}
 use Rattle.std.proofs.lemmas.Grind.{flat_map-append}
 use Rattle.wiring.specs.Wiring.{In}
@@ -14,10 +15,10 @@ module _ {A : Type 0} (f : ℕ → A) where
   length-in_row s zero = refl
   length-in_row s (suc n) = ap suc (length-in_row (suc s) n)
 
-  pub in_row_at : (s n i : ℕ) → i < n → slice_get (in_row f s n) i ≡ Some (f (s + i))
-  in_row_at s zero i below = absurd (omega arith)
-  in_row_at s (suc n) zero below = ap (λ k. Some (f k)) (sym (add-zero s))
-  in_row_at s (suc n) (suc i) below = in_row_at (suc s) n i (omega arith) ∙ ap (λ k. Some (f k)) (let e : suc s + i ≡ s + suc i = omega arith in e)
+  pub in_rule_at : (s n i : ℕ) → i < n → slice_get (in_row f s n) i ≡ Some (f (s + i))
+  in_rule_at s zero i below = absurd (omega arith)
+  in_rule_at s (suc n) zero below = ap (λ k. Some (f k)) (sym (add-zero s))
+  in_rule_at s (suc n) (suc i) below = in_rule_at (suc s) n i (omega arith) ∙ ap (λ k. Some (f k)) (let e : suc s + i ≡ s + suc i = omega arith in e)
 
   -- a member has a number
   pub from_In-in_row : (s n : ℕ) (x : A) → In x (in_row f s n) → (i : ℕ) × (i < n) × (x ≡ f (s + i))
@@ -29,14 +30,14 @@ module _ {A : Type 0} (f : ℕ → A) where
       (suc found.0, omega arith, found.2 ∙ ap f (let e : suc s + found.0 ≡ s + suc found.0 = omega arith in e))
 
   pub In-in_row : (s n i : ℕ) → i < n → In (f (s + i)) (in_row f s n)
-  In-in_row s n i below = In-slice_get (f (s + i)) (in_row f s n) i (in_row_at s n i below)
+  In-in_row s n i below = In-slice_get (f (s + i)) (in_row f s n) i (in_rule_at s n i below)
 
 module _ {A B : Type 0} where
   pub map-in_row : (g : A → B) (f : ℕ → A) (s n : ℕ) → map g (in_row f s n) ≡ in_row (λ i. g (f i)) s n
   map-in_row g f s zero = refl
   map-in_row g f s (suc n) = ap (λ xs. g (f s) ∷ xs) (map-in_row g f (suc s) n)
 
-  -- a list of as many members is a row where each member is what the row has
+  -- a list of as many members is a rule where each member is what the rule has
   pub map-is-in_row : (g : A → B) (xs : List A) (f : ℕ → B) (s n : ℕ) → length xs ≡ n
       → ((i : ℕ) (x : A) → slice_get xs i ≡ Some x → g x ≡ f (s + i)) → map g xs ≡ in_row f s n
   map-is-in_row g [] f s zero size each = refl

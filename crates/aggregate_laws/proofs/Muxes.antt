@@ -1,10 +1,10 @@
 -- Multiplexers of aggregates become one for each leaf; what has no aggregates stays.
-use Rattle.std.proofs.Common.{◌≡◌, ℕ, zero, suc, ◌+◌, Bool, true, false, cond, List, [], ◌∷◌, ◌++◌, length, map, flat_map, slice_get, Option, Some, refl, sym, ap, ap₂, subst, ◌∙◌, inl, inr, arith, zero-add, append-nil}
+use Rattle.std.proofs.Common.{◌≡◌, ℕ, zero, suc, ◌+◌, Bool, true, false, cond, List, [], ◌∷◌, ◌++◌, length, map, flat_map, slice_get, Option, Some, refl, sym, ap, ap₂, subst, ◌∙◌, inl, inr, arith}
+use Rattle.std.proofs.Common.{zero-add, append-nil, option_and_then, option_map}
 use Rattle.std.proofs.lemmas.List.{length-map}
 use Rattle.std.proofs.lemmas.Option.{slice_get-map}
-use Rattle.wiring.specs.Options.{bind, omap}
 use Rattle.wiring.specs.Wiring.{In}
-use Rattle.wiring.proofs.Options.{omap_some}
+use Rattle.wiring.proofs.Options.{option_map_some}
 use Rattle.wiring.proofs.Lists.{slice_get_some}
 use Rattle.wiring.proofs.Members.{In-slice_get, from_In-flat_map}
 use Rattle.bits_core.specs.Word.{Word}
@@ -15,24 +15,24 @@ use Rattle.hw_model.specs.Value.{concat_words, is_high, op_value}
 use Rattle.hw_model.specs.Design.{Ref, Op, result_type}
 use Rattle.hw_model.specs.Design.Ref.{result}
 use Rattle.hw_model.specs.Sound.{OpFits, Fits}
-use Rattle.hw_edits.specs.Edit.{is_anchor, result_word}
+use Rattle.edit_laws.specs.Edit.{is_anchor, result_word}
 use Rattle.aggregate_laws.specs.Leaves.{in_row, part, or_undefined, result_types, result_start}
 use Rattle.aggregate_laws.specs.Lowered.{whole}
 use Rattle.aggregate_laws.specs.Rules.{Splits, leaf_ref}
-use Rattle.aggregate_laws.specs.Rows.{made_op, all_leaves, argument, joined_parts, mux_row, stays_row}
+use Rattle.aggregate_laws.specs.OperationRules.{made_op, all_leaves, argument, joined_parts, mux_rule, stays_rule}
 use Rattle.aggregate_laws.proofs.Lists.{flat_map-map, map-is-in_row}
 use Rattle.aggregate_laws.proofs.Bare.{type_listed}
 use Rattle.aggregate_laws.proofs.Bodies.{plain_not_one, plain_no_register}
 use Rattle.aggregate_laws.proofs.Leafwise.{made_fits, only_result, EachWell, leafwise_splits}
-use Rattle.aggregate_laws.proofs.Joins.{row_alike, plain_kind}
+use Rattle.aggregate_laws.proofs.Joins.{rule_alike, plain_kind}
 use Rattle.aggregate_laws.proofs.Registers.{single}
 use Rattle.aggregate_laws.proofs.Types.{parts_typed}
 
 -- ---- words in a row
 
--- a row over the leaves of one result
-pub one_row : (o : Op) (t : HwType) (P : ℕ → HwType → Type 0) → result_types o ≡ t ∷ [] → P 0 t → (k : ℕ) (t' : HwType) → result_type o k ≡ Some t' → P k t'
-one_row o t P one here k t' typed =
+-- a rule over the leaves of one result
+pub one_rule : (o : Op) (t : HwType) (P : ℕ → HwType → Type 0) → result_types o ≡ t ∷ [] → P 0 t → (k : ℕ) (t' : HwType) → result_type o k ≡ Some t' → P k t'
+one_rule o t P one here k t' typed =
     let only = only_result o t t' k one typed in
     subst (λ n. P n t') (sym only.0) (subst (P 0) only.1 here)
 
@@ -54,8 +54,8 @@ three_operands f (a ∷ b ∷ c ∷ e ∷ rs) x y z is = cc
 pub part_there : (type_of : Ref → Option HwType) (rs : List Ref) (ts : List HwType) (i : ℕ) (t : HwType) → map type_of rs ≡ map (λ (u : HwType). Some u) ts → slice_get ts i ≡ Some t
     → (In (part rs i) rs) × (type_of (part rs i) ≡ Some t)
 part_there type_of rs ts i t typed is =
-    let one = omap_some type_of (slice_get rs i)
-    (sym (slice_get-map type_of rs i) ∙ ap (λ xs. slice_get xs i) typed ∙ slice_get-map (λ (u : HwType). Some u) ts i ∙ ap (omap (λ (u : HwType). Some u)) is) in
+    let one = option_map_some type_of (slice_get rs i)
+    (sym (slice_get-map type_of rs i) ∙ ap (λ xs. slice_get xs i) typed ∙ slice_get-map (λ (u : HwType). Some u) ts i ∙ ap (option_map (λ (u : HwType). Some u)) is) in
     let same : one.0 ≡ part rs i = sym (ap or_undefined one.1) in
     (subst (λ r. In r rs) same (In-slice_get one.0 rs i one.1), ap type_of (sym same) ∙ one.2)
 
@@ -63,11 +63,11 @@ part_there type_of rs ts i t typed is =
 pub typed_size : (type_of : Ref → Option HwType) (rs : List Ref) (ts : List HwType) → map type_of rs ≡ map (λ (u : HwType). Some u) ts → length rs ≡ length ts
 typed_size type_of rs ts typed = sym (length-map rs type_of) ∙ ap length typed ∙ length-map ts (λ (u : HwType). Some u)
 
-pub words_in_row : (τ : Ref → Word) (rs : List Ref) (n : ℕ) → length rs ≡ n → concat_words (in_row (λ i. τ (part rs i)) 0 n) ≡ concat_words (map τ rs)
-words_in_row τ rs n size =
+pub words_in_rule : (τ : Ref → Word) (rs : List Ref) (n : ℕ) → length rs ≡ n → concat_words (in_row (λ i. τ (part rs i)) 0 n) ≡ concat_words (map τ rs)
+words_in_rule τ rs n size =
     ap concat_words (sym (map-is-in_row τ rs (λ i. τ (part rs i)) 0 n size (λ i r is. sym (ap (λ m. τ (part rs m)) (zero-add i) ∙ ap (λ x. τ (or_undefined x)) is))))
 
-pub mux_splits : (o : Op) (old_type : Ref → Option HwType) (parts : Ref → List Ref) (t : HwType) → o.kind ≡ mux → result_types o ≡ t ∷ [] → OpFits old_type o → Splits (mux_row o) old_type parts o
+pub mux_splits : (o : Op) (old_type : Ref → Option HwType) (parts : Ref → List Ref) (t : HwType) → o.kind ≡ mux → result_types o ≡ t ∷ [] → OpFits old_type o → Splits (mux_rule o) old_type parts o
 mux_splits o old_type parts t is one fits =
     leafwise_splits o (λ args i u. made_op o mux (part (argument 0 args) 0 ∷ part (argument 1 args) i ∷ part (argument 2 args) i ∷ []) (u ∷ []) [] u) old_type parts
     (λ args i u. refl) (λ args i u. refl) (plain_kind o mux is refl) each
@@ -93,11 +93,11 @@ mux_splits o old_type parts t is one fits =
           operands = λ i u r at_u here.
               member new_type typed i u (ap (λ ts. slice_get ts i) (sym (all_of_one o t one)) ∙ at_u) r here;
           words = λ τ wide g is_g.
-              one_row o t (λ k u. result_word (whole parts τ) o k (Some u) ≡ concat_words (in_row g (result_start o k) (length (leaves u)))) one
+              one_rule o t (λ k u. result_word (whole parts τ) o k (Some u) ≡ concat_words (in_row g (result_start o k) (length (leaves u)))) one
               (ap₂ (λ k rs. op_value k o.types t 0 (map (whole parts τ) rs)) is operands.3
               ∙ ap (λ b. cond b (whole parts τ operands.1) (whole parts τ operands.2)) (condition new_type typed τ)
               ∙ chosen new_type typed τ (is_high (τ (part (parts operands.0) 0)))
-              ∙ ap concat_words (row_alike (λ i. cond (is_high (τ (part (parts operands.0) 0))) (τ (part (parts operands.1) i)) (τ (part (parts operands.2) i))) g 0 (length (leaves t))
+              ∙ ap concat_words (rule_alike (λ i. cond (is_high (τ (part (parts operands.0) 0))) (τ (part (parts operands.1) i)) (τ (part (parts operands.2) i))) g 0 (length (leaves t))
               (λ i past below.
               let there = slice_get_some (leaves t) i (omega arith) in
               sym (is_g i there.0 (ap (λ ts. slice_get ts i) (all_of_one o t one) ∙ there.1)))));
@@ -128,8 +128,8 @@ mux_splits o old_type parts t is one fits =
         chosen : (new_type : Ref → Option HwType) → ((r : Ref) (u : HwType) → old_type r ≡ Some u → map new_type (parts r) ≡ map (λ (v : HwType). Some v) (leaves u))
             → (τ : Ref → Word) (b : Bool) → cond b (whole parts τ operands.1) (whole parts τ operands.2)
             ≡ concat_words (in_row (λ i. cond b (τ (part (parts operands.1) i)) (τ (part (parts operands.2) i))) 0 (length (leaves t)))
-        chosen new_type typed τ true = sym (words_in_row τ (parts operands.1) (length (leaves t)) (typed_size new_type (parts operands.1) (leaves t) (typed operands.1 t operands.5)))
-        chosen new_type typed τ false = sym (words_in_row τ (parts operands.2) (length (leaves t)) (typed_size new_type (parts operands.2) (leaves t) (typed operands.2 t operands.6)))
+        chosen new_type typed τ true = sym (words_in_rule τ (parts operands.1) (length (leaves t)) (typed_size new_type (parts operands.1) (leaves t) (typed operands.1 t operands.5)))
+        chosen new_type typed τ false = sym (words_in_rule τ (parts operands.2) (length (leaves t)) (typed_size new_type (parts operands.2) (leaves t) (typed operands.2 t operands.6)))
 
 -- ---- what stays
 
@@ -139,7 +139,7 @@ scalar_leaves (u ∷ us) alone = ap₂ (λ xs ys. xs ++ ys) (alone u (inl refl))
 
 -- each operand is one value, and so is the result
 pub stays_splits : (o : Op) (old_type : Ref → Option HwType) (parts : Ref → List Ref) (t : HwType) (us : List HwType) → is_anchor o ≡ false → result_types o ≡ t ∷ [] → leaves t ≡ t ∷ []
-    → map old_type o.operands ≡ map (λ (u : HwType). Some u) us → ((u : HwType) → In u us → leaves u ≡ u ∷ []) → OpFits old_type o → Splits (stays_row o) old_type parts o
+    → map old_type o.operands ≡ map (λ (u : HwType). Some u) us → ((u : HwType) → In u us → leaves u ≡ u ∷ []) → OpFits old_type o → Splits (stays_rule o) old_type parts o
 stays_splits o old_type parts t us plain one scalar given each_scalar fits = record {
   shape = record {
     size = λ start. refl;
@@ -154,12 +154,12 @@ stays_splits o old_type parts t us plain one scalar given each_scalar fits = rec
     fits = λ i x at_i. kept_fits new_type stands.typed i x at_i;
     operands = λ i x r at_i here. inl (from_operands i x r at_i here);
     words = λ τ wide holds.
-        one_row o t (λ k u. result_word (whole parts τ) o k (Some u) ≡ concat_words (map τ (in_row (leaf_ref (stays_row o) start o) (result_start o k) (length (leaves u))))) one
+        one_rule o t (λ k u. result_word (whole parts τ) o k (Some u) ≡ concat_words (map τ (in_row (leaf_ref (stays_rule o) start o) (result_start o k) (length (leaves u))))) one
         (value new_type stands.typed τ
         ∙ sym (holds 0 (record o { operands = joined_parts (map parts o.operands) }) t refl first_result)
         ∙ sym (append-nil (τ (result (start + 0) 0)))
         ∙ ap (λ b. τ (cond b (result start 0) (result (start + 0) 0)) ++ []) (sym (plain_not_one o plain))
-        ∙ ap (λ ts. concat_words (map τ (in_row (leaf_ref (stays_row o) start o) 0 (length ts)))) (sym scalar));
+        ∙ ap (λ ts. concat_words (map τ (in_row (leaf_ref (stays_rule o) start o) 0 (length ts)))) (sym scalar));
   };
 }
   where
@@ -174,7 +174,7 @@ stays_splits o old_type parts t us plain one scalar given each_scalar fits = rec
     only_member x (inr never) = absurd never
 
     leaf_is : (k i : ℕ) (u v : HwType) → result_type o k ≡ Some u → slice_get (leaves u) i ≡ Some v
-        → bind (slice_get (record o { operands = joined_parts (map parts o.operands) } ∷ []) 0) (λ (x : Op). result_type x 0) ≡ Some v
+        → option_and_then (λ (x : Op). result_type x 0) (slice_get (record o { operands = joined_parts (map parts o.operands) } ∷ []) 0) ≡ Some v
     leaf_is k i u v typed at_v =
         let only = only_result o t u k one typed in
         first_result ∙ only_leaf i (ap (λ ts. slice_get ts i) (sym scalar ∙ ap leaves only.1) ∙ at_v)

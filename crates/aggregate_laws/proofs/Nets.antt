@@ -1,9 +1,9 @@
 -- A settled map of the design with leaves, seen from the design before: each value is its leaves joined.
-use Rattle.std.proofs.Common.{◌≡◌, ℕ, zero, suc, ◌+◌, ◌<◌, Bool, true, false, cond, List, [], ◌∷◌, ◌++◌, length, map, take, drop, flat_map, slice_get, Option, Some, None, is_some, refl, sym, ap, ap₂, subst, ◌∙◌, arith, zero-add}
+use Rattle.std.proofs.Common.{◌≡◌, ℕ, zero, suc, ◌+◌, ◌<◌, Bool, true, false, cond, List, [], ◌∷◌, ◌++◌, length, map, take, drop, flat_map, slice_get, Option, Some, None, is_some, refl, sym, ap, ap₂}
+use Rattle.std.proofs.Common.{subst, ◌∙◌, arith, zero-add, option_and_then, option_map}
 use Rattle.std.proofs.lemmas.List.{drop-drop}
 use Rattle.std.proofs.lemmas.Option.{slice_get-map, slice_get_within}
-use Rattle.wiring.specs.Options.{bind, omap}
-use Rattle.wiring.proofs.Options.{omap_some, omap_none}
+use Rattle.wiring.proofs.Options.{option_map_some, option_map_none}
 use Rattle.wiring.proofs.Lists.{map-map}
 use Rattle.bits_core.specs.Word.{Word, first}
 use Rattle.hw_model.specs.Types.{Name, HwType, width, leaves}
@@ -20,13 +20,13 @@ use Rattle.hw_model.proofs.Sorts.{Sort, sort_of, instance_found}
 use Rattle.hw_model.proofs.Sorts.Sort.{a_register, an_instance, an_output, a_made}
 use Rattle.hw_model.proofs.Paths.{module_inside, input_ports, joined_body, port_of, op_in, result_in, result_here}
 use Rattle.hw_model.proofs.NetWidths.{sound_at, typed_at}
-use Rattle.hw_edits.specs.Edit.{is_anchor, anchors, result_word}
-use Rattle.hw_edits.proofs.Anchors.{body_state-anchors}
-use Rattle.hw_edits.proofs.OtherOperands.{reads}
+use Rattle.edit_laws.specs.Edit.{is_anchor, anchors, result_word}
+use Rattle.edit_laws.proofs.Anchors.{body_state-anchors}
+use Rattle.edit_laws.proofs.OtherOperands.{reads}
 use Rattle.aggregate_laws.specs.Leaves.{in_row, leaf_port, leaf_start, parts_of_port, bare, bare_kind, bare_op, leaf_operands, leaf_registers, leaves_of, lower_anchor, result_types, result_start}
 use Rattle.aggregate_laws.specs.Lowered.{whole, Standing, LoweredWell}
 use Rattle.aggregate_laws.proofs.Lists.{map-in_row, map-is-in_row, flat_map_at, flat_map_lengths}
-use Rattle.aggregate_laws.proofs.Words.{widths, leaves_width, joined_row}
+use Rattle.aggregate_laws.proofs.Words.{widths, leaves_width, joined_rule}
 use Rattle.aggregate_laws.proofs.Bare.{form_bare, is_register_bare, type_bare, type_listed, input_bare}
 use Rattle.aggregate_laws.proofs.Anchors.{lowered_register, bare_form, bare_apart, leaf_register_at, take-leaf_registers, leaf_state, state_by, state_lowered, output_refs_follow}
 use Rattle.aggregate_laws.proofs.Ports.{leaf_port_at, width_before}
@@ -102,7 +102,7 @@ module _ (scale : ℕ) (d d' : Design) (each : (s : Name) → LoweredWell scale 
 
         new : (o' : Op) × (slice_get (body_of (module_at d' top p)) ((low scale d d' each top p).start j i) ≡ Some o')
             × (bare_op o' ≡ bare (bare_kind o.kind) (leaf_given (0 + i)) (u ∷ []))
-        new = omap_some bare_op (slice_get (body_of (module_at d' top p)) ((low scale d d' each top p).start j i)) stands.op
+        new = option_map_some bare_op (slice_get (body_of (module_at d' top p)) ((low scale d d' each top p).start j i)) stands.op
 
         register_new : is_register new.0 ≡ true
         register_new = sym (is_register_bare new.0) ∙ ap is_register new.2 ∙ ap is_some (form_bare o.kind ∙ form)
@@ -182,7 +182,7 @@ module _ (scale : ℕ) (d d' : Design) (each : (s : Name) → LoweredWell scale 
         by_way q is true way = refl
         by_way q is false way =
             ap concat_words (map-in_row (λ r. ρ (net [] r)) port (leaf_start (ports_of (find_module d top)) j) (length (leaves q.type)))
-            ∙ joined_row (leaves q.type) (drop (input_width (take j (ports_of (find_module d top)))) inputs) (λ i. ρ (net [] (port i))) (leaf_start (ports_of (find_module d top)) j) (leaf_read q is way)
+            ∙ joined_rule (leaves q.type) (drop (input_width (take j (ports_of (find_module d top)))) inputs) (λ i. ρ (net [] (port i))) (leaf_start (ports_of (find_module d top)) j) (leaf_read q is way)
             ∙ ap (λ w. first w (drop (input_width (take j (ports_of (find_module d top)))) inputs)) (leaves_width q.type)
 
         go : (x : Option Port) → slice_get (ports_of (find_module d top)) j ≡ x
@@ -225,11 +225,11 @@ module _ (scale : ℕ) (d d' : Design) (each : (s : Name) → LoweredWell scale 
         by_port o is (Some q) there = by_way o q is there q.is_output refl
 
         no_ports : slice_get (instances (body_of (module_at d top p))) u ≡ None → ports_of (module_at d top (u ∷ p)) ≡ []
-        no_ports none = ap ports_of (module_inside d u (module_at d top p) ∙ ap (λ x. bind x (callee d)) none)
+        no_ports none = ap ports_of (module_inside d u (module_at d top p) ∙ ap (λ x. option_and_then (callee d) x) none)
 
         go : (x : Option Op) → slice_get (instances (body_of (module_at d top p))) u ≡ x
             → joined (u ∷ p) (parts_of_port (leaf_start (ports_of (module_at d top (u ∷ p))) j) (slice_get (ports_of (module_at d top (u ∷ p))) j))
-            ≡ reads inputs content (back ρ) (copy_of p (bind x (joined_ref d j)))
+            ≡ reads inputs content (back ρ) (copy_of p (option_and_then (joined_ref d j) x))
         go None none = ap (λ ps. joined (u ∷ p) (parts_of_port (leaf_start ps j) (slice_get ps j))) (no_ports none)
         go (Some o) is =
             by_port o is (slice_get (ports_of (module_at d top (u ∷ p))) j) refl
@@ -241,13 +241,13 @@ module _ (scale : ℕ) (d d' : Design) (each : (s : Name) → LoweredWell scale 
     by_register : (p : Path) (j k : ℕ) (o : Op) (f : RegisterForm) → slice_get (body_of (module_at d top p)) j ≡ Some o → register_form o.kind ≡ Some f
         → (x : Option HwType) → result_type o k ≡ x
         → joined p (parts_at scale d d' each top p (result j k)) ≡ reads inputs content (back ρ) (held_of (base d top p + body_state (state d) (take j (body_of (module_at d top p)))) x)
-    by_register p j k o f is form None typed = nothing p (result j k) (ap (λ y. bind y (λ (z : Op). result_type z k)) is ∙ typed)
+    by_register p j k o f is form None typed = nothing p (result j k) (ap (λ y. option_and_then (λ (z : Op). result_type z k) y) is ∙ typed)
     by_register p j (suc k) o f is form (Some t) typed =
         let never : None ≡ Some t = sym ((low scale d d' each top p).register_has_one j o k is (ap is_some form)) ∙ typed in cc
     by_register p j zero o f is form (Some t) typed =
         ap (joined p) ((low scale d d' each top p).register_is j o t is (ap is_some form) typed)
         ∙ ap concat_words (map-in_row (λ r. ρ (net p r)) (λ i. result ((low scale d d' each top p).start j i) 0) 0 (length (leaves t)))
-        ∙ joined_row (leaves t) (drop from content) (λ i. ρ (net p (result ((low scale d d' each top p).start j i) 0))) 0 each_leaf
+        ∙ joined_rule (leaves t) (drop from content) (λ i. ρ (net p (result ((low scale d d' each top p).start j i) 0))) 0 each_leaf
         ∙ ap (λ w. first w (drop from content)) (leaves_width t)
       where
         from : ℕ
@@ -284,17 +284,17 @@ module _ (scale : ℕ) (d d' : Design) (each : (s : Name) → LoweredWell scale 
 
         none_given : result_type o k ≡ None → slice_get (output_refs (body_of (module_at d top (length (instances (take j (body_of (module_at d top p)))) ∷ p)))) k ≡ None
         none_given none =
-            omap_none (type_in (ports_of (module_at d top (length (instances (take j (body_of (module_at d top p)))) ∷ p))) (body_of (module_at d top (length (instances (take j (body_of (module_at d top p)))) ∷ p))))
+            option_map_none (type_in (ports_of (module_at d top (length (instances (take j (body_of (module_at d top p)))) ∷ p))) (body_of (module_at d top (length (instances (take j (body_of (module_at d top p)))) ∷ p))))
             (slice_get (output_refs (body_of (module_at d top (length (instances (take j (body_of (module_at d top p)))) ∷ p)))) k)
             (sym (slice_get-map (type_in (ports_of (module_at d top (length (instances (take j (body_of (module_at d top p)))) ∷ p))) (body_of (module_at d top (length (instances (take j (body_of (module_at d top p)))) ∷ p))))
             (output_refs (body_of (module_at d top (length (instances (take j (body_of (module_at d top p)))) ∷ p)))) k)
-            ∙ ap (λ xs. slice_get xs k) given_typed ∙ slice_get-map (λ (t : HwType). Some t) (result_types o) k ∙ ap (omap (λ (t : HwType). Some t)) (sym (type_listed o k) ∙ none))
+            ∙ ap (λ xs. slice_get xs k) given_typed ∙ slice_get-map (λ (t : HwType). Some t) (result_types o) k ∙ ap (option_map (λ (t : HwType). Some t)) (sym (type_listed o k) ∙ none))
 
         go : (x : Option HwType) → result_type o k ≡ x
             → joined p (parts_at scale d d' each top p (result j k))
             ≡ reads inputs content (back ρ) (copy_of (length (instances (take j (body_of (module_at d top p)))) ∷ p) (slice_get (output_refs (body_of (module_at d top (length (instances (take j (body_of (module_at d top p)))) ∷ p)))) k))
         go None none =
-            nothing p (result j k) (ap (λ y. bind y (λ (z : Op). result_type z k)) is ∙ none)
+            nothing p (result j k) (ap (λ y. option_and_then (λ (z : Op). result_type z k) y) is ∙ none)
             ∙ ap (λ y. reads inputs content (back ρ) (copy_of (length (instances (take j (body_of (module_at d top p)))) ∷ p) y)) (sym (none_given none))
         go (Some t) some =
             ap (joined p) ((low scale d d' each top p).instance_is j o k t is (ap is_some inst) some)
@@ -330,14 +330,14 @@ module _ (scale : ℕ) (d d' : Design) (each : (s : Name) → LoweredWell scale 
 
     by_output : (p : Path) (j k : ℕ) (o : Op) → slice_get (body_of (module_at d top p)) j ≡ Some o → is_output_kind o.kind ≡ true
         → (x : Option HwType) → result_type o k ≡ x → joined p (parts_at scale d d' each top p (result j k)) ≡ []
-    by_output p j k o is out None none = nothing p (result j k) (ap (λ y. bind y (λ (z : Op). result_type z k)) is ∙ none)
+    by_output p j k o is out None none = nothing p (result j k) (ap (λ y. option_and_then (λ (z : Op). result_type z k) y) is ∙ none)
     by_output p j k o is out (Some t) typed =
         absurd (no_result o.kind o.types (map (type_in (ports_of (module_at d top p)) (body_of (module_at d top p))) o.operands) t k out ((sound_at d sound top p).ops j o is k t typed))
 
     by_made : (p : Path) (j k : ℕ) (o : Op) → slice_get (body_of (module_at d top p)) j ≡ Some o → is_anchor o ≡ false
         → (x : Option HwType) → result_type o k ≡ x
         → joined p (parts_at scale d d' each top p (result j k)) ≡ reads inputs content (back ρ) (made_of p o k x)
-    by_made p j k o is plain None none = nothing p (result j k) (ap (λ y. bind y (λ (z : Op). result_type z k)) is ∙ none)
+    by_made p j k o is plain None none = nothing p (result j k) (ap (λ y. option_and_then (λ (z : Op). result_type z k) y) is ∙ none)
     by_made p j k o is plain (Some t) typed =
         sym (words p j o k t is plain typed)
         ∙ ap (λ xs. result_word_of o k t xs) (sym (map-map (back ρ) (net p) o.operands))
@@ -366,7 +366,7 @@ module _ (scale : ℕ) (d d' : Design) (each : (s : Name) → LoweredWell scale 
 
         go : (x : Option Op) → slice_get (body_of (module_at d top p)) j ≡ x → back ρ (net p (result j k)) ≡ reads inputs content (back ρ) (source d top (net p (result j k)))
         go None none =
-            nothing p (result j k) (ap (λ y. bind y (λ (z : Op). result_type z k)) none)
+            nothing p (result j k) (ap (λ y. option_and_then (λ (z : Op). result_type z k) y) none)
             ∙ ap (reads inputs content (back ρ)) (sym (result_here d top p j k ∙ ap (result_in d top p (body_of (module_at d top p)) j k) none))
         go (Some o) is = by_sort o is (sort_of o.kind)
 

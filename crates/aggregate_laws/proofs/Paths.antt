@@ -1,18 +1,17 @@
 -- Two designs of which one has the leaves of the other's values, at each path of instances.
-use Rattle.std.proofs.Common.{◌≡◌, ℕ, zero, suc, ◌+◌, ◌<◌, List, [], ◌∷◌, length, slice_get, Option, Some, None, refl, sym, ap, ap₂, ◌∙◌, arith}
+use Rattle.std.proofs.Common.{◌≡◌, ℕ, zero, suc, ◌+◌, ◌<◌, List, [], ◌∷◌, length, slice_get, Option, Some, None, refl, sym, ap, ap₂, ◌∙◌, arith, option_and_then, option_map}
 use Rattle.std.proofs.lemmas.List.{length-map}
 use Rattle.std.proofs.lemmas.Option.{slice_get-map}
 use mathlib.Core.Path.{subst₂, fun_ext}
-use Rattle.wiring.specs.Options.{bind, omap}
-use Rattle.wiring.proofs.Options.{omap_some}
+use Rattle.wiring.proofs.Options.{option_map_some}
 use Rattle.hw_model.specs.Types.{Name, HwType, leaves}
 use Rattle.hw_model.specs.Design.{Ref, Port, Op, Module, Design, find_module, callee}
 use Rattle.hw_model.specs.Design.Ref.{port, result, undefined}
 use Rattle.hw_model.specs.Flat.{Path, instances, before_instance, module_at, body_state, module_state, state, base}
 use Rattle.hw_model.specs.Sound.{body_of, ports_of, type_in}
 use Rattle.hw_model.proofs.Paths.{module_inside, state_body, before_body}
-use Rattle.hw_edits.proofs.Edited.{Found, of_found}
-use Rattle.hw_edits.proofs.Edited.Found.{of_symbol, absent}
+use Rattle.edit_laws.proofs.Edited.{Found, of_found}
+use Rattle.edit_laws.proofs.Edited.Found.{of_symbol, absent}
 use Rattle.aggregate_laws.specs.Leaves.{bare_op, spread}
 use Rattle.aggregate_laws.specs.Lowered.{Lowered, LoweredWell}
 use Rattle.aggregate_laws.proofs.Bare.{called_symbol, called_bare, callee_by_symbol}
@@ -69,26 +68,26 @@ module _ (scale : ℕ) (d d' : Design) (each : (s : Name) → LoweredWell scale 
 
   found_called : (parts : Ref → List Ref) (o o' : Op) → bare_op o' ≡ spread parts o → Found d d' (callee d o) (callee d' o')
   found_called parts o o' alike =
-      subst₂ (Found d d') (sym (callee_by_symbol d o)) (sym (callee_by_symbol d' o' ∙ ap (λ x. bind x (find_module d')) (called_same parts o o' alike))) (go (called_symbol o.kind))
+      subst₂ (Found d d') (sym (callee_by_symbol d o)) (sym (callee_by_symbol d' o' ∙ ap (λ x. option_and_then (find_module d') x) (called_same parts o o' alike))) (go (called_symbol o.kind))
     where
-      go : (x : Option Name) → Found d d' (bind x (find_module d)) (bind x (find_module d'))
+      go : (x : Option Name) → Found d d' (option_and_then (find_module d) x) (option_and_then (find_module d') x)
       go None = absent refl refl
       go (Some s) = of_symbol s refl refl
 
   instance_of : (o o' : Option Module) (x : LoweredWell scale o o') (u : ℕ)
-      → omap bare_op (slice_get (instances (body_of o')) u) ≡ omap (spread x.lowered.parts) (slice_get (instances (body_of o)) u)
+      → option_map bare_op (slice_get (instances (body_of o')) u) ≡ option_map (spread x.lowered.parts) (slice_get (instances (body_of o)) u)
   instance_of o o' x u =
       sym (slice_get-map bare_op (instances (body_of o')) u)
       ∙ ap (λ xs. slice_get xs u) (instances_follow (body_of o) (body_of o') x.lowered.parts x.lowered.anchors_are)
       ∙ slice_get-map (spread x.lowered.parts) (instances (body_of o)) u
 
   found_inside : (o o' : Option Module) → LoweredWell scale o o' → (u : ℕ)
-      → Found d d' (bind o (λ (m : Module). bind (slice_get (instances m.body) u) (callee d))) (bind o' (λ (m : Module). bind (slice_get (instances m.body) u) (callee d')))
+      → Found d d' (option_and_then (λ (m : Module). option_and_then (callee d) (slice_get (instances m.body) u)) o) (option_and_then (λ (m : Module). option_and_then (callee d') (slice_get (instances m.body) u)) o')
   found_inside o o' x u =
       subst₂ (Found d d') (sym (module_inside d u o)) (sym (module_inside d' u o'))
       (go (slice_get (instances (body_of o)) u) (slice_get (instances (body_of o')) u) (instance_of o o' x u))
     where
-      go : (y y' : Option Op) → omap bare_op y' ≡ omap (spread x.lowered.parts) y → Found d d' (bind y (callee d)) (bind y' (callee d'))
+      go : (y y' : Option Op) → option_map bare_op y' ≡ option_map (spread x.lowered.parts) y → Found d d' (option_and_then (callee d) y) (option_and_then (callee d') y')
       go None None same = absent refl refl
       go None (Some z') same = cc
       go (Some z) None same = cc
@@ -158,19 +157,19 @@ module _ (scale : ℕ) (d d' : Design) (each : (s : Name) → LoweredWell scale 
 
     -- ---- instances
 
-    instance_at : (p : Path) (u : ℕ) → omap bare_op (slice_get (instances (new_body p)) u) ≡ omap (spread (parts_at p)) (slice_get (instances (old_body p)) u)
+    instance_at : (p : Path) (u : ℕ) → option_map bare_op (slice_get (instances (new_body p)) u) ≡ option_map (spread (parts_at p)) (slice_get (instances (old_body p)) u)
     instance_at p u = instance_of (module_at d top p) (module_at d' top p) (at p) u
 
     pub instance_pair : (p : Path) (u : ℕ) (o : Op) → slice_get (instances (old_body p)) u ≡ Some o
         → (o' : Op) × (slice_get (instances (new_body p)) u ≡ Some o') × (bare_op o' ≡ spread (parts_at p) o)
-    instance_pair p u o is = omap_some bare_op (slice_get (instances (new_body p)) u) (instance_at p u ∙ ap (omap (spread (parts_at p))) is)
+    instance_pair p u o is = option_map_some bare_op (slice_get (instances (new_body p)) u) (instance_at p u ∙ ap (option_map (spread (parts_at p))) is)
 
     pub instance_back : (p : Path) (u : ℕ) (o' : Op) → slice_get (instances (new_body p)) u ≡ Some o'
         → (o : Op) × (slice_get (instances (old_body p)) u ≡ Some o) × (spread (parts_at p) o ≡ bare_op o')
-    instance_back p u o' is = omap_some (spread (parts_at p)) (slice_get (instances (old_body p)) u) (sym (instance_at p u) ∙ ap (omap bare_op) is)
+    instance_back p u o' is = option_map_some (spread (parts_at p)) (slice_get (instances (old_body p)) u) (sym (instance_at p u) ∙ ap (option_map bare_op) is)
 
     pub inside : (p : Path) (u : ℕ) (o : Op) → slice_get (instances (old_body p)) u ≡ Some o → module_at d top (u ∷ p) ≡ callee d o
-    inside p u o is = module_inside d u (module_at d top p) ∙ ap (λ x. bind x (callee d)) is
+    inside p u o is = module_inside d u (module_at d top p) ∙ ap (λ x. option_and_then (callee d) x) is
 
     pub inside' : (p : Path) (u : ℕ) (o : Op) → slice_get (instances (new_body p)) u ≡ Some o → module_at d' top (u ∷ p) ≡ callee d' o
-    inside' p u o is = module_inside d' u (module_at d' top p) ∙ ap (λ x. bind x (callee d')) is
+    inside' p u o is = module_inside d' u (module_at d' top p) ∙ ap (λ x. option_and_then (callee d') x) is

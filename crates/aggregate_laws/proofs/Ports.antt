@@ -1,15 +1,14 @@
 -- The leaves of ports: where each stands, and what an instance joins to it.
-use Rattle.std.proofs.Common.{◌≡◌, ℕ, zero, suc, ◌+◌, ◌<◌, ◌≤◌, Bool, true, false, cond, List, [], ◌∷◌, ◌++◌, length, map, take, flat_map, slice_get, Option, Some, None, refl, sym, ap, ap₂, ◌∙◌, arith, length-append, append-nil}
+use Rattle.std.proofs.Common.{◌≡◌, ℕ, zero, suc, ◌+◌, ◌<◌, ◌≤◌, Bool, true, false, cond, List, [], ◌∷◌, ◌++◌, length, map, take, flat_map, slice_get, Option, Some, None, refl, sym, ap, ap₂, ◌∙◌, arith, length-append, append-nil, option_map}
 use Rattle.std.proofs.lemmas.List.{length-map, length-take-le}
 use Rattle.std.proofs.lemmas.Option.{slice_get-map, slice_get_within}
-use Rattle.wiring.specs.Options.{omap}
-use Rattle.wiring.proofs.Options.{omap_some}
+use Rattle.wiring.proofs.Options.{option_map_some}
 use Rattle.wiring.proofs.Lists.{slice_get_some}
 use Rattle.hw_model.specs.Types.{HwType, width, leaves}
 use Rattle.hw_model.specs.Design.{Ref, Port}
 use Rattle.hw_model.specs.Flat.{port_ref, operand_for, input_count, input_width}
 use Rattle.hw_model.specs.Sound.{input_types, output_types}
-use Rattle.hw_edits.proofs.Positions.{take_map}
+use Rattle.edit_laws.proofs.Positions.{take_map}
 use Rattle.aggregate_laws.specs.Leaves.{leaf_port, leaf_ports, leaf_start}
 use Rattle.aggregate_laws.proofs.Lists.{flat_map_at, flat_map_take, flat_map_position, flat_map_lengths}
 use Rattle.aggregate_laws.proofs.Words.{widths, widths-append, leaves_width}
@@ -102,7 +101,7 @@ module _ (ps : List Port) (j : ℕ) (q : Port) (there : slice_get ps j ≡ Some 
   leaf_port_at i t is =
       let below : i < length (leaves q.type) = slice_get_within (leaves q.type) i t is in
       flat_map_at leaf_ports ps j i q there (omega (arith, length-map (leaves q.type) (leaf_port q.is_output)))
-      ∙ slice_get-map (leaf_port q.is_output) (leaves q.type) i ∙ ap (omap (leaf_port q.is_output)) is
+      ∙ slice_get-map (leaf_port q.is_output) (leaves q.type) i ∙ ap (option_map (leaf_port q.is_output)) is
 
   module _ (inward : q.is_output ≡ false) where
     -- the types of the inputs before the i-th leaf
@@ -152,7 +151,7 @@ joined_port ps rs j' r' is = go (slice_get (flat_map leaf_ports ps) j') refl is
     go (Some y) here h =
         let found = flat_map_position leaf_ports ps j' y here in
         let q : Port = found.2 in
-        let leaf = omap_some (leaf_port q.is_output) (slice_get (leaves q.type) found.1) (sym (slice_get-map (leaf_port q.is_output) (leaves q.type) found.1) ∙ found.4) in
+        let leaf = option_map_some (leaf_port q.is_output) (slice_get (leaves q.type) found.1) (sym (slice_get-map (leaf_port q.is_output) (leaves q.type) found.1) ∙ found.4) in
         let way : y.is_output ≡ q.is_output = ap (λ (z : Port). z.is_output) (sym leaf.2) in
         (found.0, q, found.1, found.3, sym way ∙ inward y.is_output h, slice_get_within (leaves q.type) found.1 leaf.0 leaf.1, found.5)
       where

@@ -1,7 +1,6 @@
 -- The registers of the flattened module: each becomes one for each leaf, in its place.
-use Rattle.std.proofs.Common.{◌≡◌, ◌⊎◌, ℕ, zero, suc, ◌+◌, true, List, [], ◌∷◌, ◌++◌, length, map, flat_map, slice_get, Some, None, is_some, refl, sym, ap, ap₂, subst, ◌∙◌, inl, inr, arith, zero-add}
+use Rattle.std.proofs.Common.{◌≡◌, ◌⊎◌, ℕ, zero, suc, ◌+◌, true, List, [], ◌∷◌, ◌++◌, length, map, flat_map, slice_get, Some, None, is_some, refl, sym, ap, ap₂, subst, ◌∙◌, inl, inr, arith, zero-add, option_and_then, option_map}
 use Rattle.std.proofs.lemmas.Grind.{flat_map-append}
-use Rattle.wiring.specs.Options.{bind, omap}
 use Rattle.wiring.specs.Wiring.{In}
 use Rattle.wiring.proofs.Members.{In-append_cases, position_of_In}
 use Rattle.hw_model.specs.Types.{Name}
@@ -13,8 +12,8 @@ use Rattle.hw_model.specs.Sound.{body_of}
 use Rattle.hw_model.proofs.Sorts.{Sort, sort_of}
 use Rattle.hw_model.proofs.Sorts.Sort.{a_register, an_instance, an_output, a_made}
 use Rattle.hw_model.proofs.Paths.{registers_body}
-use Rattle.hw_edits.specs.Edit.{anchors}
-use Rattle.hw_edits.proofs.Anchors.{instances-anchors, body_registers-anchors}
+use Rattle.edit_laws.specs.Edit.{anchors}
+use Rattle.edit_laws.proofs.Anchors.{instances-anchors, body_registers-anchors}
 use Rattle.aggregate_laws.specs.Leaves.{bare_kind, leaf_operands, leaves_of, spread, lower_anchor}
 use Rattle.aggregate_laws.specs.Lowered.{LoweredWell}
 use Rattle.aggregate_laws.proofs.Bare.{called_symbol, form_bare, callee_by_symbol, bare_slot, body_registers_bare}
@@ -53,7 +52,7 @@ module _ (inner : Path → Name → List Slot) (p : Path) (x : Slot) where
       → In x (inner (n ∷ p) z.symbol) ⊎ In x (body_registers inner p (suc n) os) → FoundIn inner p x n (o ∷ os)
   by_part o os n z i rest (inl first) =
       let e : n ≡ n + 0 = omega arith in
-      inr (0, o, z.symbol, simp i, ap (omap (λ (y : Instance). y.symbol)) i, subst (λ m. In x (inner (m ∷ p) z.symbol)) e first)
+      inr (0, o, z.symbol, simp i, ap (option_map (λ (y : Instance). y.symbol)) i, subst (λ m. In x (inner (m ∷ p) z.symbol)) e first)
   by_part o os n z i rest (inr later) = past_instance o os n z i (rest later)
 
   by_place : (o : Op) (os : List Op) (n : ℕ) → is_register o ≡ true → instance_in o.kind ≡ None → (In x (body_registers inner p n os) → FoundIn inner p x n os)
@@ -125,7 +124,7 @@ module _ (scale : ℕ) (d d' : Design) (each : (s : Name) → LoweredWell scale 
       go (an_instance x r i u) rest more =
           ap (λ xs. body_registers inner' p n (xs ++ flat_map (lower_anchor (parts_at scale d d' each top p)) os)) (lowered_other (parts_at scale d d' each top p) o r)
           ∙ new_side (form_bare o.kind ∙ r) (bare_instance o.kind x i)
-          ∙ ap₂ (λ xs ys. xs ++ ys) (alike 0 n o x.symbol (omega arith) (simp i) (ap (omap (λ (y : Instance). y.symbol)) i))
+          ∙ ap₂ (λ xs ys. xs ++ ys) (alike 0 n o x.symbol (omega arith) (simp i) (ap (option_map (λ (y : Instance). y.symbol)) i))
           (more (λ v w y s is at_v called. alike (suc v) w y s (omega arith) (simp i at_v) called))
           ∙ sym (flat_map-append lower_slot (inner (n ∷ p) x.symbol) (body_registers inner p (suc n) os))
           ∙ simp (r, i)
@@ -143,9 +142,9 @@ module _ (scale : ℕ) (d d' : Design) (each : (s : Name) → LoweredWell scale 
       → (module_at d top (w ∷ p) ≡ find_module d s) × (module_at d' top (w ∷ p) ≡ find_module d' s)
   leads_to p w o s is called =
       let pair = instance_pair scale d d' each top p w o is in (
-        inside scale d d' each top p w o is ∙ callee_by_symbol d o ∙ ap (λ x. bind x (find_module d)) called,
+        inside scale d d' each top p w o is ∙ callee_by_symbol d o ∙ ap (λ x. option_and_then (find_module d) x) called,
         inside' scale d d' each top p w pair.0 pair.1 ∙ callee_by_symbol d' pair.0
-            ∙ ap (λ x. bind x (find_module d')) (called_same (parts_at scale d d' each top p) o pair.0 pair.2 ∙ called),
+            ∙ ap (λ x. option_and_then (find_module d') x) (called_same (parts_at scale d d' each top p) o pair.0 pair.2 ∙ called),
       )
 
   module_registers_same : (n : ℕ) (p : Path) (s : Name) → module_at d top p ≡ find_module d s → module_at d' top p ≡ find_module d' s

@@ -1,6 +1,6 @@
 -- What the leaves of a register hold after a step, joined, is what the register holds.
-use Rattle.std.proofs.Common.{◌≡◌, ℕ, suc, ◌+◌, Bool, true, false, cond, List, [], ◌∷◌, ◌++◌, length, map, drop, flat_map, slice_get, Option, Some, None, is_some, refl, sym, ap, ap₂, subst, ◌∙◌, inl, inr, arith, zero-add, add-zero, append-nil, length-append}
-use Rattle.wiring.specs.Options.{bind}
+use Rattle.std.proofs.Common.{◌≡◌, ℕ, suc, ◌+◌, Bool, true, false, cond, List, [], ◌∷◌, ◌++◌, length, map, drop, flat_map, slice_get, Option, Some, None, is_some, refl, sym, ap, ap₂, subst, ◌∙◌, inl}
+use Rattle.std.proofs.Common.{inr, arith, zero-add, add-zero, append-nil, length-append, option_and_then}
 use Rattle.wiring.specs.Wiring.{In}
 use Rattle.bits_core.specs.Word.{Word, first}
 use Rattle.bits_core.proofs.First.{first_all, first-first}
@@ -341,13 +341,13 @@ module _ (scale : ℕ) (d d' : Design) (each : (s : Name) → LoweredWell scale 
         slot_by s f form.1 (next_in (back scale d d' each same top σ)) (next_in σ) (λ r. σ (net s.path r)) (wide s.path)
         (λ i old. next_value (register_parts f.has_enable f.reset (leaf_operands f.has_enable f.reset (map (parts_at scale d d' each top s.path) s.op.operands) i)) (λ r. σ (net s.path r)) old)
         (λ i u old.
-        ap (λ x. next_value (bind x (λ (g : RegisterForm). register_parts g.has_enable g.reset (leaf_operands f.has_enable f.reset (map (parts_at scale d d' each top s.path) s.op.operands) i))) (λ r. σ (net s.path r)) old)
+        ap (λ x. next_value (option_and_then (λ (g : RegisterForm). register_parts g.has_enable g.reset (leaf_operands f.has_enable f.reset (map (parts_at scale d d' each top s.path) s.op.operands) i)) x) (λ r. σ (net s.path r)) old)
         (form_bare s.op.kind ∙ form.1))
         (result_type s.op 0) refl
         (λ t typed.
         subst (λ (x : Option RegisterForm). Chooses (type_in (ports_of (module_at d' top s.path)) (body_of (module_at d' top s.path))) t (λ r. σ (net s.path r))
         (λ i old. next_value (register_parts f.has_enable f.reset (leaf_operands f.has_enable f.reset (map (parts_at scale d d' each top s.path) s.op.operands) i)) (λ r. σ (net s.path r)) old)
-        (λ old. next_value (bind x (λ (g : RegisterForm). register_parts g.has_enable g.reset s.op.operands)) (whole (parts_at scale d d' each top s.path) (λ r. σ (net s.path r))) old))
+        (λ old. next_value (option_and_then (λ (g : RegisterForm). register_parts g.has_enable g.reset s.op.operands) x) (whole (parts_at scale d d' each top s.path) (λ r. σ (net s.path r))) old))
         (sym form.1)
         (next_chooses (type_in (ports_of (module_at d top s.path)) (body_of (module_at d top s.path))) (type_in (ports_of (module_at d' top s.path)) (body_of (module_at d' top s.path)))
         (parts_at scale d d' each top s.path) (typed_at_path s.path) t f.has_enable f.reset s.op.operands (λ r. σ (net s.path r)) (register_operands s stands f form.1 t typed)))

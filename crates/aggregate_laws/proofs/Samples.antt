@@ -19,27 +19,27 @@ use Rattle.hw_model.specs.Design.{Port, Op, Module}
 use Rattle.hw_model.specs.Design.Ref.{port, result}
 use Rattle.hw_model.proofs.Samples.{operation, in_port, out_port, module_of}
 use Rattle.aggregate_laws.specs.Leaves.{leaf_ports}
-use Rattle.aggregate_laws.specs.Rules.{Row, Rules, lowered_module}
-use Rattle.aggregate_laws.specs.Rows.{unnamed, join_row, extract_row, mux_row, constant_row, stays_row, register_row, spread_row}
-use Rattle.aggregate_laws.specs.Bitcasts.{bitcast_row}
-use Rattle.aggregate_laws.specs.Choices.{get_row, slice_row, array_inject_row}
+use Rattle.aggregate_laws.specs.Rules.{Rule, Rules, lowered_module}
+use Rattle.aggregate_laws.specs.OperationRules.{unnamed, join_rule, extract_rule, mux_rule, constant_rule, stays_rule, register_rule, spread_rule}
+use Rattle.aggregate_laws.specs.Bitcasts.{bitcast_rule}
+use Rattle.aggregate_laws.specs.Choices.{get_rule, slice_rule, array_inject_rule}
 
 -- rules for the operations of these modules
-abbrev sample_row : Op → Kind → Row
-sample_row o (on_array array_get) = get_row o 3 2
-sample_row o (on_array array_slice) = slice_row o 2 2 1 1
-sample_row o (on_array array_inject) = array_inject_row o 2 1 1
-sample_row o (on_struct struct_create) = join_row o unnamed
-sample_row o (on_struct (struct_extract name)) = extract_row o name
-sample_row o (aggregate_constant ls) = constant_row o ls
-sample_row o mux = mux_row o
-sample_row o bitcast = bitcast_row o (nth_type o.types 0)
-sample_row o (register f r) = register_row o (record { has_enable = true; reset = sync_reset }) unnamed
-sample_row o output = spread_row o output
-sample_row o kind = stays_row o
+abbrev sample_rule : Op → Kind → Rule
+sample_rule o (on_array array_get) = get_rule o 3 2
+sample_rule o (on_array array_slice) = slice_rule o 2 2 1 1
+sample_rule o (on_array array_inject) = array_inject_rule o 2 1 1
+sample_rule o (on_struct struct_create) = join_rule o unnamed
+sample_rule o (on_struct (struct_extract name)) = extract_rule o name
+sample_rule o (aggregate_constant ls) = constant_rule o ls
+sample_rule o mux = mux_rule o
+sample_rule o bitcast = bitcast_rule o (nth_type o.types 0)
+sample_rule o (register f r) = register_rule o (record { has_enable = true; reset = sync_reset }) unnamed
+sample_rule o output = spread_rule o output
+sample_rule o kind = stays_rule o
 
 abbrev sample_rules : Rules
-sample_rules = record { ports = flat_map leaf_ports; row = λ o. sample_row o o.kind }
+sample_rules = record { ports = flat_map leaf_ports; rule = λ o. sample_rule o o.kind }
 
 -- ---- an element of an array
 

@@ -1,5 +1,6 @@
 -- Fields of structs by leaves: taken out, put in, and all taken apart.
-use Rattle.std.proofs.Common.{◌≡◌, ◌⊎◌, ℕ, zero, suc, Bool, true, false, cond, List, [], ◌∷◌, ◌++◌, length, map, take, drop, flat_map, slice_get, Option, Some, refl, sym, ap, ap₂, subst, ◌∙◌, inl, inr, arith, append-nil, length-append, take_all, take-append-drop}
+use Rattle.std.proofs.Common.{◌≡◌, ◌⊎◌, ℕ, zero, suc, Bool, true, false, cond, List, [], ◌∷◌, ◌++◌, length, map, take, drop, flat_map, slice_get, Option, Some, refl, sym, ap, ap₂, subst, ◌∙◌, inl}
+use Rattle.std.proofs.Common.{inr, arith, append-nil, length-append, take_all, take-append-drop}
 use Rattle.std.proofs.Math.Seq.{take-append_seam, drop-append_seam}
 use Rattle.std.proofs.lemmas.List.{map-append, length-map, drop-drop}
 use Rattle.wiring.specs.Wiring.{In}
@@ -13,12 +14,12 @@ use Rattle.hw_model.specs.Kinds.StructOp.{struct_extract, struct_inject, struct_
 use Rattle.hw_model.specs.Value.{concat_words, field_of, with_field, field_at, fields, nth_type, op_value}
 use Rattle.hw_model.specs.Design.{Ref, Op, same_name}
 use Rattle.hw_model.specs.Sound.{HasWidth, field_list, field_type, OpFits, Fits}
-use Rattle.hw_edits.specs.Edit.{result_word}
-use Rattle.hw_edits.proofs.Positions.{take_map}
+use Rattle.edit_laws.specs.Edit.{result_word}
+use Rattle.edit_laws.proofs.Positions.{take_map}
 use Rattle.aggregate_laws.specs.Leaves.{result_types, result_start}
 use Rattle.aggregate_laws.specs.Lowered.{whole}
 use Rattle.aggregate_laws.specs.Rules.{Splits}
-use Rattle.aggregate_laws.specs.Rows.{joined_parts, argument, unnamed, field_parts, with_field_parts, join_row, extract_row, inject_row}
+use Rattle.aggregate_laws.specs.OperationRules.{joined_parts, argument, unnamed, field_parts, with_field_parts, join_rule, extract_rule, inject_rule}
 use Rattle.aggregate_laws.proofs.Words.{leaves_width, concat-append}
 use Rattle.aggregate_laws.proofs.Bare.{type_listed}
 use Rattle.aggregate_laws.proofs.Registers.{single, joined_width}
@@ -51,17 +52,17 @@ module _ (type_of : Ref → Option HwType) where
     word_cut rs n =
         ap word (sym (take-append-drop n rs)) ∙ ap concat_words (map-append τ (take n rs) (drop n rs)) ∙ concat-append (map τ (take n rs)) (map τ (drop n rs))
 
-    front_width : (rs : List Ref) (t : HwType) (us : List HwType) → map type_of rs ≡ map (λ (u : HwType). Some u) (leaves t ++ us) → length (word (take (length (leaves t)) rs)) ≡ width t
-    front_width rs t us typed = joined_width type_of τ wide (take (length (leaves t)) rs) (leaves t) (take_typed rs (leaves t) us typed) ∙ leaves_width t
+    prefix_width : (rs : List Ref) (t : HwType) (us : List HwType) → map type_of rs ≡ map (λ (u : HwType). Some u) (leaves t ++ us) → length (word (take (length (leaves t)) rs)) ≡ width t
+    prefix_width rs t us typed = joined_width type_of τ wide (take (length (leaves t)) rs) (leaves t) (take_typed rs (leaves t) us typed) ∙ leaves_width t
 
     -- the bits of the first of some values, and of the others
     pub take_word : (rs : List Ref) (t : HwType) (us : List HwType) → map type_of rs ≡ map (λ (u : HwType). Some u) (leaves t ++ us) → take (width t) (word rs) ≡ word (take (length (leaves t)) rs)
     take_word rs t us typed =
-        ap₂ take (sym (front_width rs t us typed)) (word_cut rs (length (leaves t))) ∙ take-append_seam (word (take (length (leaves t)) rs)) (word (drop (length (leaves t)) rs))
+        ap₂ take (sym (prefix_width rs t us typed)) (word_cut rs (length (leaves t))) ∙ take-append_seam (word (take (length (leaves t)) rs)) (word (drop (length (leaves t)) rs))
 
     pub drop_word : (rs : List Ref) (t : HwType) (us : List HwType) → map type_of rs ≡ map (λ (u : HwType). Some u) (leaves t ++ us) → drop (width t) (word rs) ≡ word (drop (length (leaves t)) rs)
     drop_word rs t us typed =
-        ap₂ drop (sym (front_width rs t us typed)) (word_cut rs (length (leaves t))) ∙ drop-append_seam (word (take (length (leaves t)) rs)) (word (drop (length (leaves t)) rs))
+        ap₂ drop (sym (prefix_width rs t us typed)) (word_cut rs (length (leaves t))) ∙ drop-append_seam (word (take (length (leaves t)) rs)) (word (drop (length (leaves t)) rs))
 
     -- ---- the word of a field
 
@@ -159,9 +160,9 @@ with_field_among (field f t fs) name rs vs r here =
     later (inl within) = inl (from_In-drop r (length (leaves t)) rs within)
     later (inr within) = inr within
 
-    by_front : In r vs ⊎ In r (drop (length (leaves t)) rs) → In r rs ⊎ In r vs
-    by_front (inl within) = inr within
-    by_front (inr within) = inl (from_In-drop r (length (leaves t)) rs within)
+    by_prefix : In r vs ⊎ In r (drop (length (leaves t)) rs) → In r rs ⊎ In r vs
+    by_prefix (inl within) = inr within
+    by_prefix (inr within) = inl (from_In-drop r (length (leaves t)) rs within)
 
     by_rest : (In r (with_field_parts fs name (drop (length (leaves t)) rs) vs) → In r (drop (length (leaves t)) rs) ⊎ In r vs)
         → In r (take (length (leaves t)) rs) ⊎ In r (with_field_parts fs name (drop (length (leaves t)) rs) vs) → In r rs ⊎ In r vs
@@ -170,7 +171,7 @@ with_field_among (field f t fs) name rs vs r here =
 
     go : (b : Bool) → In r (cond b (vs ++ drop (length (leaves t)) rs) (take (length (leaves t)) rs ++ with_field_parts fs name (drop (length (leaves t)) rs) vs))
         → (In r (with_field_parts fs name (drop (length (leaves t)) rs) vs) → In r (drop (length (leaves t)) rs) ⊎ In r vs) → In r rs ⊎ In r vs
-    go true within rest = by_front (In-append_cases r vs (drop (length (leaves t)) rs) within)
+    go true within rest = by_prefix (In-append_cases r vs (drop (length (leaves t)) rs) within)
     go false within rest = by_rest rest (In-append_cases r (take (length (leaves t)) rs) (with_field_parts fs name (drop (length (leaves t)) rs) vs) within)
 
 -- ---- kinds
@@ -199,7 +200,7 @@ one_chosen o t chosen new_type parts one typed among value = record {
 }
 
 pub struct_extract_splits : (o : Op) (name : Name) (old_type : Ref → Option HwType) (parts : Ref → List Ref) (t : HwType) → o.kind ≡ on_struct (struct_extract name)
-    → result_types o ≡ t ∷ [] → OpFits old_type o → Splits (extract_row o name) old_type parts o
+    → result_types o ≡ t ∷ [] → OpFits old_type o → Splits (extract_rule o name) old_type parts o
 struct_extract_splits o name old_type parts t is one fits =
     wires_split o unnamed (λ args. field_parts (fields (nth_type o.types 0)) name (argument 0 args)) old_type parts (plain_kind o (on_struct (struct_extract name)) is refl)
     (λ new_type typed.
@@ -225,7 +226,7 @@ struct_extract_splits o name old_type parts t is one fits =
     chosen = ap₂ (λ u rs. field_parts (fields u) name (argument 0 (map parts rs))) made.2 operand.1
 
 pub struct_inject_splits : (o : Op) (name : Name) (old_type : Ref → Option HwType) (parts : Ref → List Ref) (t : HwType) → o.kind ≡ on_struct (struct_inject name)
-    → result_types o ≡ t ∷ [] → OpFits old_type o → Splits (inject_row o name) old_type parts o
+    → result_types o ≡ t ∷ [] → OpFits old_type o → Splits (inject_rule o name) old_type parts o
 struct_inject_splits o name old_type parts t is one fits =
     wires_split o unnamed (λ args. with_field_parts (fields (nth_type o.types 0)) name (argument 0 args) (argument 1 args)) old_type parts (plain_kind o (on_struct (struct_inject name)) is refl)
     (λ new_type typed.
@@ -254,7 +255,7 @@ struct_inject_splits o name old_type parts t is one fits =
     from_operand r (inr here) = (operands.1, subst (In operands.1) (sym operands.2) (inr (inl refl)), here)
 
 pub struct_explode_splits : (o : Op) (old_type : Ref → Option HwType) (parts : Ref → List Ref) (fs : FieldTypes) → o.kind ≡ on_struct struct_explode
-    → nth_type o.types 0 ≡ struct fs → map old_type o.operands ≡ Some (struct fs) ∷ [] → result_types o ≡ field_list fs → Splits (join_row o unnamed) old_type parts o
+    → nth_type o.types 0 ≡ struct fs → map old_type o.operands ≡ Some (struct fs) ∷ [] → result_types o ≡ field_list fs → Splits (join_rule o unnamed) old_type parts o
 struct_explode_splits o old_type parts fs is written given all =
     wires_split o unnamed joined_parts old_type parts (plain_kind o (on_struct struct_explode) is refl)
     (λ new_type typed.

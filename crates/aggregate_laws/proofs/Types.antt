@@ -1,9 +1,8 @@
 -- A design with the leaves of a sound one's values is sound.
-use Rattle.std.proofs.Common.{◌≡◌, ℕ, zero, suc, ◌+◌, Bool, true, false, List, [], ◌∷◌, ◌++◌, map, flat_map, slice_get, Option, Some, None, is_some, refl, sym, ap, ap₂, subst, ◌∙◌, zero-add}
+use Rattle.std.proofs.Common.{◌≡◌, ℕ, zero, suc, ◌+◌, Bool, true, false, List, [], ◌∷◌, ◌++◌, map, flat_map, slice_get, Option, Some, None, is_some, refl, sym, ap, ap₂, subst, ◌∙◌, zero-add, option_map}
 use Rattle.std.proofs.lemmas.List.{map-append}
 use Rattle.std.proofs.lemmas.Option.{slice_get-map}
-use Rattle.wiring.specs.Options.{omap}
-use Rattle.wiring.proofs.Options.{omap_some}
+use Rattle.wiring.proofs.Options.{option_map_some}
 use Rattle.hw_model.specs.Types.{Name, HwType, leaves}
 use Rattle.hw_model.specs.Types.HwType.{int, clock}
 use Rattle.hw_model.specs.Kinds.{Kind, Instance, Reset}
@@ -14,7 +13,7 @@ use Rattle.hw_model.specs.Sound.{body_of, ports_of, input_types, output_types, t
 use Rattle.hw_model.proofs.Sorts.{Sort, sort_of}
 use Rattle.hw_model.proofs.Sorts.Sort.{a_register, an_instance, an_output, a_made}
 use Rattle.hw_model.proofs.NetWidths.{sound_found}
-use Rattle.hw_edits.specs.Edit.{is_anchor}
+use Rattle.edit_laws.specs.Edit.{is_anchor}
 use Rattle.aggregate_laws.specs.Leaves.{bare_port, leaf_ports, part, or_undefined, bare, bare_kind, bare_op, leaf_operands, leaf_registers, leaves_of, spread, lower_anchor, result_types}
 use Rattle.aggregate_laws.specs.Lowered.{LoweredWell}
 use Rattle.aggregate_laws.proofs.Bare.{called_symbol, called_bare, form_bare, types_bare, type_listed, input_types_bare, output_types_bare}
@@ -42,7 +41,7 @@ instance_fits k i ts xs t n is = cc
 
 -- an instance of the same symbol
 pub called_instance : (k : Kind) (s : Name) → called_symbol k ≡ Some s → (i : Instance) × (instance_in k ≡ Some i) × (i.symbol ≡ s)
-called_instance k s is = omap_some (λ (i : Instance). i.symbol) (instance_in k) is
+called_instance k s is = option_map_some (λ (i : Instance). i.symbol) (instance_in k) is
 
 -- ---- operands
 
@@ -61,9 +60,9 @@ module _ (old_type new_type : Ref → Option HwType) (parts : Ref → List Ref)
   -- the i-th leaf of a value
   part_type : (r : Ref) (t : HwType) (i : ℕ) (u : HwType) → old_type r ≡ Some t → slice_get (leaves t) i ≡ Some u → new_type (part (parts r) i) ≡ Some u
   part_type r t i u is at_u =
-      let e : omap new_type (slice_get (parts r) i) ≡ Some (Some u) =
-      sym (slice_get-map new_type (parts r) i) ∙ ap (λ xs. slice_get xs i) (typed r t is) ∙ slice_get-map (λ (v : HwType). Some v) (leaves t) i ∙ ap (omap (λ (v : HwType). Some v)) at_u in
-      let found = omap_some new_type (slice_get (parts r) i) e in
+      let e : option_map new_type (slice_get (parts r) i) ≡ Some (Some u) =
+      sym (slice_get-map new_type (parts r) i) ∙ ap (λ xs. slice_get xs i) (typed r t is) ∙ slice_get-map (λ (v : HwType). Some v) (leaves t) i ∙ ap (option_map (λ (v : HwType). Some v)) at_u in
+      let found = option_map_some new_type (slice_get (parts r) i) e in
       ap (λ x. new_type (or_undefined x)) found.1 ∙ found.2
 
   one_typed : (r : Ref) (x : HwType) → leaves x ≡ x ∷ [] → old_type r ≡ Some x → (r' : Ref) × (parts r ≡ r' ∷ []) × (new_type r' ≡ Some x)
@@ -122,7 +121,7 @@ module _ (scale : ℕ) (o o' : Option Module) (x : LoweredWell scale o o') where
       alike : bare_op z ≡ (x.origin j' z is anchor).3
       alike =
           let there = (x.lowered.stands from.0 from.1 from.2 from.3 from.4 from.5 from.6).op in
-          let e : omap bare_op (Some z) ≡ Some from.3 = ap (omap bare_op) (sym is ∙ ap (slice_get (body_of o')) from.7) ∙ there in
+          let e : option_map bare_op (Some z) ≡ Some from.3 = ap (option_map bare_op) (sym is ∙ ap (slice_get (body_of o')) from.7) ∙ there in
           cc
 
       by_type : (f : RegisterForm) → register_form from.1.kind ≡ Some f → (t : Option HwType) → result_type from.1 0 ≡ t
@@ -191,7 +190,7 @@ module _ (scale : ℕ) (d d' : Design) (each : (s : Name) → LoweredWell scale 
         other j y at_j none anchored alike (a_register f r i u) = let clash : None ≡ Some f = sym none ∙ r in cc
         other j y at_j none anchored alike (an_instance n r i u) =
             let called : called_symbol z.kind ≡ Some n.symbol =
-            sym (called_bare z.kind) ∙ ap (λ (w : Op). called_symbol w.kind) alike ∙ called_bare y.kind ∙ ap (omap (λ (m : Instance). m.symbol)) i in
+            sym (called_bare z.kind) ∙ ap (λ (w : Op). called_symbol w.kind) alike ∙ called_bare y.kind ∙ ap (option_map (λ (m : Instance). m.symbol)) i in
             let inst = called_instance z.kind n.symbol called in
             instance_fits z.kind inst.0 z.types (map (type_in (ports_of o') (body_of o')) z.operands) t k inst.1
         other j y at_j none anchored alike (an_output r i u) =
@@ -236,7 +235,7 @@ module _ (scale : ℕ) (d d' : Design) (each : (s : Name) → LoweredWell scale 
             cc
         go (of_other j y at_j none anchored alike place) =
             let called : called_symbol y.kind ≡ Some i.symbol =
-            sym (called_bare y.kind) ∙ ap (λ (w : Op). called_symbol w.kind) (sym alike) ∙ called_bare z.kind ∙ ap (omap (λ (m : Instance). m.symbol)) inst_i in
+            sym (called_bare y.kind) ∙ ap (λ (w : Op). called_symbol w.kind) (sym alike) ∙ called_bare z.kind ∙ ap (option_map (λ (m : Instance). m.symbol)) inst_i in
             let found = called_instance y.kind i.symbol called in
             by_symbol j y at_j alike found.0 found.1 found.2
 

@@ -66,13 +66,13 @@ first_parts (suc n) m [] =
 first_parts (suc n) m (b ∷ x) = ap (λ z. b ∷ z) (first_parts n m x) ∙ ap (λ k. first k (b ∷ x)) (sym (suc-add n m))
 
 -- the first bits of a word are its first bits by types, joined
-pub joined_row : (ts : List HwType) (x : Word) (g : ℕ → Word) (s : ℕ)
+pub joined_rule : (ts : List HwType) (x : Word) (g : ℕ → Word) (s : ℕ)
     → ((i : ℕ) (t : HwType) → slice_get ts i ≡ Some t → g (s + i) ≡ first (width t) (drop (widths (take i ts)) x))
     → concat_words (in_row g s (length ts)) ≡ first (widths ts) x
-joined_row [] x g s each = refl
-joined_row (t ∷ ts) x g s each =
+joined_rule [] x g s each = refl
+joined_rule (t ∷ ts) x g s each =
     ap₂ (λ a b. a ++ b) (ap g (sym (let e : s + 0 ≡ s = omega arith in e)) ∙ each 0 t refl)
-    (joined_row ts (drop (width t) x) g (suc s)
+    (joined_rule ts (drop (width t) x) g (suc s)
     (λ i u is. ap g (let e : suc s + i ≡ s + suc i = omega arith in e) ∙ each (suc i) u is
     ∙ ap (first (width u)) (further i)))
     ∙ first_parts (width t) (widths ts) x

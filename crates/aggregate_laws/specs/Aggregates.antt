@@ -14,10 +14,10 @@ use Rattle.hw_model.specs.Value.{nth_type}
 use Rattle.hw_model.specs.Design.{Ref, Port, Op, RegisterForm, takes_enable}
 use Rattle.hw_model.specs.Sound.{field_list}
 use Rattle.aggregate_laws.specs.Leaves.{bare_kind, result_types}
-use Rattle.aggregate_laws.specs.Rules.{Row, Rules}
-use Rattle.aggregate_laws.specs.Rows.{unnamed, join_row, extract_row, inject_row, mux_row, literals_types, constant_row, stays_row, register_row, register_stays_row, spread_row}
-use Rattle.aggregate_laws.specs.Choices.{get_row, slice_row, array_inject_row}
-use Rattle.aggregate_laws.specs.Bitcasts.{bitcast_row}
+use Rattle.aggregate_laws.specs.Rules.{Rule, Rules}
+use Rattle.aggregate_laws.specs.OperationRules.{unnamed, join_rule, extract_rule, inject_rule, mux_rule, literals_types, constant_rule, stays_rule, register_rule, register_stays_rule, spread_rule}
+use Rattle.aggregate_laws.specs.Choices.{get_rule, slice_rule, array_inject_rule}
+use Rattle.aggregate_laws.specs.Bitcasts.{bitcast_rule}
 
 -- ---- types
 
@@ -82,37 +82,37 @@ names_from (c ∷ name) t i = name_at (leaf_names (c ∷ name) t) i
 abbrev pub own_names : Op → ℕ → Name
 own_names o i = names_from o.name (first_type o) i
 
--- ---- rows
+-- ---- rules
 
-abbrev pub register_by : Op → RegisterForm → Row
-register_by o form = cond (is_scalar (first_type o)) (register_stays_row o form) (register_row o form (own_names o))
+abbrev pub register_by : Op → RegisterForm → Rule
+register_by o form = cond (is_scalar (first_type o)) (register_stays_rule o form) (register_rule o form (own_names o))
 
 -- what an operation of a kind becomes; `named` gives an instance's kind with the names of the leaves of its ports
-abbrev pub row_of : (Op → Kind) → Op → Kind → Row
-row_of named o mux = cond (is_scalar (first_type o)) (stays_row o) (mux_row o)
-row_of named o wire = cond (is_scalar (first_type o)) (stays_row o) (join_row o (own_names o))
-row_of named o bitcast = cond (is_scalar (first_type o) && is_scalar (nth_type o.types 0)) (stays_row o) (bitcast_row o (nth_type o.types 0))
-row_of named o (aggregate_constant ls) = constant_row o ls
-row_of named o (on_array array_create) = join_row o unnamed
-row_of named o (on_array array_concat) = join_row o unnamed
-row_of named o (on_array array_get) = get_row o (array_length (nth_type o.types 0)) (width (nth_type o.types 1))
-row_of named o (on_array array_slice) =
-    slice_row o (array_length (nth_type o.types 0)) (array_length (first_type o)) (length (leaves (element_type (nth_type o.types 0)))) (index_bits (array_length (nth_type o.types 0)))
-row_of named o (on_array array_inject) =
-    array_inject_row o (array_length (nth_type o.types 0)) (length (leaves (element_type (nth_type o.types 0)))) (width (nth_type o.types 1))
-row_of named o (on_struct struct_create) = join_row o unnamed
-row_of named o (on_struct (struct_extract name)) = extract_row o name
-row_of named o (on_struct (struct_inject name)) = inject_row o name
-row_of named o (on_struct struct_explode) = join_row o unnamed
-row_of named o (instance i) = spread_row o (named o)
-row_of named o output = spread_row o output
-row_of named o (register f r) = register_by o (record { has_enable = takes_enable f; reset = r })
-row_of named o async_firreg = register_by o (record { has_enable = false; reset = sync_reset })
-row_of named o kind = stays_row o
+abbrev pub rule_of : (Op → Kind) → Op → Kind → Rule
+rule_of named o mux = cond (is_scalar (first_type o)) (stays_rule o) (mux_rule o)
+rule_of named o wire = cond (is_scalar (first_type o)) (stays_rule o) (join_rule o (own_names o))
+rule_of named o bitcast = cond (is_scalar (first_type o) && is_scalar (nth_type o.types 0)) (stays_rule o) (bitcast_rule o (nth_type o.types 0))
+rule_of named o (aggregate_constant ls) = constant_rule o ls
+rule_of named o (on_array array_create) = join_rule o unnamed
+rule_of named o (on_array array_concat) = join_rule o unnamed
+rule_of named o (on_array array_get) = get_rule o (array_length (nth_type o.types 0)) (width (nth_type o.types 1))
+rule_of named o (on_array array_slice) =
+    slice_rule o (array_length (nth_type o.types 0)) (array_length (first_type o)) (length (leaves (element_type (nth_type o.types 0)))) (index_bits (array_length (nth_type o.types 0)))
+rule_of named o (on_array array_inject) =
+    array_inject_rule o (array_length (nth_type o.types 0)) (length (leaves (element_type (nth_type o.types 0)))) (width (nth_type o.types 1))
+rule_of named o (on_struct struct_create) = join_rule o unnamed
+rule_of named o (on_struct (struct_extract name)) = extract_rule o name
+rule_of named o (on_struct (struct_inject name)) = inject_rule o name
+rule_of named o (on_struct struct_explode) = join_rule o unnamed
+rule_of named o (instance i) = spread_rule o (named o)
+rule_of named o output = spread_rule o output
+rule_of named o (register f r) = register_by o (record { has_enable = takes_enable f; reset = r })
+rule_of named o async_firreg = register_by o (record { has_enable = false; reset = sync_reset })
+rule_of named o kind = stays_rule o
 
 -- the rules for all operations, `split` giving the leaves of ports
 abbrev pub aggregate_rules : (List Port → List Port) → (Op → Kind) → Rules
-aggregate_rules split named = record { ports = split; row = λ o. row_of named o o.kind }
+aggregate_rules split named = record { ports = split; rule = λ o. rule_of named o o.kind }
 
 -- ---- what operations are like
 
@@ -129,7 +129,7 @@ pub record IsPlain (old_type : Ref → Option HwType) (o : Op) : Type 0 where
 abbrev pub HasOne : Op → Type 0
 HasOne o = (t : HwType) × (result_types o ≡ t ∷ [])
 
--- an operation of a kind is as its row asks (CIRCT: operation references of the HW and Comb dialects)
+-- an operation of a kind is as its rule asks (CIRCT: operation references of the HW and Comb dialects)
 abbrev pub IsRegular : (Op → Kind) → (Ref → Option HwType) → Op → Kind → Type 0
 IsRegular named old_type o mux = HasOne o
 IsRegular named old_type o wire = HasOne o

@@ -7,8 +7,8 @@ use Rattle.hw_model.specs.Kinds.Kind.{extract, concat}
 use Rattle.hw_model.specs.Design.{Ref, Op}
 use Rattle.hw_model.specs.Design.Ref.{result}
 use Rattle.aggregate_laws.specs.Leaves.{in_row, part}
-use Rattle.aggregate_laws.specs.Rules.{Row}
-use Rattle.aggregate_laws.specs.Rows.{made_op, all_leaves, argument}
+use Rattle.aggregate_laws.specs.Rules.{Rule}
+use Rattle.aggregate_laws.specs.OperationRules.{made_op, all_leaves, argument}
 
 -- bits of one of some values: its number and type, the lowest bit, and how many bits
 pub record Piece : Type 0 where
@@ -65,8 +65,8 @@ piece_end us skip (t ∷ ts) zero = joined_end (pieces 0 us skip (width t))
 piece_end us skip (t ∷ ts) (suc i) = suc (joined_end (pieces 0 us skip (width t))) + piece_end us (skip + width t) ts i
 
 -- `hw.bitcast` of a value of type u
-abbrev pub bitcast_row : Op → HwType → Row
-bitcast_row o u = record {
+abbrev pub bitcast_rule : Op → HwType → Rule
+bitcast_rule o u = record {
   count = piece_count (leaves u) 0 (all_leaves o);
   place = λ l. piece_end (leaves u) 0 (all_leaves o) l;
   made = λ args start. leaf_pieces o (argument 0 args) (leaves u) 0 start (all_leaves o);

@@ -8,8 +8,8 @@ use Rattle.hw_model.specs.Kinds.Kind.{icmp, mux, constant}
 use Rattle.hw_model.specs.Design.{Ref, Op}
 use Rattle.hw_model.specs.Design.Ref.{result}
 use Rattle.aggregate_laws.specs.Leaves.{part}
-use Rattle.aggregate_laws.specs.Rules.{Row}
-use Rattle.aggregate_laws.specs.Rows.{made_op, all_leaves, argument, for_each}
+use Rattle.aggregate_laws.specs.Rules.{Rule}
+use Rattle.aggregate_laws.specs.OperationRules.{made_op, all_leaves, argument, for_each}
 
 -- whether an index of w bits is each of n numbers, from `from` on: a constant and a comparison for each, beginning at a position
 abbrev pub tests : Op → ℕ → Ref → ℕ → ℕ → ℕ → List Op
@@ -49,8 +49,8 @@ choice_end sizes l (suc k) = suc (sizes l) + choice_end sizes (suc l) k
 
 -- an operation whose second operand, an index of w bits, chooses for each leaf among values; `element` gives these of the
 -- first operand
-abbrev pub choice_row : Op → ℕ → ℕ → (ℕ → ℕ) → (List Ref → ℕ → ℕ → Ref) → Row
-choice_row o n w sizes element = record {
+abbrev pub choice_rule : Op → ℕ → ℕ → (ℕ → ℕ) → (List Ref → ℕ → ℕ → Ref) → Rule
+choice_rule o n w sizes element = record {
   count = 2 * n + choice_count sizes 0 (length (all_leaves o));
   place = λ l. 2 * n + choice_end sizes 0 l;
   made = λ args start.
@@ -62,20 +62,20 @@ abbrev pub element_leaf : ℕ → ℕ → List Ref → ℕ → ℕ → Ref
 element_leaf n m rs l e = part rs ((n - suc e) * m + l)
 
 -- `hw.array_get` of n elements
-abbrev pub get_row : Op → ℕ → ℕ → Row
-get_row o n w = choice_row o n w (λ l. n) (element_leaf n (length (all_leaves o)))
+abbrev pub get_rule : Op → ℕ → ℕ → Rule
+get_rule o n w = choice_rule o n w (λ l. n) (element_leaf n (length (all_leaves o)))
 
 -- of which of k elements, with m leaves each, a leaf is
 abbrev pub element_of : ℕ → ℕ → ℕ → ℕ
 element_of k m l = k - suc (l / m)
 
 -- `hw.array_slice` of n elements to k, with m leaves each: for element j one of the elements from j on
-abbrev pub slice_row : Op → ℕ → ℕ → ℕ → ℕ → Row
-slice_row o n k m w = choice_row o n w (λ l. n - element_of k m l) (λ rs l e. element_leaf n m rs (l % m) (e + element_of k m l))
+abbrev pub slice_rule : Op → ℕ → ℕ → ℕ → ℕ → Rule
+slice_rule o n k m w = choice_rule o n w (λ l. n - element_of k m l) (λ rs l e. element_leaf n m rs (l % m) (e + element_of k m l))
 
 -- `hw.array_inject` to n elements with m leaves each: for each leaf the value's, where the index is that of its element
-abbrev pub array_inject_row : Op → ℕ → ℕ → ℕ → Row
-array_inject_row o n m w = record {
+abbrev pub array_inject_rule : Op → ℕ → ℕ → ℕ → Rule
+array_inject_rule o n m w = record {
   count = 2 * n + length (all_leaves o);
   place = λ l. 2 * n + l;
   made = λ args start.

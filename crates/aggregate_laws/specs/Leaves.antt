@@ -6,7 +6,7 @@ use Rattle.hw_model.specs.Types.{HwType, leaves}
 use Rattle.hw_model.specs.Kinds.{Kind, Reset}
 use Rattle.hw_model.specs.Kinds.Reset.{no_reset, sync_reset}
 use Rattle.hw_model.specs.Kinds.Kind.{instance}
-use Rattle.hw_model.specs.Design.{Ref, Port, OpResult, Op, RegisterForm, nowhere_place, register_form, result_type}
+use Rattle.hw_model.specs.Design.{Ref, Port, OpResult, Op, RegisterForm, no_location, register_form, result_type}
 use Rattle.hw_model.specs.Design.Ref.{port, undefined}
 
 -- ---- values in a row
@@ -69,7 +69,7 @@ bare kind rs ts = record {
   name = [];
   dictionary = [];
   bin = false;
-  place = nowhere_place;
+  location = no_location;
 }
 
 -- the types of an operation's results

@@ -3,7 +3,7 @@ pub mod Bitcasts
 pub mod Choices
 pub mod Leaves
 pub mod Lowered
-pub mod Rows
+pub mod OperationRules
 pub mod Rules
 pub mod LeafPorts
 pub mod Scalars

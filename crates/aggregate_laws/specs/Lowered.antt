@@ -1,8 +1,7 @@
 -- A module in which each aggregate value is its leaves, and what it has to keep so that designs of such modules do what
 -- they did (CIRCT, HW dialect: `hw-lower-aggregates`).
-use Rattle.std.specs.Prelude.{◌≡◌, ℕ, suc, ◌-◌, ◌*◌, ◌<◌, true, false, List, [], ◌++◌, map, take, length, Option, Some, None, is_some, slice_get}
+use Rattle.std.specs.Prelude.{◌≡◌, ℕ, suc, ◌-◌, ◌*◌, ◌<◌, true, false, List, [], ◌++◌, map, take, length, Option, Some, None, is_some, slice_get, option_map}
 use Rattle.std.specs.List.{flat_map}
-use Rattle.wiring.specs.Options.{omap}
 use Rattle.wiring.specs.Wiring.{In}
 use Rattle.bits_core.specs.Word.{Word}
 use Rattle.hw_model.specs.Types.{HwType, leaves}
@@ -10,9 +9,9 @@ use Rattle.hw_model.specs.Value.{concat_words}
 use Rattle.hw_model.specs.Design.{Ref, Op, Module, is_instance, is_register, result_type}
 use Rattle.hw_model.specs.Design.Ref.{port, result}
 use Rattle.hw_model.specs.Sound.{body_of, ports_of, type_in, OpFits}
-use Rattle.hw_edits.specs.Edit.{is_anchor, anchors, result_word, Holds}
-use Rattle.hw_edits.specs.Falls.{LocalHeight}
-use Rattle.hw_edits.specs.Follows.{Wide}
+use Rattle.edit_laws.specs.Edit.{is_anchor, anchors, result_word, Holds}
+use Rattle.edit_laws.specs.Falls.{LocalHeight}
+use Rattle.edit_laws.specs.Follows.{Wide}
 use Rattle.aggregate_laws.specs.Leaves.{in_row, bare_port, leaf_ports, leaf_start, parts_of_port, bare_op, lower_anchor, result_start}
 
 -- the word of a value whose leaves the map has
@@ -22,7 +21,7 @@ whole parts τ r = concat_words (map τ (parts r))
 -- at position j' of the new body stands, but for names, x, the i-th of what the operation o at position j of the old body
 -- becomes, after the same registers and instances
 pub record Standing (os os' : List Op) (parts : Ref → List Ref) (j : ℕ) (o : Op) (i : ℕ) (x : Op) (j' : ℕ) : Type 0 where
-  pub op : omap bare_op (slice_get os' j') ≡ Some x
+  pub op : option_map bare_op (slice_get os' j') ≡ Some x
   pub before : map bare_op (anchors (take j' os')) ≡ flat_map (lower_anchor parts) (anchors (take j os)) ++ take i (lower_anchor parts o)
 
 -- the new module has the leaves of the old one's values: `parts` says which stand for a value, and `start` where the i-th of

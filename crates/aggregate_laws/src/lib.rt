@@ -2,7 +2,7 @@
 //!
 //! A design follows from a valid one where each module has the leaves of the other's values (`specs/Lowered.antt`), and so
 //! does the design that rules make of it (`specs/Rules.antt`), by which each operation becomes a block of operations. What
-//! each kind of operation becomes stands in `specs/Rows.antt`, `specs/Choices.antt` and
+//! each kind of operation becomes stands in `specs/OperationRules.antt`, `specs/Choices.antt` and
 //! `specs/Bitcasts.antt`; the rules for all operations stand in `specs/Aggregates.antt`.
 #![tactic(auto)]
 

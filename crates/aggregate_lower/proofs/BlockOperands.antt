@@ -1,9 +1,8 @@
 -- What the operands of the blocks of a body are: values that have a type, or first results of operations that are there.
-use Rattle.std.proofs.Common.{◌≡◌, ◌⊎◌, ℕ, zero, suc, ◌+◌, ◌<◌, Bool, true, false, cond, List, [], ◌∷◌, length, map, Option, Some, None, slice_get, refl, sym, ap, subst, ◌∙◌, arith, inl, inr}
+use Rattle.std.proofs.Common.{◌≡◌, ◌⊎◌, ℕ, zero, suc, ◌+◌, ◌<◌, Bool, true, false, cond, List, [], ◌∷◌, length, map, Option, Some, None, slice_get, refl, sym, ap, subst, ◌∙◌, arith, inl, inr, option_and_then}
 use Rattle.std.proofs.lemmas.Option.{slice_get_within}
-use Rattle.wiring.specs.Options.{bind}
 use Rattle.wiring.specs.Wiring.{In}
-use Rattle.wiring.proofs.Options.{bind_some}
+use Rattle.wiring.proofs.Options.{and_then_some}
 use Rattle.wiring.proofs.Members.{In-slice_get, position_of_In, In-map, from_In-map, from_In-flat_map, In-append_cases}
 use Rattle.hw_model.specs.Types.{HwType, leaves}
 use Rattle.hw_model.specs.Kinds.{Kind, Reset}
@@ -12,7 +11,7 @@ use Rattle.hw_model.specs.Kinds.Kind.{register, async_firreg}
 use Rattle.hw_model.specs.Design.{Ref, Port, Op, RegisterForm, takes_enable, register_form, result_type}
 use Rattle.hw_model.specs.Design.Ref.{result}
 use Rattle.hw_model.specs.Sound.{type_in, register_types, Fits, OpFits}
-use Rattle.hw_edits.specs.Edit.{is_anchor}
+use Rattle.edit_laws.specs.Edit.{is_anchor}
 use Rattle.ir_store.specs.declared.operation.OpId.{OpId}
 use Rattle.ir_store.specs.Bodies.{op_id}
 use Rattle.aggregate_laws.specs.Leaves.{in_row, bare_kind, bare_op, leaf_operands, leaf_registers, leaves_of, spread}
@@ -21,7 +20,7 @@ use Rattle.aggregate_laws.proofs.Lists.{from_In-in_row}
 use Rattle.aggregate_laws.proofs.Bare.{form_bare, type_bare}
 use Rattle.aggregate_laws.proofs.Anchors.{from_leaf_register, by_form}
 use Rattle.aggregate_laws.proofs.Blocks.{block_by, length_blocks, blocks_at, blocks_position}
-use Rattle.aggregate_accepted.specs.Joins.{only_joins}
+use Rattle.aggregate_acceptance.specs.Joins.{only_joins}
 use Rattle.aggregate_lower.proofs.JoinsLeaving.{how_many, join_ids}
 use Rattle.aggregate_lower.proofs.NumberedBodies.{IsBelow}
 
@@ -114,7 +113,7 @@ there_below ps os r (inr (i, below, same)) j k is =
     let number : i ≡ j = cc in
     subst (λ n. n < length os) number below
 there_below ps os r (inl (u, typed)) j k is =
-    let found = bind_some (slice_get os j) (λ (o : Op). result_type o k) (ap (type_in ps os) (sym is) ∙ typed) in
+    let found = and_then_some (slice_get os j) (λ (o : Op). result_type o k) (ap (type_in ps os) (sym is) ∙ typed) in
     slice_get_within os j found.0 found.1
 
 module _ (rules : Rules) (ps ps' : List Port) (os : List Op) where
@@ -127,11 +126,11 @@ module _ (rules : Rules) (ps ps' : List Port) (os : List Op) where
   abbrev pub new_type : Ref → Option HwType
   new_type = type_in ps' (blocks rules (parts_of rules ps os) 0 os)
 
-  module _ (splits : (o : Op) → In o os → Splits (rules.row o) (type_in ps os) stand o)
+  module _ (splits : (o : Op) → In o os → Splits (rules.rule o) (type_in ps os) stand o)
       (typed : (r : Ref) (t : HwType) → type_in ps os r ≡ Some t → map new_type (stand r) ≡ map (λ (u : HwType). Some u) (leaves t))
       (given : (o : Op) (r : Ref) → In o os → In r o.operands → (t : HwType) × (type_in ps os r ≡ Some t))
       (fits : (n : ℕ) (x : Op) → slice_get new_ops n ≡ Some x → OpFits new_type x) where
-    shapes : (o : Op) → In o os → SplitsShape (rules.row o) stand o
+    shapes : (o : Op) → In o os → SplitsShape (rules.rule o) stand o
     shapes o here = (splits o here).shape
 
     pub blocks_many : length new_ops ≡ how_many rules os
@@ -159,7 +158,7 @@ module _ (rules : Rules) (ps ps' : List Port) (os : List Op) where
           ap (slice_get new_ops) sum ∙ blocks_at rules stand os shapes j o is i 0 (omega arith) ∙ at
 
       stand_typed : StandsTyped (type_in ps os) new_type stand (0 + begin rules os j) (block_by rules stand (0 + begin rules os j) o)
-      stand_typed = record { typed = typed; own = λ i x at. ap (λ y. bind y (λ (z : Op). result_type z 0)) (stands i x at) }
+      stand_typed = record { typed = typed; own = λ i x at. ap (λ y. option_and_then (λ (z : Op). result_type z 0) y) (stands i x at) }
 
       module _ (i : ℕ) (x : Op) (at : slice_get (block_by rules stand (0 + begin rules os j) o) i ≡ Some x) (r : Ref) (here : In r x.operands) where
         plain : is_anchor o ≡ false → IsThere ps' new_ops r
@@ -217,7 +216,7 @@ module _ (rules : Rules) (ps ps' : List Port) (os : List Op) where
       first_of r (inl (u, has)) j (suc k) is leaves_later =
           let from = from_join_ids rules 0 os (op_id j) leaves_later in
           let j_is : j ≡ 0 + (begin rules os from.j + from.n) = ap (λ (i : OpId). i.index) from.number in
-          let found = bind_some (slice_get new_ops j) (λ (o : Op). result_type o (suc k)) (ap new_type (sym is) ∙ has) in
+          let found = and_then_some (slice_get new_ops j) (λ (o : Op). result_type o (suc k)) (ap new_type (sym is) ∙ has) in
           let place : begin rules os from.j + from.n ≡ j = omega arith in
           let at : slice_get (block_by rules stand (0 + begin rules os from.j) from.o) from.n ≡ Some found.0 =
           sym (blocks_at rules stand os shapes from.j from.o from.there from.n 0 from.within) ∙ ap (slice_get new_ops) place ∙ found.1 in

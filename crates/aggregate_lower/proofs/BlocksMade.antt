@@ -1,8 +1,7 @@
 -- What operations become, one after another, by a table of what stands for values.
-use Rattle.std.proofs.Common.{◌≡◌, ℕ, suc, ◌+◌, ◌<◌, ◌≤◌, List, [], ◌∷◌, ◌++◌, length, map, drop, get_or, Some, slice_get, refl, sym, ap, ap₂, ◌∙◌, arith, append_assoc, inl, inr}
+use Rattle.std.proofs.Common.{◌≡◌, ℕ, suc, ◌+◌, ◌<◌, ◌≤◌, List, [], ◌∷◌, ◌++◌, length, map, drop, get_or, Some, slice_get, refl, sym, ap, ap₂, ◌∙◌, arith, append_assoc, inl, inr, option_map}
 use Rattle.std.proofs.lemmas.List.{length-map, append-nil, drop_all}
 use Rattle.std.proofs.lemmas.Option.{slice_get-map}
-use Rattle.wiring.specs.Options.{omap}
 use Rattle.wiring.specs.Wiring.{In}
 use Rattle.wiring.proofs.Lists.{map-map, drop_some, slice_get_some}
 use Rattle.wiring.proofs.Members.{map_same}
@@ -17,11 +16,11 @@ use Rattle.ir_store.specs.Numbered.{ref_by, op_by}
 use Rattle.ir_store.proofs.BodyLemmas.{ids_once}
 use Rattle.ir_store.proofs.PositionTables.{ids_same, index_at}
 use Rattle.ir_store.proofs.ReadOps.{op_once}
-use Rattle.aggregate_laws.specs.Rules.{Row, count_by, block, blocks}
-use Rattle.aggregate_rows.specs.declared.leaf_table.LeafTable.{LeafTable}
-use Rattle.aggregate_rows.specs.LeafTables.{leaves_at, starts_from}
-use Rattle.aggregate_rows.specs.LoweringRules.{lowering_rules}
-use Rattle.aggregate_lower.proofs.BareRows.{row_without}
+use Rattle.aggregate_laws.specs.Rules.{Rule, count_by, block, blocks}
+use Rattle.lowering_rules.specs.declared.leaf_table.LeafTable.{LeafTable}
+use Rattle.lowering_rules.specs.LeafTables.{leaves_at, starts_from}
+use Rattle.lowering_rules.specs.LoweringRules.{lowering_rules}
+use Rattle.aggregate_lower.proofs.BareRules.{rule_without}
 use Rattle.aggregate_lower.specs.MadeBodies.{block_made, blocks_made}
 
 -- an operation that is read stands at its position
@@ -31,7 +30,7 @@ read_there b ids all j within o found =
     let many : length ids ≡ length (ids_of b) = ap length all ∙ length-map (ids_of b) op_id in
     let ops : length (ids_of b) ≡ length (ops_of b) = length-map (ops_of b) (λ (x : BodyOp). x.id) in
     let there = slice_get_some (ops_of b) j (omega arith) in
-    let its_id : slice_get (ids_of b) j ≡ Some there.0.id = slice_get-map (λ (x : BodyOp). x.id) (ops_of b) j ∙ ap (omap (λ (x : BodyOp). x.id)) there.1 in
+    let its_id : slice_get (ids_of b) j ≡ Some there.0.id = slice_get-map (λ (x : BodyOp). x.id) (ops_of b) j ∙ ap (option_map (λ (x : BodyOp). x.id)) there.1 in
     let same_id : Some there.0.id ≡ Some (get_or ids j (op_id 0)).index =
     sym its_id ∙ sym (ap (λ (l : List ℕ). slice_get l j) (ids_same ids (ids_of b) all)) ∙ index_at ids j (op_id 0) within in
     let index : there.0.id ≡ (get_or ids j (op_id 0)).index = cc in
@@ -60,9 +59,9 @@ module _ (d : Design) (t : LeafTable) (parts : Ref → List Ref) (place : ℕ �
   abbrev pub HasParts : BodyOp → Type 0
   HasParts o = (v : Value) → In v o.operands → leaves_at t v ≡ parts (ref_by place v)
 
-  block_same : (o : BodyOp) → HasParts o → (start : ℕ) → block_made d t o start ≡ block ((lowering_rules d).row (op_by place o)) parts start (op_by place o)
+  block_same : (o : BodyOp) → HasParts o → (start : ℕ) → block_made d t o start ≡ block ((lowering_rules d).rule (op_by place o)) parts start (op_by place o)
   block_same o has start =
-      ap₂ (λ (row : Row) args. row.made args start) (row_without d (op_by place o) [] o.parts.kind)
+      ap₂ (λ (rule : Rule) args. rule.made args start) (rule_without d (op_by place o) [] o.parts.kind)
       (map_same (leaves_at t) (λ v. parts (ref_by place v)) o.operands has ∙ sym (map-map parts (ref_by place) o.operands))
 
   pub blocks_same : (ops : List BodyOp) → ((o : BodyOp) → In o ops → HasParts o) → (start : ℕ)

@@ -4,7 +4,7 @@ use Rattle.std.specs.Prelude.{Contains}
 use Rattle.std.proofs.lemmas.List.{length-map}
 use Rattle.wiring.specs.Wiring.{In}
 use Rattle.hw_model.specs.Design.{Ref, Port, Op, Design}
-use Rattle.accepted_edits.specs.Keeps.{IsFit}
+use Rattle.acceptance_laws.specs.Keeps.{IsFit}
 use Rattle.ir_store.specs.declared.body.Body.{Body}
 use Rattle.ir_store.specs.declared.operation.OpId.{OpId}
 use Rattle.ir_store.specs.declared.operation.NewOp.{NewOp}
@@ -14,12 +14,12 @@ use Rattle.ir_store.specs.Live.{AreDistinct}
 use Rattle.ir_store.specs.Numbered.{position_of, op_by, ops_by_position}
 use Rattle.ir_store.proofs.BodyLemmas.{ids_once}
 use Rattle.aggregate_laws.specs.Rules.{Rules, count_by, blocks, parts_of}
-use Rattle.aggregate_accepted.specs.Joins.{without_joins}
-use Rattle.aggregate_rows.specs.declared.leaf_table.LeafTable.{LeafTable}
-use Rattle.aggregate_rows.specs.LeafTables.{starts_from, ends_from, IsLeafTable}
-use Rattle.aggregate_rows.specs.LoweringRules.{lowering_rules}
-use Rattle.aggregate_rows.specs.Made.{made_in}
-use Rattle.aggregate_rows.specs.Reading.{new_seen}
+use Rattle.aggregate_acceptance.specs.Joins.{without_joins}
+use Rattle.lowering_rules.specs.declared.leaf_table.LeafTable.{LeafTable}
+use Rattle.lowering_rules.specs.LeafTables.{starts_from, ends_from, IsLeafTable}
+use Rattle.lowering_rules.specs.LoweringRules.{lowering_rules}
+use Rattle.lowering_rules.specs.Made.{made_in}
+use Rattle.lowering_rules.specs.Reading.{new_seen}
 use Rattle.aggregate_lower.specs.JoinsOut.{joins_out, CanJoin}
 use Rattle.aggregate_lower.specs.MadeBodies.{numbered_from, blocks_made, joined_body, HasBody}
 use Rattle.aggregate_lower.proofs.BlocksMade.{blocks_same}

@@ -7,23 +7,23 @@ use Rattle.ir_store.specs.BodyOps.{BodyOp}
 use Rattle.ir_store.specs.Bodies.{op_id}
 use Rattle.aggregate_laws.specs.Leaves.{in_row}
 use Rattle.aggregate_laws.specs.Rules.{Rules, count_by}
-use Rattle.aggregate_accepted.specs.Joins.{only_joins}
-use Rattle.aggregate_rows.specs.LeafTables.{starts_from, ends_from}
+use Rattle.aggregate_acceptance.specs.Joins.{only_joins}
+use Rattle.lowering_rules.specs.LeafTables.{starts_from, ends_from}
 use Rattle.aggregate_lower.specs.JoinsOut.{wires_out, join_out, joins_out}
 use Rattle.aggregate_lower.specs.Chains.{flagged_from, join_flags}
 use Rattle.aggregate_lower.proofs.JoinsLeaving.{join_ids}
 
-flagged_row : (n start : ℕ) (flags : List Bool) → flagged_from start (replicate n true ++ flags) ≡ in_row op_id start n ++ flagged_from (start + n) flags
-flagged_row zero start flags = ap (λ k. flagged_from k flags) (sym (add-zero start))
-flagged_row (suc n) start flags =
+flagged_rule : (n start : ℕ) (flags : List Bool) → flagged_from start (replicate n true ++ flags) ≡ in_row op_id start n ++ flagged_from (start + n) flags
+flagged_rule zero start flags = ap (λ k. flagged_from k flags) (sym (add-zero start))
+flagged_rule (suc n) start flags =
     let next : suc start + n ≡ start + suc n = omega arith in
-    ap (λ (xs : List OpId). op_id start ∷ xs) (flagged_row n (suc start) flags ∙ ap (λ k. in_row op_id (suc start) n ++ flagged_from k flags) next)
+    ap (λ (xs : List OpId). op_id start ∷ xs) (flagged_rule n (suc start) flags ∙ ap (λ k. in_row op_id (suc start) n ++ flagged_from k flags) next)
 
-passed_row : (n start : ℕ) (flags : List Bool) → flagged_from start (replicate n false ++ flags) ≡ flagged_from (start + n) flags
-passed_row zero start flags = ap (λ k. flagged_from k flags) (sym (add-zero start))
-passed_row (suc n) start flags =
+passed_rule : (n start : ℕ) (flags : List Bool) → flagged_from start (replicate n false ++ flags) ≡ flagged_from (start + n) flags
+passed_rule zero start flags = ap (λ k. flagged_from k flags) (sym (add-zero start))
+passed_rule (suc n) start flags =
     let next : suc start + n ≡ start + suc n = omega arith in
-    passed_row n (suc start) flags ∙ ap (λ k. flagged_from k flags) next
+    passed_rule n (suc start) flags ∙ ap (λ k. flagged_from k flags) next
 
 wires_append : (xs ys : List OpId) (ops : List BodyOp) → wires_out (xs ++ ys) ops ≡ wires_out ys (wires_out xs ops)
 wires_append [] ys ops = refl
@@ -45,8 +45,8 @@ module _ (rules : Rules) where
       rest = join_flags os (starts_from rules (start + count_by rules o) os) (ends_from rules (start + count_by rules o) os)
 
       go : (b : Bool) → flagged_from start (replicate (count_by rules o) b ++ rest) ≡ cond b (in_row op_id start (count_by rules o)) [] ++ flagged_from (start + count_by rules o) rest
-      go true = flagged_row (count_by rules o) start rest
-      go false = passed_row (count_by rules o) start rest
+      go true = flagged_rule (count_by rules o) start rest
+      go false = passed_rule (count_by rules o) start rest
 
   -- they leave as the wires of operations that only join
   joins_wires : (start : ℕ) (os : List Op) (ops : List BodyOp) → joins_out os (starts_from rules start os) (ends_from rules start os) ops ≡ wires_out (join_ids rules start os) ops

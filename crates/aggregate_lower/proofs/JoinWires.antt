@@ -9,16 +9,16 @@ use Rattle.hw_model.specs.Kinds.Kind.{on_array, on_struct, wire}
 use Rattle.hw_model.specs.Value.{fields, nth_type}
 use Rattle.hw_model.specs.Design.{Ref, Op, result_type}
 use Rattle.aggregate_laws.specs.Leaves.{part}
-use Rattle.aggregate_laws.specs.Rows.{made_op, all_leaves, for_each, joined_parts, argument, field_parts, with_field_parts}
-use Rattle.aggregate_laws.specs.Aggregates.{row_of}
-use Rattle.aggregate_accepted.specs.Joins.{only_joins}
+use Rattle.aggregate_laws.specs.OperationRules.{made_op, all_leaves, for_each, joined_parts, argument, field_parts, with_field_parts}
+use Rattle.aggregate_laws.specs.Aggregates.{rule_of}
+use Rattle.aggregate_acceptance.specs.Joins.{only_joins}
 
 wires_one : (o : Op) (chosen : List Ref) (n : ℕ) (ts : List HwType) (y : Op) → In y (for_each (λ i t. made_op o wire (part chosen i ∷ []) (t ∷ []) [] t) n ts) → (k : ℕ) → result_type y (suc k) ≡ None
 wires_one o chosen n [] y here k = absurd here
 wires_one o chosen n (t ∷ ts) y (inl same) k = ap (λ (z : Op). result_type z (suc k)) same
 wires_one o chosen n (t ∷ ts) y (inr here) k = wires_one o chosen (suc n) ts y here k
 
-pub join_one : (named : Op → Kind) (o : Op) (kind : Kind) → only_joins kind ≡ true → (args : List (List Ref)) (start : ℕ) (y : Op) → In y ((row_of named o kind).made args start)
+pub join_one : (named : Op → Kind) (o : Op) (kind : Kind) → only_joins kind ≡ true → (args : List (List Ref)) (start : ℕ) (y : Op) → In y ((rule_of named o kind).made args start)
     → (k : ℕ) → result_type y (suc k) ≡ None
 join_one named o (on_array array_create) joins args start y here k = wires_one o (joined_parts args) 0 (all_leaves o) y here k
 join_one named o (on_array array_concat) joins args start y here k = wires_one o (joined_parts args) 0 (all_leaves o) y here k

@@ -17,14 +17,14 @@ use Rattle.ir_store.specs.Live.{AreDistinct}
 use Rattle.ir_store.specs.Numbered.{ops_by_position}
 use Rattle.ir_store.proofs.Living.{all_none, all_with}
 use Rattle.inline_laws.specs.Unwire.{unwire}
-use Rattle.inline_pass.specs.WiresOut.{IsFirstOf, StandTogether}
+use Rattle.body_edits.specs.WiresOut.{IsFirstOf, StandTogether}
 use Rattle.aggregate_laws.specs.Leaves.{in_row}
 use Rattle.aggregate_laws.specs.Rules.{Rules, count_by}
 use Rattle.aggregate_laws.proofs.Lists.{length-in_row, In-in_row, from_In-in_row}
-use Rattle.aggregate_accepted.specs.Joins.{only_joins, without_joins}
-use Rattle.aggregate_rows.specs.LeafTables.{starts_from, ends_from}
-use Rattle.aggregate_rows.specs.Made.{made_in}
-use Rattle.aggregate_rows.specs.Reading.{new_ref, new_seen}
+use Rattle.aggregate_acceptance.specs.Joins.{only_joins, without_joins}
+use Rattle.lowering_rules.specs.LeafTables.{starts_from, ends_from}
+use Rattle.lowering_rules.specs.Made.{made_in}
+use Rattle.lowering_rules.specs.Reading.{new_ref, new_seen}
 use Rattle.aggregate_lower.specs.JoinsOut.{ids_between, wires_out, join_out, joins_out, CanJoin}
 use Rattle.aggregate_lower.specs.MadeBodies.{numbered_from}
 use Rattle.aggregate_lower.proofs.NumberedBodies.{numbers, IsBelow, ids_numbered, numbered_live}
@@ -42,19 +42,19 @@ module _ (rules : Rules) where
   -- ---- one after another
 
   -- they stand side by side when their turn comes, and what is left is what is left by positions
-  pub record Leave (front : ℕ) (start : ℕ) (os : List Op) (ops : List BodyOp) : Type 0 where
+  pub record Leave (prefix : ℕ) (start : ℕ) (os : List Op) (ops : List BodyOp) : Type 0 where
     pub can : CanJoin os (starts_from rules start os) (ends_from rules start os) ops
-    pub left : ops_by_position (joins_out os (starts_from rules start os) (ends_from rules start os) ops) ≡ without_joins rules front os (ops_by_position ops)
+    pub left : ops_by_position (joins_out os (starts_from rules start os) (ends_from rules start os) ops) ≡ without_joins rules prefix os (ops_by_position ops)
 
   module _ (later : List OpId) where
     abbrev TheyLeave : List Op → Type 0
     TheyLeave os =
-        (front : List ℕ) (start all : ℕ) (ops : List BodyOp) → ((w : OpId) → In w (join_ids start os) → In w later) → how_many os ≤ all
-        → StandsFrom later front start all ops → Leave (length front) start os ops
+        (prefix : List ℕ) (start all : ℕ) (ops : List BodyOp) → ((w : OpId) → In w (join_ids start os) → In w later) → how_many os ≤ all
+        → StandsFrom later prefix start all ops → Leave (length prefix) start os ops
 
     joins_leave : (os : List Op) → TheyLeave os
-    joins_leave [] front start all ops among room s = record { can = tt; left = refl }
-    joins_leave (o ∷ os) front start all ops among room s = go (only_joins o.kind) refl (joins_leave os)
+    joins_leave [] prefix start all ops among room s = record { can = tt; left = refl }
+    joins_leave (o ∷ os) prefix start all ops among room s = go (only_joins o.kind) refl (joins_leave os)
       where
         n : ℕ
         n = count_by rules o
@@ -62,8 +62,8 @@ module _ (rules : Rules) where
         sum : all ≡ n + (all - n)
         sum = omega arith
 
-        size : length (front ++ numbers start n) ≡ length front + n
-        size = length-append front (numbers start n) ∙ ap (λ k. length front + k) (length-in_row (λ i. i) start n)
+        size : length (prefix ++ numbers start n) ≡ length prefix + n
+        size = length-append prefix (numbers start n) ∙ ap (λ k. length prefix + k) (length-in_row (λ i. i) start n)
 
         past : (start + n) - start ≡ n
         past = omega arith
@@ -86,32 +86,32 @@ module _ (rules : Rules) where
         highs : List ℕ
         highs = ends_from rules (start + n) os
 
-        stays : only_joins o.kind ≡ false → TheyLeave os → Leave (length front) start (o ∷ os) ops
+        stays : only_joins o.kind ≡ false → TheyLeave os → Leave (length prefix) start (o ∷ os) ops
         stays is leave =
-            let rest = leave (front ++ numbers start n) (start + n) (all - n) ops others (omega arith) (pass_by later n front start (all - n) all ops sum s) in
+            let rest = leave (prefix ++ numbers start n) (start + n) (all - n) ops others (omega arith) (pass_by later n prefix start (all - n) all ops sum s) in
             let same : join_out o start (start + n) ops ≡ ops = ap (λ b. cond b (wires_out (ids_between start (start + n)) ops) ops) is in
             record {
               can = ((λ joins. cc), subst (CanJoin os lows highs) (sym same) rest.can);
               left = ap (λ (xs : List BodyOp). ops_by_position (joins_out os lows highs xs)) same ∙ rest.left ∙ ap (λ k. without_joins rules k os (ops_by_position ops)) size
-                  ∙ sym (ap (λ b. cond b (without_joins rules (length front) os (unwire (length front) n (ops_by_position ops))) (without_joins rules (length front + n) os (ops_by_position ops))) is);
+                  ∙ sym (ap (λ b. cond b (without_joins rules (length prefix) os (unwire (length prefix) n (ops_by_position ops))) (without_joins rules (length prefix + n) os (ops_by_position ops))) is);
             }
 
-        goes : only_joins o.kind ≡ true → TheyLeave os → Leave (length front) start (o ∷ os) ops
+        goes : only_joins o.kind ≡ true → TheyLeave os → Leave (length prefix) start (o ∷ os) ops
         goes is leave =
-            let gone = wires_gone later n front start (all - n) all ops sum (own is) s in
-            let rest = leave front (start + n) (all - n) after others (omega arith) gone.stands in
+            let gone = wires_gone later n prefix start (all - n) all ops sum (own is) s in
+            let rest = leave prefix (start + n) (all - n) after others (omega arith) gone.stands in
             let same : join_out o start (start + n) ops ≡ after =
             ap (λ b. cond b (wires_out (ids_between start (start + n)) ops) ops) is ∙ ap (λ k. wires_out (in_row op_id start k) ops) past in
             record {
               can = (
-                (λ joins. subst (λ k. StandTogether (in_row op_id start k) ops) (sym past) (wires_together later n front start (all - n) all ops sum (own is) s)),
+                (λ joins. subst (λ k. StandTogether (in_row op_id start k) ops) (sym past) (wires_together later n prefix start (all - n) all ops sum (own is) s)),
                 subst (CanJoin os lows highs) (sym same) rest.can,
               );
-              left = ap (λ (xs : List BodyOp). ops_by_position (joins_out os lows highs xs)) same ∙ rest.left ∙ ap (without_joins rules (length front) os) gone.gone
-                  ∙ sym (ap (λ b. cond b (without_joins rules (length front) os (unwire (length front) n (ops_by_position ops))) (without_joins rules (length front + n) os (ops_by_position ops))) is);
+              left = ap (λ (xs : List BodyOp). ops_by_position (joins_out os lows highs xs)) same ∙ rest.left ∙ ap (without_joins rules (length prefix) os) gone.gone
+                  ∙ sym (ap (λ b. cond b (without_joins rules (length prefix) os (unwire (length prefix) n (ops_by_position ops))) (without_joins rules (length prefix + n) os (ops_by_position ops))) is);
             }
 
-        go : (b : Bool) → only_joins o.kind ≡ b → TheyLeave os → Leave (length front) start (o ∷ os) ops
+        go : (b : Bool) → only_joins o.kind ≡ b → TheyLeave os → Leave (length prefix) start (o ∷ os) ops
         go true is = goes is
         go false is = stays is
 
@@ -127,8 +127,8 @@ module _ (rules : Rules) where
           → w.index < start + (count_by rules o + how_many os)
       later rest there = let h = rest there in omega (arith, h)
 
-      row : In w (in_row op_id start (count_by rules o)) → w.index < start + (count_by rules o + how_many os)
-      row there =
+      rule : In w (in_row op_id start (count_by rules o)) → w.index < start + (count_by rules o + how_many os)
+      rule there =
           let from = from_In-in_row op_id start (count_by rules o) w there in
           let below = from.1 in
           let same : w.index ≡ start + from.0 = ap (λ (x : OpId). x.index) from.2 in
@@ -140,7 +140,7 @@ module _ (rules : Rules) where
       go true there rest = either (In-append_cases w (in_row op_id start (count_by rules o)) (join_ids (start + count_by rules o) os) there)
         where
           either : In w (in_row op_id start (count_by rules o)) ⊎ In w (join_ids (start + count_by rules o) os) → w.index < start + (count_by rules o + how_many os)
-          either (inl first) = row first
+          either (inl first) = rule first
           either (inr next) = later rest next
 
   -- ---- from a body whose ids are positions

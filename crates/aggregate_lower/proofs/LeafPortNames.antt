@@ -12,19 +12,19 @@ use Rattle.fresh_names.specs.Fresh.{is_taken, with_suffix, free_from, free_name,
 use Rattle.fresh_names.proofs.Taken.{one_more}
 use Rattle.fresh_names.proofs.Giving.{fresh_count}
 use Rattle.mlir_syntax.specs.TypeText.{most_open}
-use Rattle.canonical_form.specs.Bytes.{Each, AreBytes}
+use Rattle.stored_form.specs.Bytes.{Each, AreBytes}
 use Rattle.op_verifier.specs.Headers.{has_twice}
 use Rattle.op_verifier.specs.Verdict.{IsAccepted}
-use Rattle.printable_designs.specs.Printable.{IsPrintablePort}
-use Rattle.accepted_edits.proofs.NameCounts.{found_here, light}
+use Rattle.printing_laws.specs.Printable.{IsPrintablePort}
+use Rattle.acceptance_laws.proofs.NameCounts.{found_here, light}
 use Rattle.pass_laws.proofs.FreshOnce.{fresh_once}
 use Rattle.aggregate_laws.specs.Leaves.{leaf_port, leaf_ports}
 use Rattle.aggregate_laws.specs.Aggregates.{leaf_names, element_names, field_names}
 use Rattle.aggregate_laws.specs.LeafPorts.{wanted_names, port_leaf_names, with_names, split_ports}
 use Rattle.aggregate_laws.proofs.LeafPorts.{split_bare, leaves_plain}
-use Rattle.aggregate_accepted.specs.Names.{NamesPorts, NamesInstances}
-use Rattle.aggregate_accepted.proofs.NameBytes.{bytes_append, decimal_bytes, each_append, leaf_bytes}
-use Rattle.aggregate_rows.specs.LoweringRules.{named_by, named_kind, leaf_named}
+use Rattle.aggregate_acceptance.specs.Names.{NamesPorts, NamesInstances}
+use Rattle.aggregate_acceptance.proofs.NameBytes.{bytes_append, decimal_bytes, each_append, leaf_bytes}
+use Rattle.lowering_rules.specs.LoweringRules.{named_by, named_kind, leaf_named}
 
 -- the names of ports
 abbrev names_of : List Port → List Name

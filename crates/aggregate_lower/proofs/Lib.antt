@@ -3,7 +3,7 @@ pub mod DesignValues
 pub mod ModuleSteps
 pub mod NumberedBodies
 pub mod WireSteps
-pub mod BareRows
+pub mod BareRules
 pub mod BlocksMade
 pub mod WiresLeaving
 pub mod JoinsLeaving
@@ -17,6 +17,6 @@ pub mod OperandsTyped
 pub mod BodiesJoined
 pub mod LeafPortNames
 pub mod Unaggregated
-pub mod ScalarRows
+pub mod ScalarRules
 pub mod LoweringLaw
-pub use Rattle.aggregate_accepted.proofs.CanonicalAgain
+pub use Rattle.aggregate_acceptance.proofs.CanonicalAgain

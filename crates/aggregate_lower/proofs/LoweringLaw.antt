@@ -1,7 +1,6 @@
 -- The law of passes of the lowering of aggregates.
-use Rattle.std.proofs.Common.{◌≡◌, Bool, true, false, cond, [], ◌∷◌, map, Some, refl, sym, ap, subst, ◌∙◌, arith}
+use Rattle.std.proofs.Common.{◌≡◌, Bool, true, false, cond, [], ◌∷◌, map, Some, refl, sym, ap, subst, ◌∙◌, arith, option_map}
 use Rattle.wiring.proofs.Lists.{map-map}
-use Rattle.wiring.specs.Options.{omap}
 use Rattle.wiring.specs.Wiring.{In}
 use Rattle.wiring.proofs.Members.{position_of_In}
 use Rattle.hw_model.specs.Types.{Name}
@@ -12,8 +11,8 @@ use Rattle.hw_model.proofs.Machines.{same_self}
 use Rattle.port_checks.proofs.Least.{found_module}
 use Rattle.op_verifier.specs.Verdict.{IsAccepted}
 use Rattle.op_verifier.proofs.AcceptedDesigns.{accepted_finite, accepted_acyclic}
-use Rattle.printable_designs.specs.Printable.{IsPrintablePort, IsPrintableModule, Printable}
-use Rattle.accepted_edits.proofs.Accepted.{each_at, accepted_fit}
+use Rattle.printing_laws.specs.Printable.{IsPrintablePort, IsPrintableModule, Printable}
+use Rattle.acceptance_laws.proofs.Accepted.{each_at, accepted_fit}
 use Rattle.pass_pipeline.specs.declared.pass.Pass.TheVariants.{HwLowerAggregates}
 use Rattle.pass_laws.specs.Remaining.{symbols, IsKept, AreThose}
 use Rattle.pass_laws.specs.PassLaw.{IsModuleAfter, IsAfter, PassLaw}
@@ -23,16 +22,16 @@ use Rattle.pass_laws.proofs.LoweredTwice.{named_once}
 use Rattle.aggregate_laws.specs.LeafPorts.{split_ports}
 use Rattle.aggregate_laws.specs.Scalars.{has_aggregate_port, has_aggregates}
 use Rattle.aggregate_laws.proofs.LeafPorts.{IsPlainPort, plain_split, leaves_plain}
-use Rattle.aggregate_accepted.specs.Joins.{joined_module, joined_design}
-use Rattle.aggregate_accepted.proofs.LoweredModules.{Lowering}
-use Rattle.aggregate_accepted.proofs.LoweredShapes.{joined_types, joined_calls}
-use Rattle.aggregate_accepted.proofs.WiresOut.{joins_follow}
-use Rattle.aggregate_accepted.proofs.LoweredWeights.{find_joined, joins_light}
-use Rattle.aggregate_accepted.proofs.AcceptedLowered.{joins_accepted}
-use Rattle.aggregate_rows.specs.LoweringRules.{leaf_named, lowering_rules}
+use Rattle.aggregate_acceptance.specs.Joins.{joined_module, joined_design}
+use Rattle.aggregate_acceptance.proofs.LoweredModules.{Lowering}
+use Rattle.aggregate_acceptance.proofs.LoweredShapes.{joined_types, joined_calls}
+use Rattle.aggregate_acceptance.proofs.WiresOut.{joins_follow}
+use Rattle.aggregate_acceptance.proofs.LoweredWeights.{find_joined, joins_light}
+use Rattle.aggregate_acceptance.proofs.AcceptedLowered.{joins_accepted}
+use Rattle.lowering_rules.specs.LoweringRules.{leaf_named, lowering_rules}
 use Rattle.aggregate_lower.specs.Lowering.{lowered_aggregates}
 use Rattle.aggregate_lower.proofs.LeafPortNames.{ports_named, instances_named}
-use Rattle.aggregate_lower.proofs.ScalarRows.{lowered_plain}
+use Rattle.aggregate_lower.proofs.ScalarRules.{lowered_plain}
 use Rattle.aggregate_lower.proofs.Unaggregated.{scalar_port, scalar_module, own_register_types}
 
 module _ (d : Design) (accepted : IsAccepted d) (printable : Printable d) where
@@ -52,11 +51,11 @@ module _ (d : Design) (accepted : IsAccepted d) (printable : Printable d) where
 
   module_lowered : (s : Name) (m n : Module) → find_module d s ≡ Some m → find_module left s ≡ Some n → IsModuleAfter (HwLowerAggregates ∷ []) d left s m n
   module_lowered s m n was now =
-      let both : Some n ≡ Some (joined_module (lowering_rules d) m) = sym now ∙ find_joined (lowering_rules d) d s ∙ ap (omap (joined_module (lowering_rules d))) was in
+      let both : Some n ≡ Some (joined_module (lowering_rules d) m) = sym now ∙ find_joined (lowering_rules d) d s ∙ ap (option_map (joined_module (lowering_rules d))) was in
       let same : n ≡ joined_module (lowering_rules d) m = cc in
       record {
         mark = ap (λ (x : Module). x.is_private) same;
-        place = ap (λ (x : Module). x.place) same;
+        location = ap (λ (x : Module). x.location) same;
         ports = ap (λ (x : Module). x.ports) same;
         registers = joined_types split_ports (leaf_named d) d lowering.fit lowering.ports lowering.instances s;
         instances = joined_calls split_ports (leaf_named d) d lowering.fit lowering.ports lowering.instances s;
@@ -95,7 +94,7 @@ module _ (d : Design) (accepted : IsAccepted d) (printable : Printable d) where
         let same : m ≡ n = cc in
         subst (IsModuleAfter (HwLowerAggregates ∷ []) d d s m) same (record {
           mark = refl;
-          place = refl;
+          location = refl;
           ports = own_ports s m is;
           registers = own_register_types lowering none s;
           instances = refl;

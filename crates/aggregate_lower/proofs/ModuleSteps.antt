@@ -1,8 +1,7 @@
 -- What is made of the modules of a design, one after another.
-use Rattle.std.proofs.Common.{◌≡◌, ℕ, suc, ◌+◌, List, [], ◌∷◌, ◌++◌, map, take, Some, slice_get, sym, ap, ap₂, ◌∙◌, arith}
+use Rattle.std.proofs.Common.{◌≡◌, ℕ, suc, ◌+◌, List, [], ◌∷◌, ◌++◌, map, take, Some, slice_get, sym, ap, ap₂, ◌∙◌, arith, option_map}
 use Rattle.std.proofs.lemmas.List.{map-append}
 use Rattle.std.proofs.lemmas.Option.{slice_get-map}
-use Rattle.wiring.specs.Options.{omap}
 use Rattle.wiring.specs.Wiring.{In}
 use Rattle.wiring.proofs.Lists.{take-suc_some}
 use Rattle.wiring.proofs.Members.{In-slice_get}
@@ -11,7 +10,7 @@ use Rattle.ir_store.specs.Designs.{StoredModule, numbered_module}
 
 module _ (ms : List StoredModule) (n : ℕ) (m : StoredModule) (at : Some m ≡ slice_get ms n) where
   module_at : slice_get (map numbered_module ms) n ≡ Some (numbered_module m)
-  module_at = slice_get-map numbered_module ms n ∙ ap (omap numbered_module) (sym at)
+  module_at = slice_get-map numbered_module ms n ∙ ap (option_map numbered_module) (sym at)
 
   pub module_there : In (numbered_module m) (map numbered_module ms)
   module_there = In-slice_get (numbered_module m) (map numbered_module ms) n module_at

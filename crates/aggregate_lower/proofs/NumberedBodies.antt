@@ -17,9 +17,9 @@ use Rattle.ir_store.specs.Numbered.{position_of, ref_by, op_by, ops_by_position}
 use Rattle.ir_store.proofs.Living.{all_none, all_with}
 use Rattle.ir_store.proofs.PositionTables.{position_found}
 use Rattle.aggregate_laws.specs.Leaves.{in_row}
-use Rattle.aggregate_laws.proofs.Lists.{in_row_at, In-in_row}
-use Rattle.aggregate_rows.specs.Reading.{new_ref, new_seen}
-use Rattle.aggregate_rows.specs.Made.{made_in}
+use Rattle.aggregate_laws.proofs.Lists.{in_rule_at, In-in_row}
+use Rattle.lowering_rules.specs.Reading.{new_ref, new_seen}
+use Rattle.lowering_rules.specs.Made.{made_in}
 use Rattle.aggregate_lower.specs.MadeBodies.{numbered_from}
 
 -- the numbers from one on
@@ -61,7 +61,7 @@ IsBelow n r = (j k : ℕ) → r ≡ result j k → j < n
 
 module _ (n : ℕ) (once : AreDistinct (numbers 0 n)) where
   number_position : (j : ℕ) → j < n → position_of (numbers 0 n) j ≡ j
-  number_position j below = position_found (numbers 0 n) j j (once j) (in_row_at (λ i. i) 0 n j below ∙ ap Some (zero-add j))
+  number_position j below = position_found (numbers 0 n) j j (once j) (in_rule_at (λ i. i) 0 n j below ∙ ap Some (zero-add j))
 
   value_seen : (v : Value) → IsBelow n (new_ref v) → ref_by (position_of (numbers 0 n)) v ≡ new_ref v
   value_seen (Port p) below = refl

@@ -1,16 +1,15 @@
 -- The operands of the blocks of a module of a fit design.
-use Rattle.std.proofs.Common.{◌≡◌, ℕ, true, List, length, map, Option, Some, None, is_some, slice_get, refl, ap, subst, ◌∙◌}
-use Rattle.wiring.specs.Options.{omap}
+use Rattle.std.proofs.Common.{◌≡◌, ℕ, true, List, length, map, Option, Some, None, is_some, slice_get, refl, ap, subst, ◌∙◌, option_map}
 use Rattle.wiring.specs.Wiring.{In}
 use Rattle.wiring.proofs.Members.{position_of_In}
 use Rattle.hw_model.specs.Types.{HwType}
 use Rattle.hw_model.specs.Design.{Ref, Port, Op, Module, Design}
 use Rattle.hw_model.specs.Design.Ref.{result}
 use Rattle.hw_model.specs.Sound.{type_in, SoundBody}
-use Rattle.hw_edits.specs.Follows.{Follows}
-use Rattle.accepted_edits.specs.Keeps.{IsFit}
-use Rattle.accepted_edits.proofs.Accepted.{fit_found}
-use Rattle.accepted_edits.proofs.FitBodies.{operand_there}
+use Rattle.edit_laws.specs.Follows.{Follows}
+use Rattle.acceptance_laws.specs.Keeps.{IsFit}
+use Rattle.acceptance_laws.proofs.Accepted.{fit_found}
+use Rattle.acceptance_laws.proofs.FitBodies.{operand_there}
 use Rattle.ir_store.specs.Bodies.{op_id}
 use Rattle.aggregate_laws.specs.LeafPorts.{split_ports}
 use Rattle.aggregate_laws.specs.Rules.{Rules, blocks, parts_of, Splits, lowered_module, lowered_design}
@@ -18,9 +17,9 @@ use Rattle.aggregate_laws.proofs.Aggregates.{regular_splits, aggregates_follow}
 use Rattle.aggregate_laws.proofs.LeafPorts.{split_bare}
 use Rattle.aggregate_laws.proofs.Bodies.{typed_all}
 use Rattle.aggregate_laws.proofs.Designs.{find_lowered}
-use Rattle.aggregate_accepted.proofs.Regular.{regular_op, all_regular}
-use Rattle.aggregate_rows.specs.LoweringRules.{leaf_named, lowering_rules}
-use Rattle.aggregate_rows.proofs.BareKinds.{kind_bare}
+use Rattle.aggregate_acceptance.proofs.Regular.{regular_op, all_regular}
+use Rattle.lowering_rules.specs.LoweringRules.{leaf_named, lowering_rules}
+use Rattle.lowering_rules.proofs.BareKinds.{kind_bare}
 use Rattle.aggregate_lower.specs.MadeBodies.{HasBody}
 use Rattle.aggregate_lower.proofs.BlockOperands.{all_below, all_first, blocks_many}
 use Rattle.aggregate_lower.proofs.JoinWires.{join_one}
@@ -47,7 +46,7 @@ module _ (d : Design) (fit : IsFit d) (k : ℕ) (m : Module) (at : slice_get d k
   sound : SoundBody d m.ports m.body
   sound = fit.valid.sound m.symbol m (fit_found d fit k m at)
 
-  splits : (o : Op) → In o m.body → Splits ((lowering_rules d).row o) (type_in m.ports m.body) (parts_of (lowering_rules d) m.ports m.body) o
+  splits : (o : Op) → In o m.body → Splits ((lowering_rules d).rule o) (type_in m.ports m.body) (parts_of (lowering_rules d) m.ports m.body) o
   splits o here =
       let spot = position_of_In o m.body here in
       regular_splits (leaf_named d) o (type_in m.ports m.body) (parts_of (lowering_rules d) m.ports m.body) (sound.ops spot.0 o spot.1) o.kind refl
@@ -64,7 +63,7 @@ module _ (d : Design) (fit : IsFit d) (k : ℕ) (m : Module) (at : slice_get d k
   new_sound : SoundBody (lowered_design (lowering_rules d) d) (split_ports m.ports) new_ops
   new_sound =
       follows.valid.sound m.symbol (lowered_module (lowering_rules d) m)
-      (find_lowered (lowering_rules d) d m.symbol ∙ ap (omap (lowered_module (lowering_rules d))) (fit_found d fit k m at))
+      (find_lowered (lowering_rules d) d m.symbol ∙ ap (option_map (lowered_module (lowering_rules d))) (fit_found d fit k m at))
 
   well_named_at : IsWellNamed (lowering_rules d) m.ports m.body
   well_named_at =

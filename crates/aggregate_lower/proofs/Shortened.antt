@@ -9,8 +9,7 @@ use Rattle.ir_store.specs.declared.operation.Value.TheVariants.{Result, Undefine
 use Rattle.ir_store.specs.BodyOps.{BodyOp, op_at, taken_out, all_replaced, replace_value}
 use Rattle.ir_store.specs.Bodies.{op_id}
 use Rattle.ir_store.proofs.Living.{first_of_all, rest_of_all}
-use Rattle.inline_pass.specs.MovedOps.{value_or_undefined, other_value}
-use Rattle.inline_pass.specs.WiresOut.{IsFirstOf, HaveFirstOnly, carried_by, carried_value}
+use Rattle.body_edits.specs.WiresOut.{value_or_undefined, other_value, IsFirstOf, HaveFirstOnly, carried_by, carried_value}
 use Rattle.aggregate_lower.specs.JoinsOut.{wires_out}
 use Rattle.aggregate_lower.specs.Chains.{first_operand}
 use Rattle.aggregate_lower.proofs.StandingFor.{Stands, met, value_stands, AllStand, OpsStand, operand_stands, other_self}

@@ -12,8 +12,7 @@ use Rattle.ir_store.specs.Bodies.{op_id}
 use Rattle.ir_store.specs.Live.{IsLive, AreDistinct}
 use Rattle.ir_store.proofs.Living.{all_set, all_mapped, ids_stay, set_live}
 use Rattle.ir_store.proofs.Walks.{found_by_id}
-use Rattle.inline_pass.specs.MovedOps.{value_or_undefined}
-use Rattle.inline_pass.specs.WiresOut.{IsFirstOf, carried_value}
+use Rattle.body_edits.specs.WiresOut.{value_or_undefined, IsFirstOf, carried_value}
 use Rattle.aggregate_lower.specs.Chains.{is_flagged, flagged_from, flagged, joined_wire, first_operand, wire_taken, CanLeave, LeaveAlike, AreThere}
 use Rattle.aggregate_lower.proofs.StandingFor.{AllStand, OpsStand, same_stand}
 use Rattle.aggregate_lower.proofs.Shortened.{same_left}

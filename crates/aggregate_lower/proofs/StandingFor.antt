@@ -6,8 +6,7 @@ use Rattle.ir_store.specs.declared.operation.Value.{Value}
 use Rattle.ir_store.specs.declared.operation.Value.TheVariants.{Port, Result, Undefined}
 use Rattle.ir_store.specs.BodyOps.{BodyOp, op_at, replace_value, same_value, is_of}
 use Rattle.ir_store.specs.Bodies.{op_id}
-use Rattle.inline_pass.specs.MovedOps.{value_or_undefined, other_value}
-use Rattle.inline_pass.specs.WiresOut.{IsFirstOf}
+use Rattle.body_edits.specs.WiresOut.{value_or_undefined, other_value, IsFirstOf}
 use Rattle.aggregate_lower.specs.Chains.{first_operand}
 
 -- ---- values

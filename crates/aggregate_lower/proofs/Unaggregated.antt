@@ -16,7 +16,7 @@ use Rattle.aggregate_laws.specs.Aggregates.{is_scalar, IsRegular, HasOne}
 use Rattle.aggregate_laws.specs.Scalars.{has_aggregate_port, has_aggregate_type, has_aggregate_result, has_aggregate_value, has_aggregates}
 use Rattle.aggregate_laws.proofs.Bare.{type_listed}
 use Rattle.aggregate_laws.proofs.Scalars.{scalar_leaves}
-use Rattle.aggregate_accepted.proofs.LoweredModules.{Lowering, old_type, regular_at}
+use Rattle.aggregate_acceptance.proofs.LoweredModules.{Lowering, old_type, regular_at}
 
 -- ---- what has no aggregate
 

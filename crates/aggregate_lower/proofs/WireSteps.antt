@@ -8,8 +8,8 @@ use Rattle.ir_store.specs.declared.operation.OpId.{OpId}
 use Rattle.ir_store.specs.Bodies.{op_id}
 use Rattle.ir_store.specs.BodyOps.{BodyOp}
 use Rattle.aggregate_laws.specs.Leaves.{in_row}
-use Rattle.aggregate_accepted.specs.Joins.{only_joins}
-use Rattle.inline_pass.specs.WiresOut.{StandTogether}
+use Rattle.aggregate_acceptance.specs.Joins.{only_joins}
+use Rattle.body_edits.specs.WiresOut.{StandTogether}
 use Rattle.aggregate_lower.specs.Chains.{join_flags}
 use Rattle.aggregate_lower.specs.JoinsOut.{ids_between, wires_out, join_out, joins_out, CanJoin}
 

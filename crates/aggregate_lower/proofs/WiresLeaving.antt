@@ -2,7 +2,7 @@
 use Rattle.std.proofs.Common.{◌≡◌, ℕ, zero, suc, ◌+◌, ◌<◌, ◌≤◌, Bool, true, false, cond, nat_eq, List, [], ◌∷◌, ◌++◌, length, map, Some, slice_get, refl, sym, ap, ap₂, subst, ◌∙◌, arith, append_assoc, add-zero, zero-add, inl, inr}
 use Rattle.std.specs.Prelude.{All, remove}
 use Rattle.wiring.specs.Wiring.{In}
-use Rattle.hw_edits.specs.Laws.{erase_op}
+use Rattle.edit_laws.specs.Laws.{erase_op}
 use Rattle.linked_lists.specs.Ids.{times}
 use Rattle.linked_lists.proofs.IdLemmas.{times-append}
 use Rattle.ir_store.specs.declared.operation.OpId.{OpId}
@@ -14,10 +14,9 @@ use Rattle.ir_store.specs.Live.{AreLive, AreDistinct}
 use Rattle.ir_store.specs.Numbered.{position_of, ops_by_position}
 use Rattle.ir_store.proofs.Living.{first_of_all, rest_of_all, all_mapped}
 use Rattle.inline_laws.specs.Unwire.{operand_at, unwire}
-use Rattle.inline_pass.specs.MovedOps.{value_or_undefined, other_value}
-use Rattle.inline_pass.specs.WiresOut.{IsFirstOf, HaveFirstOnly, StandTogether, carried_by, carried_value}
-use Rattle.inline_pass.proofs.IdLists.{once_before, position_back, position_self}
-use Rattle.inline_pass.proofs.WiresTakenOut.{all_left, remove_middle, wire_ids, others_together, wire_erased}
+use Rattle.body_edits.specs.WiresOut.{value_or_undefined, other_value, IsFirstOf, HaveFirstOnly, StandTogether, carried_by, carried_value}
+use Rattle.body_edits.proofs.IdLists.{once_before, position_back, position_self}
+use Rattle.body_edits.proofs.WiresTakenOut.{all_left, remove_middle, wire_ids, others_together, wire_erased}
 use Rattle.aggregate_laws.specs.Leaves.{in_row}
 use Rattle.aggregate_laws.proofs.Lists.{from_In-in_row, map-in_row}
 use Rattle.aggregate_lower.specs.JoinsOut.{wires_out}
@@ -64,20 +63,20 @@ kept_first v w ops all =
 
 module _ (later : List OpId) where
   -- ids from a number on end the body, and nothing names a further result of a wire that leaves later
-  pub record StandsFrom (front : List ℕ) (start more : ℕ) (ops : List BodyOp) : Type 0 where
-    pub ids : ids_in ops ≡ front ++ numbers start more
+  pub record StandsFrom (prefix : List ℕ) (start more : ℕ) (ops : List BodyOp) : Type 0 where
+    pub ids : ids_in ops ≡ prefix ++ numbers start more
     pub once : AreDistinct (ids_in ops)
     pub live : AreLive ops
     pub first_only : HaveFirstOnly later ops
 
   -- one wire
-  module _ (front : List ℕ) (start more : ℕ) (ops : List BodyOp) (among : In (op_id start) later) (s : StandsFrom front start (suc more) ops) where
+  module _ (prefix : List ℕ) (start more : ℕ) (ops : List BodyOp) (among : In (op_id start) later) (s : StandsFrom prefix start (suc more) ops) where
     w : OpId
     w = op_id start
 
     together : StandTogether (op_id start ∷ []) ops
     together = record {
-      front = front;
+      prefix = prefix;
       back = numbers (suc start) more;
       ids = s.ids;
       live = s.live;
@@ -87,22 +86,22 @@ module _ (later : List OpId) where
       ];
     }
 
-    none_before : times start front ≡ 0
-    none_before = once_before front start (numbers (suc start) more) (subst AreDistinct s.ids s.once)
+    none_before : times start prefix ≡ 0
+    none_before = once_before prefix start (numbers (suc start) more) (subst AreDistinct s.ids s.once)
 
     abbrev after : List BodyOp
     after = taken_out start (all_replaced (Result (op_id start) 0) (carried_value start ops) ops)
 
-    ids_after : ids_in after ≡ front ++ numbers (suc start) more
+    ids_after : ids_in after ≡ prefix ++ numbers (suc start) more
     ids_after =
         wire_ids (op_id start) [] ops s.once together ∙ ap (λ ids. remove ids (position_of ids start)) s.ids
-        ∙ remove_middle front start (numbers (suc start) more) none_before
+        ∙ remove_middle prefix start (numbers (suc start) more) none_before
 
     once_after : AreDistinct (ids_in after)
     once_after v =
-        let was : times v (front ++ (start ∷ numbers (suc start) more)) ≤ 1 = subst AreDistinct s.ids s.once v in
-        let old = times-append v front (start ∷ numbers (suc start) more) in
-        let new = times-append v front (numbers (suc start) more) in
+        let was : times v (prefix ++ (start ∷ numbers (suc start) more)) ≤ 1 = subst AreDistinct s.ids s.once v in
+        let old = times-append v prefix (start ∷ numbers (suc start) more) in
+        let new = times-append v prefix (numbers (suc start) more) in
         let fewer = at_least (nat_eq start v) in
         let same = ap (times v) ids_after in
         omega (arith, was, old, new, fewer, same)
@@ -111,7 +110,7 @@ module _ (later : List OpId) where
         at_least true = omega arith
         at_least false = omega arith
 
-    wire_left : StandsFrom front (suc start) more after
+    wire_left : StandsFrom prefix (suc start) more after
     wire_left = record {
       ids = ids_after;
       once = once_after;
@@ -119,37 +118,37 @@ module _ (later : List OpId) where
       first_only = λ v here. kept_first v (op_id start) ops (s.first_only v here);
     }
 
-    wire_gone : ops_by_position after ≡ erase_op (length front) (operand_at (length front) (ops_by_position ops)) (ops_by_position ops)
+    wire_gone : ops_by_position after ≡ erase_op (length prefix) (operand_at (length prefix) (ops_by_position ops)) (ops_by_position ops)
     wire_gone =
         wire_erased (op_id start) [] ops s.once together
         ∙ ap (λ i. erase_op i (operand_at i (ops_by_position ops)) (ops_by_position ops)) place
       where
-        place : position_of (ids_in ops) start ≡ length front
+        place : position_of (ids_in ops) start ≡ length prefix
         place =
-            let back = ap (λ ids. position_of ids start) s.ids ∙ position_back front (start ∷ numbers (suc start) more) start none_before in
+            let back = ap (λ ids. position_of ids start) s.ids ∙ position_back prefix (start ∷ numbers (suc start) more) start none_before in
             let zero_is = position_self start (numbers (suc start) more) in
             omega (arith, back, zero_is)
 
   -- what is left once n of them are gone
-  pub record AreGone (front : List ℕ) (start n more : ℕ) (ops after : List BodyOp) : Type 0 where
-    pub stands : StandsFrom front (start + n) more after
-    pub gone : ops_by_position after ≡ unwire (length front) n (ops_by_position ops)
+  pub record AreGone (prefix : List ℕ) (start n more : ℕ) (ops after : List BodyOp) : Type 0 where
+    pub stands : StandsFrom prefix (start + n) more after
+    pub gone : ops_by_position after ≡ unwire (length prefix) n (ops_by_position ops)
 
-  pub wires_gone : (n : ℕ) (front : List ℕ) (start more all : ℕ) (ops : List BodyOp) → all ≡ n + more → ((i : ℕ) → i < n → In (op_id (start + i)) later) → StandsFrom front start all ops
-      → AreGone front start n more ops (wires_out (in_row op_id start n) ops)
-  wires_gone zero front start more all ops sum among s = record {
-    stands = subst (λ k. StandsFrom front k more ops) (sym (add-zero start)) (subst (λ m. StandsFrom front start m ops) (sum ∙ zero-add more) s);
+  pub wires_gone : (n : ℕ) (prefix : List ℕ) (start more all : ℕ) (ops : List BodyOp) → all ≡ n + more → ((i : ℕ) → i < n → In (op_id (start + i)) later) → StandsFrom prefix start all ops
+      → AreGone prefix start n more ops (wires_out (in_row op_id start n) ops)
+  wires_gone zero prefix start more all ops sum among s = record {
+    stands = subst (λ k. StandsFrom prefix k more ops) (sym (add-zero start)) (subst (λ m. StandsFrom prefix start m ops) (sum ∙ zero-add more) s);
     gone = refl;
   }
-  wires_gone (suc n) front start more all ops sum among s =
+  wires_gone (suc n) prefix start more all ops sum among s =
       let here : In (op_id start) later = subst (λ k. In (op_id k) later) (add-zero start) (among 0 (omega arith)) in
-      let now : StandsFrom front start (suc (n + more)) ops = subst (λ m. StandsFrom front start m ops) (let e : all ≡ suc (n + more) = omega arith in e) s in
-      let rest = wires_gone n front (suc start) more (n + more) (after front start (n + more) ops here now) refl
+      let now : StandsFrom prefix start (suc (n + more)) ops = subst (λ m. StandsFrom prefix start m ops) (let e : all ≡ suc (n + more) = omega arith in e) s in
+      let rest = wires_gone n prefix (suc start) more (n + more) (after prefix start (n + more) ops here now) refl
       (λ i below. subst (λ k. In (op_id k) later) (let e : start + suc i ≡ suc start + i = omega arith in e) (among (suc i) (omega arith)))
-      (wire_left front start (n + more) ops here now) in
+      (wire_left prefix start (n + more) ops here now) in
       record {
-        stands = subst (λ k. StandsFrom front k more (wires_out (in_row op_id (suc start) n) (after front start (n + more) ops here now))) (let e : suc start + n ≡ start + suc n = omega arith in e) rest.stands;
-        gone = rest.gone ∙ ap (unwire (length front) n) (wire_gone front start (n + more) ops here now);
+        stands = subst (λ k. StandsFrom prefix k more (wires_out (in_row op_id (suc start) n) (after prefix start (n + more) ops here now))) (let e : suc start + n ≡ start + suc n = omega arith in e) rest.stands;
+        gone = rest.gone ∙ ap (unwire (length prefix) n) (wire_gone prefix start (n + more) ops here now);
       }
 
   numbers_parted : (start n more all : ℕ) → all ≡ n + more → numbers start all ≡ numbers start n ++ numbers (start + n) more
@@ -159,12 +158,12 @@ module _ (later : List OpId) where
       ap (numbers start) next
       ∙ ap (λ xs. start ∷ xs) (numbers_parted (suc start) n more (n + more) refl ∙ ap (λ k. numbers (suc start) n ++ numbers k more) (let e : suc start + n ≡ start + suc n = omega arith in e))
 
-  pub wires_together : (n : ℕ) (front : List ℕ) (start more all : ℕ) (ops : List BodyOp) → all ≡ n + more → ((i : ℕ) → i < n → In (op_id (start + i)) later) → StandsFrom front start all ops
+  pub wires_together : (n : ℕ) (prefix : List ℕ) (start more all : ℕ) (ops : List BodyOp) → all ≡ n + more → ((i : ℕ) → i < n → In (op_id (start + i)) later) → StandsFrom prefix start all ops
       → StandTogether (in_row op_id start n) ops
-  wires_together n front start more all ops sum among s = record {
-    front = front;
+  wires_together n prefix start more all ops sum among s = record {
+    prefix = prefix;
     back = numbers (start + n) more;
-    ids = s.ids ∙ ap (λ xs. front ++ xs) (numbers_parted start n more all sum ∙ ap (λ xs. xs ++ numbers (start + n) more) (sym (map-in_row (λ (i : OpId). i.index) op_id start n)));
+    ids = s.ids ∙ ap (λ xs. prefix ++ xs) (numbers_parted start n more all sum ∙ ap (λ xs. xs ++ numbers (start + n) more) (sym (map-in_row (λ (i : OpId). i.index) op_id start n)));
     live = s.live;
     first_only = λ v here.
         let from = from_In-in_row op_id start n v here in
@@ -172,9 +171,9 @@ module _ (later : List OpId) where
   }
 
   -- the ids from a number on are not gone where it is passed
-  pub pass_by : (n : ℕ) (front : List ℕ) (start more all : ℕ) (ops : List BodyOp) → all ≡ n + more → StandsFrom front start all ops → StandsFrom (front ++ numbers start n) (start + n) more ops
-  pass_by n front start more all ops sum s = record {
-    ids = s.ids ∙ ap (λ xs. front ++ xs) (numbers_parted start n more all sum) ∙ sym (append_assoc front (numbers start n) (numbers (start + n) more));
+  pub pass_by : (n : ℕ) (prefix : List ℕ) (start more all : ℕ) (ops : List BodyOp) → all ≡ n + more → StandsFrom prefix start all ops → StandsFrom (prefix ++ numbers start n) (start + n) more ops
+  pass_by n prefix start more all ops sum s = record {
+    ids = s.ids ∙ ap (λ xs. prefix ++ xs) (numbers_parted start n more all sum) ∙ sym (append_assoc prefix (numbers start n) (numbers (start + n) more));
     once = s.once;
     live = s.live;
     first_only = s.first_only;

@@ -8,9 +8,8 @@ use Rattle.ir_store.specs.declared.operation.Value.TheVariants.{Result, Undefine
 use Rattle.ir_store.specs.BodyOps.{BodyOp, ids_in, op_at}
 use Rattle.ir_store.specs.Bodies.{op_id}
 use Rattle.ir_store.specs.Live.{AreLive}
-use Rattle.inline_pass.specs.MovedOps.{value_or_undefined}
-use Rattle.inline_pass.specs.WiresOut.{HaveFirstOnly}
-use Rattle.aggregate_accepted.specs.Joins.{only_joins}
+use Rattle.body_edits.specs.WiresOut.{value_or_undefined, HaveFirstOnly}
+use Rattle.aggregate_acceptance.specs.Joins.{only_joins}
 use Rattle.aggregate_lower.specs.JoinsOut.{wires_out}
 
 -- whether a number is flagged, the first flag being that of 0

@@ -6,9 +6,9 @@ use Rattle.ir_store.specs.declared.operation.OpId.{OpId}
 use Rattle.ir_store.specs.declared.operation.Value.TheVariants.{Result}
 use Rattle.ir_store.specs.BodyOps.{BodyOp, taken_out, all_replaced}
 use Rattle.ir_store.specs.Bodies.{op_id}
-use Rattle.inline_pass.specs.WiresOut.{StandTogether, carried_value}
+use Rattle.body_edits.specs.WiresOut.{StandTogether, carried_value}
 use Rattle.aggregate_laws.specs.Leaves.{in_row}
-use Rattle.aggregate_accepted.specs.Joins.{only_joins}
+use Rattle.aggregate_acceptance.specs.Joins.{only_joins}
 
 -- the ids from a number to another one
 abbrev pub ids_between : ℕ → ℕ → List OpId

@@ -2,8 +2,8 @@
 use Rattle.std.specs.Prelude.{cond, map}
 use Rattle.hw_model.specs.Design.{Module, Design}
 use Rattle.aggregate_laws.specs.Scalars.{has_aggregates}
-use Rattle.aggregate_accepted.specs.Joins.{joined_module}
-use Rattle.aggregate_rows.specs.LoweringRules.{lowering_rules}
+use Rattle.aggregate_acceptance.specs.Joins.{joined_module}
+use Rattle.lowering_rules.specs.LoweringRules.{lowering_rules}
 
 -- a module of a design whose aggregate values are their leaves
 abbrev pub lowered_by_leaves : Design → Module → Module

@@ -7,11 +7,11 @@ use Rattle.ir_store.specs.BodyOps.{BodyOp, as_new}
 use Rattle.ir_store.specs.Bodies.{op_id}
 use Rattle.ir_store.specs.Numbered.{op_by}
 use Rattle.aggregate_laws.specs.Rules.{Rules, blocks, parts_of}
-use Rattle.aggregate_laws.specs.Aggregates.{row_of}
-use Rattle.aggregate_accepted.specs.Joins.{without_joins}
-use Rattle.aggregate_rows.specs.declared.leaf_table.LeafTable.{LeafTable}
-use Rattle.aggregate_rows.specs.LeafTables.{leaves_at}
-use Rattle.aggregate_rows.specs.LoweringRules.{leaf_named}
+use Rattle.aggregate_laws.specs.Aggregates.{rule_of}
+use Rattle.aggregate_acceptance.specs.Joins.{without_joins}
+use Rattle.lowering_rules.specs.declared.leaf_table.LeafTable.{LeafTable}
+use Rattle.lowering_rules.specs.LeafTables.{leaves_at}
+use Rattle.lowering_rules.specs.LoweringRules.{leaf_named}
 
 -- operations that are put in one after another, their ids in order from a number on
 abbrev pub numbered_from : ℕ → List NewOp → List BodyOp
@@ -24,7 +24,7 @@ bare_of o = op_by (λ (n : ℕ). n) (record o { operands = [] })
 
 -- what an operation of a design becomes from a position on, where a table has what stands for its operands
 abbrev pub block_made : Design → LeafTable → BodyOp → ℕ → List Op
-block_made d t o start = (row_of (leaf_named d) (bare_of o) o.parts.kind).made (map (leaves_at t) o.operands) start
+block_made d t o start = (rule_of (leaf_named d) (bare_of o) o.parts.kind).made (map (leaves_at t) o.operands) start
 
 -- what all operations become, each from its own position on
 abbrev pub blocks_made : Design → LeafTable → List BodyOp → List ℕ → List Op

@@ -6,10 +6,10 @@ ghost use Rattle.ir_store.specs.OperationViews.{results_in};
 ghost use Rattle.ir_store.specs.Designs.{design_of, ports_in, module_of, numbered_module};
 ghost use Rattle.aggregate_laws.specs.Scalars.{has_aggregates, has_aggregate_value, has_aggregate_port, has_aggregate_type, has_aggregate_result};
 
-use aggregate_rows::leaf_types::is_scalar;
 use ir_store::body::Body;
 use ir_store::design::{Design, Module, PortList};
 use ir_store::operation::NewResultList;
+use lowering_rules::leaf_types::is_scalar;
 
 /// Whether some port or some result of a design has an aggregate type. Linear in the design.
 pub fn has_aggregates(design: &Design) -> bool

@@ -4,16 +4,16 @@ ghost use Rattle.hw_model.specs.KindViews.{kind_of};
 ghost use Rattle.ir_store.specs.Bodies.{ids_of, ops_of, op_id};
 ghost use Rattle.ir_store.specs.Numbered.{ops_by_position};
 ghost use Rattle.body_edits.specs.Views.{HasOp};
-ghost use Rattle.inline_pass.specs.WiresOut.{carried_value};
-ghost use Rattle.aggregate_accepted.specs.Joins.{only_joins};
+ghost use Rattle.body_edits.specs.WiresOut.{carried_value};
+ghost use Rattle.aggregate_acceptance.specs.Joins.{only_joins};
 ghost use Rattle.aggregate_lower.specs.Chains.{is_flagged, flagged, join_flags, wire_taken, CanLeave, LeaveAlike, AreThere};
 
-use aggregate_rows::leaf_table::LeafTable;
+use body_edits::wires::carried_value;
 use hw_model::kinds::OpKind;
-use inline_pass::carried_value;
 use ir_store::body::Body;
 use ir_store::operation::{OpId, Value};
 use ir_store::position_table::ids_in;
+use lowering_rules::leaf_table::LeafTable;
 use std::alloc::{AllocError, Global};
 
 /// Of each operation of the new body, by its number, whether it is a wire of an operation that only joins.

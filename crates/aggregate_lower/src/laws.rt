@@ -3,7 +3,7 @@
 ghost use Rattle.std.specs.Prelude.{◌≡◌, false, [], ◌∷◌};
 ghost use Rattle.hw_model.specs.Design.{Design};
 ghost use Rattle.op_verifier.specs.Verdict.{IsAccepted};
-ghost use Rattle.printable_designs.specs.Printable.{Printable};
+ghost use Rattle.printing_laws.specs.Printable.{Printable};
 ghost use Rattle.pass_pipeline.specs.declared.pass.Pass.TheVariants.{HwLowerAggregates};
 ghost use Rattle.pass_laws.specs.PassLaw.{PassLaw};
 ghost use Rattle.aggregate_laws.specs.Scalars.{has_aggregates};

@@ -5,28 +5,28 @@ ghost use Rattle.hw_model.specs.KindViews.{kind_of};
 ghost use Rattle.ir_store.specs.Bodies.{ids_of, ops_of, op_id};
 ghost use Rattle.ir_store.specs.Numbered.{ops_by_position};
 ghost use Rattle.ir_store.specs.Designs.{design_of, module_of, numbered_module, ports_in};
-ghost use Rattle.accepted_edits.specs.Keeps.{IsFit};
-ghost use Rattle.inline_pass.specs.WiresOut.{StandTogether};
-ghost use Rattle.aggregate_accepted.specs.Joins.{only_joins, joined_module};
-ghost use Rattle.aggregate_rows.specs.Callees.{AreCallees, module_leaves};
-ghost use Rattle.aggregate_rows.specs.LoweringRules.{lowering_rules};
-ghost use Rattle.aggregate_rows.specs.Made.{made_in};
+ghost use Rattle.acceptance_laws.specs.Keeps.{IsFit};
+ghost use Rattle.body_edits.specs.WiresOut.{StandTogether};
+ghost use Rattle.aggregate_acceptance.specs.Joins.{only_joins, joined_module};
+ghost use Rattle.lowering_rules.specs.Callees.{AreCallees, module_leaves};
+ghost use Rattle.lowering_rules.specs.LoweringRules.{lowering_rules};
+ghost use Rattle.lowering_rules.specs.Made.{made_in};
 ghost use Rattle.aggregate_lower.specs.Lowering.{lowered_aggregates};
 ghost use Rattle.aggregate_lower.specs.JoinsOut.{ids_between, wires_out, joins_out, CanJoin};
 ghost use Rattle.aggregate_lower.specs.MadeBodies.{numbered_from, blocks_made, joined_body, HasBody};
 
 use crate::aggregates::has_aggregates;
 use crate::chains::{joined_wires, only_joins, shorten_chains};
-use aggregate_rows::arguments::Arguments;
-use aggregate_rows::blocks::put_block;
-use aggregate_rows::instances::Callees;
-use aggregate_rows::leaf_table::{LeafTable, leaf_table};
-use aggregate_rows::port_leaves::split_ports;
+use body_edits::wires::carried_value;
 use hw_model::kinds::OpKind;
-use inline_pass::carried_value;
 use ir_store::body::Body;
 use ir_store::design::{Design, Module, PortList};
 use ir_store::operation::{NewOp, OpId, Value};
+use lowering_rules::arguments::Arguments;
+use lowering_rules::blocks::put_block;
+use lowering_rules::instances::Callees;
+use lowering_rules::leaf_table::{LeafTable, leaf_table};
+use lowering_rules::port_leaves::split_ports;
 use std::alloc::{AllocError, Global};
 
 /// Has each value of an aggregate type of a design become its leaves, where there is one (CIRCT, HW dialect: `hw-lower-aggregates`). On
@@ -86,7 +86,7 @@ fn lowered_module(alloc: Global, callees: &Callees<'_>, one: &Module) -> Result<
         ports: split_ports(alloc, &one.ports)?,
         dictionary: one.dictionary.try_clone(alloc)?,
         body: lowered_body(alloc, callees, &one.ports, &one.body)?,
-        place: one.place,
+        location: one.location,
     })
 }
 

@@ -5,7 +5,7 @@ use Rattle.opcode.specs.declared.listed.Listed.{Listed}
 use Rattle.opcode.specs.declared.listed.Listed.TheVariants as op
 use Rattle.mlir_lexer.specs.declared.token.TokenKind.{TokenKind}
 use Rattle.mlir_lexer.specs.declared.token.TokenKind.TheVariants as kind
-use Rattle.mlir_lexer.specs.Tokens.{Lexeme}
+use Rattle.mlir_lexer.specs.Tokens.{TextToken}
 use Rattle.mlir_lexer.specs.TokenKinds.{is_kind}
 use Rattle.assembly_format.specs.declared.elements.Keyword.{Keyword}
 use Rattle.assembly_format.specs.declared.elements.Keyword.TheVariants.{From, Clock}
@@ -20,13 +20,13 @@ text_of_keyword From = codes "from"
 text_of_keyword Clock = codes "clock"
 
 -- whether the first token is of a kind
-abbrev pub is_of : TokenKind → Option Lexeme → Bool
+abbrev pub is_of : TokenKind → Option TextToken → Bool
 is_of k None = false
 is_of k (Some t) = is_kind t.kind k
 
 -- the form of an operation: two operands of one type where no other is stated; that of a constant and of an output is told
 -- by the token after the name
-unfoldable pub format_of : Listed → Option Lexeme → Format
+unfoldable pub format_of : Listed → Option TextToken → Format
 format_of op.HwModule next = format.Nothing
 format_of op.CombAdd next = format.Variadic
 format_of op.CombMul next = format.Variadic
@@ -67,29 +67,29 @@ abbrev pub format_with_index : List FormatElement
 format_with_index = element.Operand ∷ element.Mark kind.LeftBracket ∷ element.Operand ∷ element.Mark kind.RightBracket ∷ []
 
 -- the pieces before the types
-unfoldable pub front_elements : Format → List FormatElement
-front_elements format.Variadic = element.Operands ∷ []
-front_elements format.Binary = element.Operand ∷ comma ∷ element.Operand ∷ []
-front_elements format.Comparison = element.Predicate ∷ element.Operand ∷ comma ∷ element.Operand ∷ []
-front_elements format.Unary = element.Operand ∷ []
-front_elements format.Extraction = element.Operand ∷ element.Word From ∷ element.Number ∷ []
-front_elements format.Joined = element.Operands ∷ []
-front_elements format.Conversion = element.Operand ∷ []
-front_elements format.Choice = element.Operand ∷ comma ∷ element.Operand ∷ comma ∷ element.Operand ∷ []
-front_elements format.Truth = element.Truth ∷ []
-front_elements format.Integer = element.Integer ∷ []
-front_elements format.Aggregate = element.Literals ∷ []
-front_elements format.Element = element.Operand ∷ element.Mark kind.LeftBracket ∷ element.Operand ∷ element.Mark kind.RightBracket ∷ []
-front_elements format.Slice = element.Operand ∷ element.Mark kind.LeftBracket ∷ element.Operand ∷ element.Mark kind.RightBracket ∷ []
-front_elements format.ElementChange = element.Operand ∷ element.Mark kind.LeftBracket ∷ element.Operand ∷ element.Mark kind.RightBracket ∷ comma ∷ element.Operand ∷ []
-front_elements format.Struct = element.Group ∷ []
-front_elements format.Field = element.Operand ∷ element.Mark kind.LeftBracket ∷ element.Field ∷ element.Mark kind.RightBracket ∷ []
-front_elements format.FieldChange = element.Operand ∷ element.Mark kind.LeftBracket ∷ element.Field ∷ element.Mark kind.RightBracket ∷ comma ∷ element.Operand ∷ []
-front_elements format.Instance = element.Instance ∷ []
-front_elements format.Nothing = []
-front_elements format.Register = element.Operand ∷ comma ∷ element.Operand ∷ element.Reset ∷ []
-front_elements format.EnabledRegister = element.Operand ∷ comma ∷ element.Operand ∷ comma ∷ element.Operand ∷ element.Reset ∷ []
-front_elements format.ClockedRegister = element.Operand ∷ element.Word Clock ∷ element.Operand ∷ element.SyncOrAsyncReset ∷ []
+unfoldable pub prefix_elements : Format → List FormatElement
+prefix_elements format.Variadic = element.Operands ∷ []
+prefix_elements format.Binary = element.Operand ∷ comma ∷ element.Operand ∷ []
+prefix_elements format.Comparison = element.Predicate ∷ element.Operand ∷ comma ∷ element.Operand ∷ []
+prefix_elements format.Unary = element.Operand ∷ []
+prefix_elements format.Extraction = element.Operand ∷ element.Word From ∷ element.Number ∷ []
+prefix_elements format.Joined = element.Operands ∷ []
+prefix_elements format.Conversion = element.Operand ∷ []
+prefix_elements format.Choice = element.Operand ∷ comma ∷ element.Operand ∷ comma ∷ element.Operand ∷ []
+prefix_elements format.Truth = element.Truth ∷ []
+prefix_elements format.Integer = element.Integer ∷ []
+prefix_elements format.Aggregate = element.Literals ∷ []
+prefix_elements format.Element = element.Operand ∷ element.Mark kind.LeftBracket ∷ element.Operand ∷ element.Mark kind.RightBracket ∷ []
+prefix_elements format.Slice = element.Operand ∷ element.Mark kind.LeftBracket ∷ element.Operand ∷ element.Mark kind.RightBracket ∷ []
+prefix_elements format.ElementChange = element.Operand ∷ element.Mark kind.LeftBracket ∷ element.Operand ∷ element.Mark kind.RightBracket ∷ comma ∷ element.Operand ∷ []
+prefix_elements format.Struct = element.Group ∷ []
+prefix_elements format.Field = element.Operand ∷ element.Mark kind.LeftBracket ∷ element.Field ∷ element.Mark kind.RightBracket ∷ []
+prefix_elements format.FieldChange = element.Operand ∷ element.Mark kind.LeftBracket ∷ element.Field ∷ element.Mark kind.RightBracket ∷ comma ∷ element.Operand ∷ []
+prefix_elements format.Instance = element.Instance ∷ []
+prefix_elements format.Nothing = []
+prefix_elements format.Register = element.Operand ∷ comma ∷ element.Operand ∷ element.Reset ∷ []
+prefix_elements format.EnabledRegister = element.Operand ∷ comma ∷ element.Operand ∷ comma ∷ element.Operand ∷ element.Reset ∷ []
+prefix_elements format.ClockedRegister = element.Operand ∷ element.Word Clock ∷ element.Operand ∷ element.SyncOrAsyncReset ∷ []
 
 -- `: T`
 abbrev pub one_type : List FormatElement

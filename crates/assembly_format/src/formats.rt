@@ -2,8 +2,8 @@
 //! that stands before the types (CIRCT: assembly formats of the operations of HW, Comb and Seq).
 ghost use Rattle.std.specs.Prelude.{◌≡◌};
 ghost use Rattle.std.specs.Option.{option_map};
-ghost use Rattle.mlir_lexer.specs.Tokens.{lexeme_of};
-ghost use Rattle.assembly_format.specs.Formats.{format_of, is_of, front_elements, type_elements, text_of_keyword};
+ghost use Rattle.mlir_lexer.specs.Tokens.{text_token};
+ghost use Rattle.assembly_format.specs.Formats.{format_of, is_of, prefix_elements, type_elements, text_of_keyword};
 
 use crate::elements::{Format, FormatElement, Keyword};
 use mlir_lexer::token::{Token, TokenKind, is_kind};
@@ -118,7 +118,7 @@ const FUNCTION_TYPE: [FormatElement; 6] = [
 /// and of an output is told by the token after the name.
 #[tactic(auto, unfolding(crate::specs::Formats::format_of))]
 pub fn format_of(name: Listed, next: Option<Token>) -> Format
-    ensures { result ≡ format_of name (option_map lexeme_of next.entry) }
+    ensures { result ≡ format_of name (option_map text_token next.entry) }
 {
     match name {
         Listed::HwModule => Format::Nothing,
@@ -153,7 +153,7 @@ pub fn format_of(name: Listed, next: Option<Token>) -> Format
 
 // Whether there is a token, and it is of this kind.
 fn is_of(kind: TokenKind, token: Option<Token>) -> bool
-    ensures { result ≡ is_of kind (option_map lexeme_of token.entry) }
+    ensures { result ≡ is_of kind (option_map text_token token.entry) }
 {
     match token {
         Some(token) => is_kind(token.kind, kind),
@@ -162,9 +162,9 @@ fn is_of(kind: TokenKind, token: Option<Token>) -> bool
 }
 
 /// The pieces before the types.
-#[tactic(auto, unfolding(crate::specs::Formats::front_elements))]
-pub fn front_elements(format: Format) -> &'static [FormatElement]
-    ensures { result.now ≡ front_elements format }
+#[tactic(auto, unfolding(crate::specs::Formats::prefix_elements))]
+pub fn prefix_elements(format: Format) -> &'static [FormatElement]
+    ensures { result.now ≡ prefix_elements format }
 {
     match format {
         Format::Variadic | Format::Joined => &OPERANDS,

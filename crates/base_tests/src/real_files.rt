@@ -104,10 +104,10 @@ fn reads_a_file_of_the_system(rt: HostRuntime) -> Result<(), Fail> {
     fs::write(&rt, name, "module {}")?;
     let mut files = RealFiles::new(&rt);
     let whole = files.read(rt.alloc(), name, 100)?;
-    let front = files.read(rt.alloc(), name, 6)?;
+    let prefix = files.read(rt.alloc(), name, 6)?;
     fs::remove_file(&rt, name)?;
     assert_eq!(rt; whole.as_bytes(), b"module {}".as_slice());
-    assert_eq!(rt; front.as_bytes(), b"module".as_slice());
+    assert_eq!(rt; prefix.as_bytes(), b"module".as_slice());
     assert_eq!(rt; files.read_faults(), 0);
     assert_eq!(rt;
         files.read(rt.alloc(), name, 100).err(),

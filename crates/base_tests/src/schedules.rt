@@ -29,13 +29,14 @@ struct Part {
 
 /// A run in parts.
 struct Run {
+    name: &'static str,
     modules: Modules,
     parts: &'static [Part],
 }
 
 const RUNS: [Run; 7] = [
-    // each worker draws a leaf, and the second reports last
     Run {
+        name: "each worker draws a leaf, and the second reports last",
         modules: Modules::TwoLeaves,
         parts: &[
             Part {
@@ -74,8 +75,8 @@ const RUNS: [Run; 7] = [
             },
         ],
     },
-    // each worker draws a leaf, and the first reports last
     Run {
+        name: "each worker draws a leaf, and the first reports last",
         modules: Modules::TwoLeaves,
         parts: &[Part {
             events: &[
@@ -103,8 +104,8 @@ const RUNS: [Run; 7] = [
             may_not: &[],
         }],
     },
-    // one worker draws both leaves, and the other joins what it did
     Run {
+        name: "one worker draws both leaves, and the other joins what it did",
         modules: Modules::TwoLeaves,
         parts: &[
             Part {
@@ -137,8 +138,8 @@ const RUNS: [Run; 7] = [
             },
         ],
     },
-    // a caller waits for its callees: two draws give the leaves, the third one nothing, and there is no fourth
     Run {
+        name: "a caller waits for its callees: two draws give the leaves, the third one nothing, and there is no fourth",
         modules: Modules::TwoLeaves,
         parts: &[
             Part {
@@ -160,8 +161,8 @@ const RUNS: [Run; 7] = [
             },
         ],
     },
-    // there are 63 splits
     Run {
+        name: "there are 63 splits",
         modules: Modules::TwoLeaves,
         parts: &[Part {
             events: &[Split; 64],
@@ -170,9 +171,8 @@ const RUNS: [Run; 7] = [
             may_not: &[Claim { w: 64 }],
         }],
     },
-    // a worker that owes is not joined, nor one into itself, nor one that has not come; the first one owes nothing,
-    // and may go, and then there is no split
     Run {
+        name: "a worker that owes is not joined, nor one into itself, nor one that has not come; the first owes nothing, may go, and then there is no split",
         modules: Modules::TwoLeaves,
         parts: &[
             Part {
@@ -189,8 +189,8 @@ const RUNS: [Run; 7] = [
             },
         ],
     },
-    // a callee that stands twice is reported twice, and there is no third edge
     Run {
+        name: "a callee that stands twice is reported twice, and there is no third edge",
         modules: Modules::OneCalleeTwice,
         parts: &[
             Part {
@@ -277,11 +277,11 @@ fn is_well(alloc: Global, run: &Run) -> Result<bool, AllocError> {
     Ok(true)
 }
 
-// The first run that goes otherwise, by its position.
-fn first_other(alloc: Global, runs: &[Run]) -> Result<Option<usize>, AllocError> {
-    for (at, run) in runs.iter().enumerate() {
+// The name of the first run that goes otherwise.
+fn first_other(alloc: Global, runs: &[Run]) -> Result<Option<&'static str>, AllocError> {
+    for run in runs {
         if !is_well(alloc, run)? {
-            return Ok(Some(at));
+            return Ok(Some(run.name));
         }
     }
     Ok(None)

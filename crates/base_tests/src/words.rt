@@ -91,6 +91,7 @@ use Operation::{Add, And, Divs, Divu, Mods, Modu, Mul, Or, Shl, Shrs, Shru, Sub,
 
 /// Two words, and the values of operations on them.
 struct Row {
+    name: &'static str,
     width: u32,
     a: u128,
     b: u128,
@@ -99,102 +100,119 @@ struct Row {
 
 const ROWS: [Row; 17] = [
     Row {
+        name: "sums of 7 and 2",
         width: 8,
         a: 0x07,
         b: 0x02,
         values: &[(Add, 0x09), (Sub, 0x05), (Mul, 0x0e)],
     },
     Row {
+        name: "sums that wrap: -1 and 2",
         width: 8,
         a: 0xff,
         b: 0x02,
         values: &[(Add, 0x01), (Sub, 0xfd), (Mul, 0xfe)],
     },
     Row {
+        name: "a difference below 0: 2 and 7",
         width: 8,
         a: 0x02,
         b: 0x07,
         values: &[(Add, 0x09), (Sub, 0xfb), (Mul, 0x0e)],
     },
     Row {
+        name: "bits of cc and aa",
         width: 8,
         a: 0xcc,
         b: 0xaa,
         values: &[(And, 0x88), (Or, 0xee), (Xor, 0x66)],
     },
     Row {
+        name: "quotients of 7 by -3",
         width: 8,
         a: 0x07,
         b: 0xfd,
         values: &[(Divu, 0x00), (Modu, 0x07), (Divs, 0xfe), (Mods, 0x01)],
     },
     Row {
+        name: "quotients of the least byte by -1",
         width: 8,
         a: 0x80,
         b: 0xff,
         values: &[(Divu, 0x00), (Modu, 0x80), (Divs, 0x80), (Mods, 0x00)],
     },
     Row {
+        name: "quotients of -7 by 3",
         width: 8,
         a: 0xf9,
         b: 0x03,
         values: &[(Divu, 0x53), (Modu, 0x00), (Divs, 0xfe), (Mods, 0xff)],
     },
     Row {
+        name: "quotients of -7 by -3",
         width: 8,
         a: 0xf9,
         b: 0xfd,
         values: &[(Divu, 0x00), (Modu, 0xf9), (Divs, 0x02), (Mods, 0xff)],
     },
     Row {
+        name: "quotients of -7 by 0",
         width: 8,
         a: 0xf9,
         b: 0x00,
         values: &[(Divu, 0x00), (Modu, 0xf9), (Divs, 0x00), (Mods, 0xf9)],
     },
     Row {
+        name: "shifts by 0",
         width: 8,
         a: 0x80,
         b: 0x00,
         values: &[(Shl, 0x80), (Shru, 0x80), (Shrs, 0x80)],
     },
     Row {
+        name: "shifts by 1",
         width: 8,
         a: 0x80,
         b: 0x01,
         values: &[(Shl, 0x00), (Shru, 0x40), (Shrs, 0xc0)],
     },
     Row {
+        name: "shifts by 3",
         width: 8,
         a: 0x81,
         b: 0x03,
         values: &[(Shl, 0x08), (Shru, 0x10), (Shrs, 0xf0)],
     },
     Row {
+        name: "shifts by the width",
         width: 8,
         a: 0x80,
         b: 0x08,
         values: &[(Shl, 0x00), (Shru, 0x00), (Shrs, 0xff)],
     },
     Row {
+        name: "shifts past the width",
         width: 8,
         a: 0x80,
         b: 0x09,
         values: &[(Shl, 0x00), (Shru, 0x00), (Shrs, 0xff)],
     },
     Row {
+        name: "shifts of a positive byte by the most",
         width: 8,
         a: 0x7f,
         b: 0xff,
         values: &[(Shl, 0x00), (Shru, 0x00), (Shrs, 0x00)],
     },
     Row {
+        name: "a sum that wraps, of 128 bits",
         width: 128,
         a: u128::MAX,
         b: 1,
         values: &[(Add, 0)],
     },
     Row {
+        name: "a shift past the width, of 128 bits",
         width: 128,
         a: u128::MAX,
         b: 200,
@@ -239,11 +257,11 @@ fn is_well(row: &Row) -> bool {
     true
 }
 
-// The first row with another value, by its position.
-fn first_other(rows: &[Row]) -> Option<usize> {
-    for (at, row) in rows.iter().enumerate() {
+// The name of the first row with another value.
+fn first_other(rows: &[Row]) -> Option<&'static str> {
+    for row in rows {
         if !is_well(row) {
-            return Some(at);
+            return Some(row.name);
         }
     }
     None

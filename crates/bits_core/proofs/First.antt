@@ -18,7 +18,7 @@ first_all zero (b ∷ x) h = absurd (omega arith)
 first_all (suc w) [] h = absurd (omega arith)
 first_all (suc w) (b ∷ x) h = ap (λ (bs : Word). b ∷ bs) (first_all w x (omega arith))
 
--- of a longer word its front
+-- of a longer word its prefix
 pub first-take : (w : ℕ) (x : Word) → w ≤ length x → first w x ≡ take w x
 first-take zero x h = refl
 first-take (suc w) [] h = absurd (omega arith)
@@ -34,7 +34,7 @@ first-append [] y n = ap (λ (k : ℕ). first k y) (zero-add n)
 first-append (b ∷ x) y n =
     ap (λ (k : ℕ). first k (b ∷ (x ++ y))) (suc-add (length x) n) ∙ ap (λ (bs : Word). b ∷ bs) (first-append x y n)
 
--- the front of two words is the first
+-- the prefix of two words is the first
 pub first-append_seam : (w : ℕ) (x y : Word) → length x ≡ w → first w (x ++ y) ≡ x
 first-append_seam zero [] y h = refl
 first-append_seam zero (b ∷ x) y h = absurd (omega arith)

@@ -13,8 +13,8 @@ use Rattle.ir_store.specs.Numbered.{position_of, ref_by, ops_by_position}
 use Rattle.ir_store.specs.Positions.{retarget, result_at, pulled_ref, without_op, replaced_ref}
 use Rattle.ir_store.proofs.Living.{ids-all_replaced}
 use Rattle.ir_store.proofs.Numbering.{numbered-taken_out, numbered-all_replaced}
-use Rattle.hw_edits.specs.Laws.{down, ref_after_erase, without, erase_op}
-use Rattle.hw_edits.proofs.Positions.{down_same, down_none}
+use Rattle.edit_laws.specs.Laws.{down, ref_after_erase, without, erase_op}
+use Rattle.edit_laws.proofs.Positions.{down_same, down_none}
 use Rattle.body_edits.proofs.Positions.{down-erase}
 
 -- ---- lists

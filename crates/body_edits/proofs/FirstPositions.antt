@@ -3,7 +3,6 @@ use Rattle.std.proofs.Common.{◌≡◌, ℕ, suc, ◌+◌, ◌<◌, Bool, true,
 use Rattle.std.specs.Prelude.{option_map, position, nat_lt, remove, IfSome}
 use Rattle.std.specs.List.{prefix_len}
 use Rattle.std.proofs.lemmas.Bool.Decides.{nat_tests}
-use Rattle.wiring.specs.Options.{omap}
 use Rattle.hw_model.specs.Design.{Ref}
 use Rattle.fold_laws.specs.Fewer.{without_first}
 
@@ -39,7 +38,7 @@ first_goes test [] = refl
 first_goes test (x ∷ xs) = ap (option_map (λ k. remove (x ∷ xs) k)) (position_cons test x xs) ∙ go (test x) (position test xs) (first_goes test xs)
   where
     go : (b : Bool) (o : Option ℕ) → option_map (λ k. remove xs k) o ≡ without_first test xs
-        → option_map (λ k. remove (x ∷ xs) k) (cond b (Some 0) (option_map suc o)) ≡ cond b (Some xs) (omap (λ (ys : List Ref). x ∷ ys) (without_first test xs))
+        → option_map (λ k. remove (x ∷ xs) k) (cond b (Some 0) (option_map suc o)) ≡ cond b (Some xs) (option_map (λ (ys : List Ref). x ∷ ys) (without_first test xs))
     go true o is = refl
-    go false None is = ap (omap (λ (ys : List Ref). x ∷ ys)) is
-    go false (Some k) is = ap (omap (λ (ys : List Ref). x ∷ ys)) is
+    go false None is = ap (option_map (λ (ys : List Ref). x ∷ ys)) is
+    go false (Some k) is = ap (option_map (λ (ys : List Ref). x ∷ ys)) is

@@ -1,7 +1,7 @@
 -- Bodies of fit designs, once they have changed in a way that keeps their designs.
 use Rattle.std.proofs.Common.{refl}
 use Rattle.ir_store.specs.declared.body.Body.{Body}
-use Rattle.hw_edits.specs.Laws.{with_body}
+use Rattle.edit_laws.specs.Laws.{with_body}
 use Rattle.pass_laws.proofs.Steps.{Keeps, module_there}
 use Rattle.body_edits.specs.FitBodies.{IsOfFit}
 use Rattle.body_edits.specs.Views.{body_ops}

@@ -1,12 +1,11 @@
 -- What is known of the operations of the body of a module of a fit design.
-use Rattle.std.proofs.Common.{◌≡◌, ℕ, zero, suc, ◌<◌, ◌≤◌, ◌||◌, ℤ, true, false, List, [], ◌∷◌, map, length, Option, Some, None, slice_get, refl, sym, ap, subst, ◌∙◌, arith}
+use Rattle.std.proofs.Common.{◌≡◌, ℕ, zero, suc, ◌<◌, ◌≤◌, ◌||◌, ℤ, true, false, List, [], ◌∷◌, map, length, Option, Some, None, slice_get, refl, sym, ap, subst, ◌∙◌, arith, option_and_then, option_map}
 use Rattle.std.specs.Prelude.{is_some, nat_lt, ◌==◌}
 use Rattle.std.specs.List.{list_any}
 use Rattle.std.proofs.lemmas.Bool.{ltb-false}
 use Rattle.std.proofs.lemmas.Bool.Decides.{nat_tests}
 use Rattle.std.proofs.lemmas.List.{length-map}
 use Rattle.std.proofs.lemmas.Option.{slice_get_within}
-use Rattle.wiring.specs.Options.{bind, omap}
 use Rattle.wiring.specs.Wiring.{In}
 use Rattle.wiring.proofs.Members.{In-map, position_of_In, All-from_members}
 use Rattle.hw_model.specs.Types.{HwType, width, leaves}
@@ -26,13 +25,13 @@ use Rattle.op_checks.specs.CountChecks.{type_count}
 use Rattle.op_checks.specs.TypeChecks.{has_bad_part, is_outside}
 use Rattle.op_checks.proofs.Widths.{neither}
 use Rattle.op_verifier.proofs.NoCauseAlone.{no_cause_alone}
-use Rattle.printable_designs.specs.Printable.{IsPrintableOp, settled_result}
+use Rattle.printing_laws.specs.Printable.{IsPrintableOp, settled_result}
 use Rattle.ir_store.specs.BodyOps.{BodyOp, ids_in, all_replaced, IsUnused}
 use Rattle.ir_store.specs.Live.{IsLive, HasLive, AreLive}
 use Rattle.ir_store.specs.Numbered.{position_of, ref_by, op_by, ops_by_position}
-use Rattle.accepted_edits.specs.Keeps.{IsPrintableBody, IsFit}
-use Rattle.accepted_edits.proofs.Accepted.{each_at}
-use Rattle.accepted_edits.proofs.FitBodies.{own_cause_none, operand_there}
+use Rattle.acceptance_laws.specs.Keeps.{IsPrintableBody, IsFit}
+use Rattle.acceptance_laws.proofs.Accepted.{each_at}
+use Rattle.acceptance_laws.proofs.FitBodies.{own_cause_none, operand_there}
 use Rattle.fold_laws.proofs.MadeKinds.{is_made}
 use Rattle.fold_laws.proofs.Stands.{op_has_one}
 use Rattle.body_edits.specs.FitBodies.{IsOfFit}
@@ -54,7 +53,7 @@ module _ (d : Design) (fit : IsFit d) (k : ℕ) (md : Module) (at : slice_get d 
   result_there : (j n : ℕ) → is_some (type_in md.ports md.body (result j n)) ≡ true → j < length md.body
   result_there j n some = go (slice_get md.body j) refl some
     where
-      go : (x : Option Op) → slice_get md.body j ≡ x → is_some (bind x (λ (o : Op). result_type o n)) ≡ true → j < length md.body
+      go : (x : Option Op) → slice_get md.body j ≡ x → is_some (option_and_then (λ (o : Op). result_type o n) x) ≡ true → j < length md.body
       go None is some = cc
       go (Some o) is some = slice_get_within md.body j o is
 
@@ -63,7 +62,7 @@ module _ (d : Design) (fit : IsFit d) (k : ℕ) (md : Module) (at : slice_get d 
   no_further i o there made y in_body r here n is =
       let some : is_some (type_in md.ports md.body (result i (suc n))) ≡ true = ap (λ x. is_some (type_in md.ports md.body x)) (sym is) ∙ typed y r in_body here in
       let none : type_in md.ports md.body (result i (suc n)) ≡ None =
-      ap (λ x. bind x (λ (z : Op). result_type z (suc n))) there ∙ op_has_one d fit k md at i o there made n in
+      ap (λ x. option_and_then (λ (z : Op). result_type z (suc n)) x) there ∙ op_has_one d fit k md at i o there made n in
       let clash : false ≡ true = ap is_some (sym none) ∙ some in
       cc
 
@@ -116,7 +115,7 @@ within_limits w within =
     record { some = grind (arith, nat_tests, some); few = ltb-false 128 w parts.1 }
 
 first_bits : (z : ℤ) (ts : List HwType) (n w : ℕ) → list_any is_outside ts ≡ false → length ts ≡ type_count (constant z) n
-    → omap (λ (r : OpResult). r.type) (slice_get (map settled_result (result_types (constant z) ts n)) 0) ≡ Some (int w) → IsWidth w
+    → option_map (λ (r : OpResult). r.type) (slice_get (map settled_result (result_types (constant z) ts n)) 0) ≡ Some (int w) → IsWidth w
 unfolding result_types type_of_result type_count
 first_bits z [] n w limits count typed = absurd (omega (arith, count))
 first_bits z (t ∷ ts) n w limits count typed =
@@ -130,8 +129,8 @@ constant_width d fit k md at i o z w there kind typed =
     let own = no_cause_alone md.ports md.body o (own_cause_none d fit k md at i o there) in
     first_bits z o.types (length o.operands) w own.written
     (printable.types ∙ ap (λ x. type_count x (length o.operands)) kind)
-    (ap (λ x. omap (λ (r : OpResult). r.type) (slice_get (map settled_result (result_types x o.types (length o.operands))) 0)) (sym kind)
-    ∙ ap (λ (rs : List OpResult). omap (λ (r : OpResult). r.type) (slice_get rs 0)) (sym printable.results) ∙ typed)
+    (ap (λ x. option_map (λ (r : OpResult). r.type) (slice_get (map settled_result (result_types x o.types (length o.operands))) 0)) (sym kind)
+    ∙ ap (λ (rs : List OpResult). option_map (λ (r : OpResult). r.type) (slice_get rs 0)) (sym printable.results) ∙ typed)
 
 pub fit_readable : (b : Body) → IsOfFit b → IsReadable b
 fit_readable b of = record {

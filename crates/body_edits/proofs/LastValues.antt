@@ -1,9 +1,8 @@
 -- A value of a list moved after the others.
-use Rattle.std.proofs.Common.{◌≡◌, ℕ, zero, suc, ◌<◌, Bool, true, false, cond, not, ◌&&◌, ◌||◌, List, [], ◌∷◌, ◌++◌, length, map, take, drop, get_or, Option, Some, None, refl, sym, ap, ◌∙◌, arith}
+use Rattle.std.proofs.Common.{◌≡◌, ℕ, zero, suc, ◌<◌, Bool, true, false, cond, not, ◌&&◌, ◌||◌, List, [], ◌∷◌, ◌++◌, length, map, take, drop, get_or, Option, Some, None, refl, sym, ap, ◌∙◌, arith, option_and_then}
 use Rattle.std.specs.Prelude.{option_map, position, remove, insert}
 use Rattle.std.specs.List.{list_any}
 use Rattle.std.proofs.lemmas.List.Edits.{remove-append_left}
-use Rattle.wiring.specs.Options.{bind, omap}
 use Rattle.hw_model.specs.Design.{Ref}
 use Rattle.fold_laws.specs.ConstantOperands.{has_other, with_first_last}
 use Rattle.body_edits.proofs.FirstPositions.{position_cons}
@@ -15,30 +14,30 @@ module _ (test : Ref → Bool) where
   none_other (x ∷ xs) is = go (test x) (has_other test xs) is (none_other xs)
     where
       go : (b h : Bool) → (not b || h) ≡ false → (h ≡ false → with_first_last test xs ≡ None)
-          → cond (b && h) (Some (xs ++ x ∷ [])) (omap (λ (ys : List Ref). x ∷ ys) (with_first_last test xs)) ≡ None
+          → cond (b && h) (Some (xs ++ x ∷ [])) (option_map (λ (ys : List Ref). x ∷ ys) (with_first_last test xs)) ≡ None
       go true true is rest = cc
-      go true false is rest = ap (omap (λ (ys : List Ref). x ∷ ys)) (rest refl)
+      go true false is rest = ap (option_map (λ (ys : List Ref). x ∷ ys)) (rest refl)
       go false h is rest = cc
 
-  pub first_moves : (xs : List Ref) → bind (position test xs) (λ k. cond (has_other test (drop (suc k) xs)) (Some (remove xs k ++ take 1 (drop k xs))) None) ≡ with_first_last test xs
+  pub first_moves : (xs : List Ref) → option_and_then (λ k. cond (has_other test (drop (suc k) xs)) (Some (remove xs k ++ take 1 (drop k xs))) None) (position test xs) ≡ with_first_last test xs
   first_moves [] = refl
   first_moves (x ∷ xs) =
-      ap (λ o. bind o (λ k. cond (has_other test (drop (suc k) (x ∷ xs))) (Some (remove (x ∷ xs) k ++ take 1 (drop k (x ∷ xs)))) None)) (position_cons test x xs)
+      ap (λ o. option_and_then (λ k. cond (has_other test (drop (suc k) (x ∷ xs))) (Some (remove (x ∷ xs) k ++ take 1 (drop k (x ∷ xs)))) None) o) (position_cons test x xs)
       ∙ go (test x) (position test xs) (first_moves xs)
     where
-      all : (h : Bool) → has_other test xs ≡ h → cond h (Some (xs ++ x ∷ [])) None ≡ cond h (Some (xs ++ x ∷ [])) (omap (λ (ys : List Ref). x ∷ ys) (with_first_last test xs))
+      all : (h : Bool) → has_other test xs ≡ h → cond h (Some (xs ++ x ∷ [])) None ≡ cond h (Some (xs ++ x ∷ [])) (option_map (λ (ys : List Ref). x ∷ ys) (with_first_last test xs))
       all true is = refl
-      all false is = sym (ap (omap (λ (ys : List Ref). x ∷ ys)) (none_other xs is))
+      all false is = sym (ap (option_map (λ (ys : List Ref). x ∷ ys)) (none_other xs is))
 
-      more : (h : Bool) (w : Option (List Ref)) (ys : List Ref) → cond h (Some ys) None ≡ w → cond h (Some (x ∷ ys)) None ≡ omap (λ (ys : List Ref). x ∷ ys) w
-      more true w ys is = ap (omap (λ (ys : List Ref). x ∷ ys)) is
-      more false w ys is = ap (omap (λ (ys : List Ref). x ∷ ys)) is
+      more : (h : Bool) (w : Option (List Ref)) (ys : List Ref) → cond h (Some ys) None ≡ w → cond h (Some (x ∷ ys)) None ≡ option_map (λ (ys : List Ref). x ∷ ys) w
+      more true w ys is = ap (option_map (λ (ys : List Ref). x ∷ ys)) is
+      more false w ys is = ap (option_map (λ (ys : List Ref). x ∷ ys)) is
 
-      go : (b : Bool) (o : Option ℕ) → bind o (λ k. cond (has_other test (drop (suc k) xs)) (Some (remove xs k ++ take 1 (drop k xs))) None) ≡ with_first_last test xs
-          → bind (cond b (Some 0) (option_map suc o)) (λ k. cond (has_other test (drop (suc k) (x ∷ xs))) (Some (remove (x ∷ xs) k ++ take 1 (drop k (x ∷ xs)))) None)
-          ≡ cond (b && has_other test xs) (Some (xs ++ x ∷ [])) (omap (λ (ys : List Ref). x ∷ ys) (with_first_last test xs))
+      go : (b : Bool) (o : Option ℕ) → option_and_then (λ k. cond (has_other test (drop (suc k) xs)) (Some (remove xs k ++ take 1 (drop k xs))) None) o ≡ with_first_last test xs
+          → option_and_then (λ k. cond (has_other test (drop (suc k) (x ∷ xs))) (Some (remove (x ∷ xs) k ++ take 1 (drop k (x ∷ xs)))) None) (cond b (Some 0) (option_map suc o))
+          ≡ cond (b && has_other test xs) (Some (xs ++ x ∷ [])) (option_map (λ (ys : List Ref). x ∷ ys) (with_first_last test xs))
       go true o is = all (has_other test xs) refl
-      go false None is = ap (omap (λ (ys : List Ref). x ∷ ys)) is
+      go false None is = ap (option_map (λ (ys : List Ref). x ∷ ys)) is
       go false (Some k) is = more (has_other test (drop (suc k) xs)) (with_first_last test xs) (remove xs k ++ take 1 (drop k xs)) is
 
   -- a test of all values by one of some

@@ -8,7 +8,7 @@ pub mod ReadBodies
 pub mod SameValues
 pub mod StandingValues
 pub mod IdsAfter
-pub mod UnusedRow
+pub mod UnusedPattern
 pub mod MadeParts
 pub mod FirstPositions
 pub mod Repeats
@@ -26,3 +26,5 @@ pub mod InPlace
 pub mod NumberOps
 pub mod CutLists
 pub mod FitKept
+pub mod IdLists
+pub mod WiresTakenOut

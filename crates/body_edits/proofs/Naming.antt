@@ -12,7 +12,7 @@ use Rattle.ir_store.specs.declared.operation.Value.TheVariants.{Port, Result, Un
 use Rattle.ir_store.specs.BodyOps.{BodyOp, ids_in, all_replaced, same_value, replace_value, is_of, IsUnused}
 use Rattle.ir_store.specs.Numbered.{position_of, ref_by, op_by, ops_by_position}
 use Rattle.ir_store.proofs.Living.{all_mapped}
-use Rattle.hw_edits.specs.Laws.{IsNotOf}
+use Rattle.edit_laws.specs.Laws.{IsNotOf}
 use Rattle.body_edits.specs.Replaceable.{IsNoFurther, HaveNoFurther}
 
 -- a value is the first result of an operation where it is one of its results

@@ -1,9 +1,8 @@
 -- Operations that made an operand of another one, by ids and by positions.
-use Rattle.std.proofs.Common.{◌≡◌, ℕ, zero, suc, ◌+◌, ◌<◌, Bool, true, false, cond, not, ◌&&◌, nat_eq, List, length, map, drop, get_or, Option, Some, None, slice_get, refl, sym, ap, ◌∙◌, arith, drop-cons, eq-eqb}
+use Rattle.std.proofs.Common.{◌≡◌, ℕ, zero, suc, ◌+◌, ◌<◌, Bool, true, false, cond, not, ◌&&◌, nat_eq, List, length, map, drop, get_or, Option, Some, None, slice_get, refl, sym, ap, ◌∙◌, arith, drop-cons, eq-eqb, option_and_then}
 use Rattle.std.specs.Prelude.{option_map, Contains}
 use Rattle.std.proofs.Math.Seq.{drop-length}
 use Rattle.std.proofs.lemmas.Bool.{eqb-true}
-use Rattle.wiring.specs.Options.{bind, omap}
 use Rattle.hw_model.specs.Kinds.{Kind}
 use Rattle.hw_model.specs.Kinds.Kind.{variadic, extract, concat}
 use Rattle.hw_model.specs.Design.{Ref, Op}
@@ -59,7 +58,7 @@ unfolding position_in
 one_position b i j same = ap (position_of (ids_of b)) same
 
 module _ (b : Body) (op id : OpId) (t : InnerKind) (n : ℕ) where
-  at_result : nested_at (kind_test t) (body_ops b) (position_in b op) (value_ref b (Result id 0)) ≡ bind (slice_get (body_ops b) (position_in b id)) (nested_result (kind_test t) (body_ops b) (position_in b op) (position_in b id))
+  at_result : nested_at (kind_test t) (body_ops b) (position_in b op) (value_ref b (Result id 0)) ≡ option_and_then (nested_result (kind_test t) (body_ops b) (position_in b op) (position_in b id)) (slice_get (body_ops b) (position_in b id))
   unfolding value_ref position_in
   at_result = refl
 
@@ -74,18 +73,18 @@ module _ (b : Body) (op id : OpId) (t : InnerKind) (n : ℕ) where
       refused true u m = ap (λ e. cond (not e && u) (Some m) None) place
       refused false u m = refl
 
-      go : (x : Option Op) → bind x (nested_result (kind_test t) (body_ops b) (position_in b op) (position_in b id)) ≡ None
+      go : (x : Option Op) → option_and_then (nested_result (kind_test t) (body_ops b) (position_in b op) (position_in b id)) x ≡ None
       go None = refl
       go (Some o) = refused (kind_test t o.kind) (has_one_use (body_ops b) (position_in b id)) (record { number = 0; position = position_in b id; inner = o })
 
   -- one that is not there
   pub absent_nested : (Contains (ids_of b) id.index → ⊥) → None ≡ option_map (later n) (nested_at (kind_test t) (body_ops b) (position_in b op) (value_ref b (Result id 0)))
   unfolding value_ref position_in
-  absent_nested other = sym (ap (option_map (later n)) (at_result ∙ ap (λ x. bind x (nested_result (kind_test t) (body_ops b) (position_in b op) (position_in b id))) (maker_none b id other)))
+  absent_nested other = sym (ap (option_map (later n)) (at_result ∙ ap (λ x. option_and_then (nested_result (kind_test t) (body_ops b) (position_in b op) (position_in b id)) x) (maker_none b id other)))
 
   module _ (o : ReadOp) (is : op_at (ops_of b) id.index ≡ Some (read_op id o)) where
     at_op : nested_at (kind_test t) (body_ops b) (position_in b op) (value_ref b (Result id 0)) ≡ nested_result (kind_test t) (body_ops b) (position_in b op) (position_in b id) (op_seen b o)
-    at_op = at_result ∙ ap (λ x. bind x (nested_result (kind_test t) (body_ops b) (position_in b op) (position_in b id))) (op_seen_at b id o is)
+    at_op = at_result ∙ ap (λ x. option_and_then (nested_result (kind_test t) (body_ops b) (position_in b op) (position_in b id)) x) (op_seen_at b id o is)
 
     refused : (kind_test t (op_seen b o).kind && (not (nat_eq (position_in b id) (position_in b op)) && has_one_use (body_ops b) (position_in b id))) ≡ false
         → None ≡ option_map (later n) (nested_at (kind_test t) (body_ops b) (position_in b op) (value_ref b (Result id 0)))
@@ -131,7 +130,7 @@ undefined_nested b op t n = refl
 
 -- ---- the first one
 
-later_later : (n : ℕ) (x : Option Nested) → option_map (later n) (omap one_later x) ≡ option_map (later (n + 1)) x
+later_later : (n : ℕ) (x : Option Nested) → option_map (later n) (option_map one_later x) ≡ option_map (later (n + 1)) x
 later_later n None = refl
 later_later n (Some m) = ap (λ k. Some (record m { number = k })) (omega arith)
 

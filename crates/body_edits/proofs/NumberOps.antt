@@ -1,10 +1,9 @@
--- Operations that become constants: what their rows give, and what code makes of them.
-use Rattle.std.proofs.Common.{◌≡◌, ℕ, true, false, List, [], ◌∷◌, map, Option, Some, None, slice_get, refl, sym, ap, subst, ◌∙◌}
+-- Operations that become constants: what their patterns give, and what code makes of them.
+use Rattle.std.proofs.Common.{◌≡◌, ℕ, true, false, List, [], ◌∷◌, map, Option, Some, None, slice_get, refl, sym, ap, subst, ◌∙◌, option_and_then, option_map}
 use Rattle.std.specs.Prelude.{is_some}
-use Rattle.wiring.specs.Options.{bind, omap}
 use Rattle.wiring.specs.Wiring.{In}
 use Rattle.hw_model.specs.Types.{HwType}
-use Rattle.hw_model.specs.Design.{Place, Op, result_type}
+use Rattle.hw_model.specs.Design.{Location, Op, result_type}
 use Rattle.ir_store.specs.declared.body.Body.{Body}
 use Rattle.ir_store.specs.declared.operation.NewOp.{NewOp}
 use Rattle.ir_store.specs.declared.operation.Value.{Value}
@@ -26,14 +25,14 @@ use Rattle.body_edits.proofs.FitOps.{fit_no_further}
 -- an operation whose first result has a type has one
 pub untyped_none : (os : List Op) (i : ℕ) (o : Op) → slice_get os i ≡ Some o → is_some (first_type_at os i) ≡ true → result_type o 0 ≡ None → ⊥
 untyped_none os i o there typed none =
-    let clash : false ≡ true = sym (ap is_some (ap (λ x. bind x (λ (y : Op). result_type y 0)) there ∙ none)) ∙ typed in cc
+    let clash : false ≡ true = sym (ap is_some (ap (λ x. option_and_then (λ (y : Op). result_type y 0) x) there ∙ none)) ∙ typed in cc
 
 -- a constant has no operands
-pub number_named : (b : Body) (n : ℕ) (t : HwType) (place : Place) (new : NewOp) → IsNumberOp n t place new → HasNamed (body_ops b) (new_seen b new)
-number_named b n t place new made r here = absurd (subst (λ (vs : List Value). In r (map (value_ref b) vs)) made.operands here)
+pub number_named : (b : Body) (n : ℕ) (t : HwType) (location : Location) (new : NewOp) → IsNumberOp n t location new → HasNamed (body_ops b) (new_seen b new)
+number_named b n t location new made r here = absurd (subst (λ (vs : List Value). In r (map (value_ref b) vs)) made.operands here)
 
 pub has_number : (b b' : Body) (i n : ℕ) (o : Op) (t : HwType) (new : NewOp) → slice_get (body_ops b) i ≡ Some o → result_type o 0 ≡ Some t
-    → IsNumberOp n t o.place new → IsReplaced b b' i (new_seen b new) → HasNumber b b' i n
+    → IsNumberOp n t o.location new → IsReplaced b b' i (new_seen b new) → HasNumber b b' i n
 has_number b b' i n o t new there typed made put = record {
   op = o;
   there = there;
@@ -42,9 +41,9 @@ has_number b b' i n o t new there typed made put = record {
   replaced = subst (IsReplaced b b' i) (ap (λ (vs : List Value). record (plain_op (new_parts new)) { operands = map (value_ref b) vs }) made.operands ∙ made.is) put;
 }
 
--- ---- the row
+-- ---- the pattern
 
--- the type of the first result, and the number, where the row matches
+-- the type of the first result, and the number, where the pattern matches
 pub record IsFound (numbering : Numbering) (os : List Op) (o : Op) : Type 0 where
   pub type : HwType
   pub typed : result_type o 0 ≡ Some type
@@ -52,21 +51,21 @@ pub record IsFound (numbering : Numbering) (os : List Op) (o : Op) : Type 0 wher
   pub gives : numbering os o.kind o.types type o.operands ≡ Some number
 
 module _ (numbering : Numbering) (os : List Op) (i : ℕ) (o : Op) (there : slice_get os i ≡ Some o) where
-  row_there : by_number numbering os i ≡ bind (result_type o 0) (with_number numbering os i o)
-  row_there = ap (λ x. bind x (λ (y : Op). bind (result_type y 0) (with_number numbering os i y))) there
+  pattern_there : by_number numbering os i ≡ option_and_then (with_number numbering os i o) (result_type o 0)
+  pattern_there = ap (λ x. option_and_then (λ (y : Op). option_and_then (with_number numbering os i y) (result_type y 0)) x) there
 
-  row_of : (t : HwType) → result_type o 0 ≡ Some t → by_number numbering os i ≡ with_number numbering os i o t
-  row_of t typed = row_there ∙ ap (λ x. bind x (with_number numbering os i o)) typed
+  pattern_of : (t : HwType) → result_type o 0 ≡ Some t → by_number numbering os i ≡ with_number numbering os i o t
+  pattern_of t typed = pattern_there ∙ ap (λ x. option_and_then (with_number numbering os i o) x) typed
 
-  pub row_found : is_some (by_number numbering os i) ≡ true → IsFound numbering os o
-  row_found matches = go (result_type o 0) refl (sym (ap is_some row_there) ∙ matches)
+  pub pattern_found : is_some (by_number numbering os i) ≡ true → IsFound numbering os o
+  pattern_found matches = go (result_type o 0) refl (sym (ap is_some pattern_there) ∙ matches)
     where
       given : (t : HwType) → result_type o 0 ≡ Some t → (x : Option ℕ) → numbering os o.kind o.types t o.operands ≡ x
-          → is_some (omap (λ (n : ℕ). replaced i (number_op n t o.place) ∷ []) x) ≡ true → IsFound numbering os o
+          → is_some (option_map (λ (n : ℕ). replaced i (number_op n t o.location) ∷ []) x) ≡ true → IsFound numbering os o
       given t typed None is met = cc
       given t typed (Some n) is met = record { type = t; typed = typed; number = n; gives = is }
 
-      go : (x : Option HwType) → result_type o 0 ≡ x → is_some (bind x (with_number numbering os i o)) ≡ true → IsFound numbering os o
+      go : (x : Option HwType) → result_type o 0 ≡ x → is_some (option_and_then (with_number numbering os i o) x) ≡ true → IsFound numbering os o
       go None typed met = cc
       go (Some t) typed met = given t typed (numbering os o.kind o.types t o.operands) refl met
 
@@ -75,21 +74,21 @@ pub number_at : (b : Body) (s : Site) → s.body.now ≡ b → (numbering : Numb
     → number_of numbering t s ≡ numbering (body_ops b) (op_seen b s.op).kind (op_seen b s.op).types t (op_seen b s.op).operands
 number_at b s is numbering t = ap (λ (x : Body). numbering (body_ops x) (kind_at s) (types_at s) t (map (value_ref x) s.op.operands.now)) is
 
--- in a fit design nothing names a further result of an operation at which the row matches
-pub row_alone : (b : Body) → IsOfFit b → (numbering : Numbering) → IsNumbering numbering → (i : ℕ) (o : Op) → slice_get (body_ops b) i ≡ Some o
+-- in a fit design nothing names a further result of an operation at which the pattern matches
+pub pattern_alone : (b : Body) → IsOfFit b → (numbering : Numbering) → IsNumbering numbering → (i : ℕ) (o : Op) → slice_get (body_ops b) i ≡ Some o
     → is_some (by_number numbering (body_ops b) i) ≡ true → HaveNoFurther i (body_ops b)
-row_alone b of numbering shown i o there matches =
-    let found = row_found numbering (body_ops b) i o there matches in
+pattern_alone b of numbering shown i o there matches =
+    let found = pattern_found numbering (body_ops b) i o there matches in
     fit_no_further b of i o there (shown.made (body_ops b) o.kind o.types found.type o.operands found.number found.gives)
 
--- what code makes of an operation is what the row says
+-- what code makes of an operation is what the pattern says
 pub number_folded : (b b' : Body) (i : ℕ) (o : Op) (n : ℕ) (numbering : Numbering) → slice_get (body_ops b) i ≡ Some o
     → ((t : HwType) → result_type o 0 ≡ Some t → Some n ≡ numbering (body_ops b) o.kind o.types t o.operands)
     → HasNumber b b' i n → IsFolded (by_number numbering) b b' i
 number_folded b b' i o n numbering there is has = record {
-  edits = replaced i (number_op n has.type has.op.place) ∷ [];
-  matches = row_of numbering (body_ops b) i has.op has.there has.type has.typed
-      ∙ ap (omap (λ (m : ℕ). replaced i (number_op m has.type has.op.place) ∷ [])) (sym number);
+  edits = replaced i (number_op n has.type has.op.location) ∷ [];
+  matches = pattern_of numbering (body_ops b) i has.op has.there has.type has.typed
+      ∙ ap (option_map (λ (m : ℕ). replaced i (number_op m has.type has.op.location) ∷ [])) (sym number);
   form = refl;
   ops = has.replaced.ops;
   fresh = has.replaced.fresh;

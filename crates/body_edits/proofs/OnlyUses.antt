@@ -20,7 +20,7 @@ use Rattle.fold_laws.specs.Unused.{is_result_of}
 use Rattle.body_edits.specs.Replaceable.{HaveNoFurther}
 use Rattle.body_edits.specs.Views.{HasOp, body_ops, position_in}
 use Rattle.body_edits.proofs.Naming.{IsFirstIf, AreFirstIf, first_named}
-use Rattle.body_edits.proofs.UnusedRow.{of_value}
+use Rattle.body_edits.proofs.UnusedPattern.{of_value}
 
 -- ---- places in two orders
 

@@ -1,9 +1,8 @@
--- The operands that rows choose by ids are those of the table by positions.
-use Rattle.std.proofs.Common.{◌≡◌, ℕ, suc, ◌+◌, ◌-◌, ◌<◌, ◌≤◌, Bool, true, false, cond, not, List, [], ◌∷◌, ◌++◌, length, map, take, drop, Option, Some, None, refl, sym, ap, subst, ◌∙◌, arith}
+-- The operands that patterns choose by ids are those of the table by positions.
+use Rattle.std.proofs.Common.{◌≡◌, ℕ, suc, ◌+◌, ◌-◌, ◌<◌, ◌≤◌, Bool, true, false, cond, not, List, [], ◌∷◌, ◌++◌, length, map, take, drop, Option, Some, None, refl, sym, ap, subst, ◌∙◌, arith, option_and_then}
 use Rattle.std.specs.Prelude.{option_map, position, remove, IfSome, All}
 use Rattle.std.specs.List.{list_any}
 use Rattle.std.proofs.lemmas.List.{length-map, drop-map, take_rest}
-use Rattle.wiring.specs.Options.{bind}
 use Rattle.hw_model.specs.Design.{Ref}
 use Rattle.ir_store.specs.declared.body.Body.{Body}
 use Rattle.ir_store.specs.declared.operation.Value.{Value}
@@ -55,12 +54,14 @@ module _ (b : Body) (vs : List Value) where
 
   -- a constant moves after the others
   pub one_moves : (test : Ref → Bool) (o : Option ℕ) → o ≡ position (λ v. test (value_ref b v)) vs
-      → bind o (λ k. cond (list_any (λ v. not (test (value_ref b v))) (drop (suc k) vs)) (Some (remove (map (value_ref b) vs) k ++ take 1 (drop k (map (value_ref b) vs)))) None)
+      → option_and_then (λ k. cond (list_any (λ v. not (test (value_ref b v))) (drop (suc k) vs)) (Some (remove (map (value_ref b) vs) k ++ take 1 (drop k (map (value_ref b) vs)))) None) o
       ≡ with_first_last test (map (value_ref b) vs)
-  one_moves test None is = ap (λ (o : Option ℕ). bind o (λ j. cond (has_other test (drop (suc j) (map (value_ref b) vs))) (Some (remove (map (value_ref b) vs) j ++ take 1 (drop j (map (value_ref b) vs)))) None)) (is ∙ sym (position-map test (value_ref b) vs)) ∙ first_moves test (map (value_ref b) vs)
+  one_moves test None is = ap (λ (o : Option ℕ). option_and_then (λ j. cond (has_other test (drop (suc j) (map (value_ref b) vs)))
+      (Some (remove (map (value_ref b) vs) j ++ take 1 (drop j (map (value_ref b) vs)))) None) o) (is ∙ sym (position-map test (value_ref b) vs)) ∙ first_moves test (map (value_ref b) vs)
   one_moves test (Some k) is =
       ap (λ h. cond h (Some (remove (map (value_ref b) vs) k ++ take 1 (drop k (map (value_ref b) vs)))) None) (other_after test k)
-      ∙ ap (λ (o : Option ℕ). bind o (λ j. cond (has_other test (drop (suc j) (map (value_ref b) vs))) (Some (remove (map (value_ref b) vs) j ++ take 1 (drop j (map (value_ref b) vs)))) None)) (is ∙ sym (position-map test (value_ref b) vs)) ∙ first_moves test (map (value_ref b) vs)
+      ∙ ap (λ (o : Option ℕ). option_and_then (λ j. cond (has_other test (drop (suc j) (map (value_ref b) vs)))
+      (Some (remove (map (value_ref b) vs) j ++ take 1 (drop j (map (value_ref b) vs)))) None) o) (is ∙ sym (position-map test (value_ref b) vs)) ∙ first_moves test (map (value_ref b) vs)
 
   -- at a position, by whether some later value does not meet the test
   other_later : (test : Ref → Bool) (k : ℕ) → list_any (λ v. not (test (value_ref b v))) (drop (suc k) vs) ≡ list_any (λ v. not (test (value_ref b v))) (take (length vs - (k + 1)) (drop (k + 1) vs))

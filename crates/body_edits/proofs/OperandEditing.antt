@@ -1,10 +1,9 @@
 -- Bodies in which the operands of one operation change.
-use Rattle.std.proofs.Common.{◌≡◌, ℕ, zero, suc, ◌<◌, Bool, true, false, cond, nat_eq, List, [], ◌∷◌, length, map, take, drop, set, get_or, Option, Some, None, slice_get, refl, sym, ap, subst, ◌∙◌, arith}
+use Rattle.std.proofs.Common.{◌≡◌, ℕ, zero, suc, ◌<◌, Bool, true, false, cond, nat_eq, List, [], ◌∷◌, length, map, take, drop, set, get_or, Option, Some, None, slice_get, refl, sym, ap, subst, ◌∙◌, arith, option_and_then}
 use Rattle.std.specs.Prelude.{Contains, insert, remove, is_some, option_map, IfSome}
 use Rattle.std.proofs.Math.ListN.{get_or-map}
 use Rattle.std.proofs.lemmas.Bool.{eqb-false}
 use Rattle.std.proofs.lemmas.List.{length-map, length-append, length-take, length-drop}
-use Rattle.wiring.specs.Options.{bind, omap}
 use Rattle.hw_model.specs.Design.{Ref, Op}
 use Rattle.hw_model.specs.Kinds.{Kind}
 use Rattle.hw_model.specs.Kinds.Kind.{variadic}
@@ -158,38 +157,38 @@ one_moved b b' b'' op o k n d there is end within first second =
       ids = (one_dropped b' b'' op k still second).ids ∙ ids;
     }
 
--- ---- rows
+-- ---- patterns
 
-fewer_edits : (change : Operands) (os : List Op) (i : ℕ) (o : Op) (k : Kind) → with_fewer change os i o k ≡ omap (λ (rs : List Ref). changed i (record o { operands = rs }) ∷ []) (changed_operands change os k o.operands)
+fewer_edits : (change : Operands) (os : List Op) (i : ℕ) (o : Op) (k : Kind) → with_fewer change os i o k ≡ option_map (λ (rs : List Ref). changed i (record o { operands = rs }) ∷ []) (changed_operands change os k o.operands)
 fewer_edits change os i o (variadic v) = refl
 fewer_edits change os i o _ = refl
 
--- the row matches where there are other operands
-pub row_matches : (change : Operands) (os : List Op) (i : ℕ) → is_some (by_operands change os i) ≡ is_some (changed_there change os i)
-row_matches change os i = go (slice_get os i)
+-- the pattern matches where there are other operands
+pub pattern_matches : (change : Operands) (os : List Op) (i : ℕ) → is_some (by_operands change os i) ≡ is_some (changed_there change os i)
+pattern_matches change os i = go (slice_get os i)
   where
-    same : (o : Op) (x : Option (List Ref)) → is_some (omap (λ (rs : List Ref). changed i (record o { operands = rs }) ∷ []) x) ≡ is_some x
+    same : (o : Op) (x : Option (List Ref)) → is_some (option_map (λ (rs : List Ref). changed i (record o { operands = rs }) ∷ []) x) ≡ is_some x
     same o None = refl
     same o (Some rs) = refl
 
-    go : (x : Option Op) → is_some (bind x (λ (o : Op). with_fewer change os i o o.kind)) ≡ is_some (bind x (λ (o : Op). changed_operands change os o.kind o.operands))
+    go : (x : Option Op) → is_some (option_and_then (λ (o : Op). with_fewer change os i o o.kind) x) ≡ is_some (option_and_then (λ (o : Op). changed_operands change os o.kind o.operands) x)
     go None = refl
     go (Some o) = ap is_some (fewer_edits change os i o o.kind) ∙ same o (changed_operands change os o.kind o.operands)
 
--- what an edit of operands makes of a body is what the row does
+-- what an edit of operands makes of a body is what the pattern does
 pub operands_folded : (change : Operands) (edit : OperandEdit) (b b' : Body) (i : ℕ) → Some (operands_after edit (operands_there (slice_get (body_ops b) i))) ≡ changed_there change (body_ops b) i
     → IsOperandEdit edit b b' i → IsFolded (by_operands change) b b' i
 operands_folded change edit b b' i chosen done = go (slice_get (body_ops b) i) refl chosen
   where
-    go : (x : Option Op) → slice_get (body_ops b) i ≡ x → Some (operands_after edit (operands_there x)) ≡ bind x (λ (o : Op). changed_operands change (body_ops b) o.kind o.operands)
+    go : (x : Option Op) → slice_get (body_ops b) i ≡ x → Some (operands_after edit (operands_there x)) ≡ option_and_then (λ (o : Op). changed_operands change (body_ops b) o.kind o.operands) x
         → IsFolded (by_operands change) b b' i
     go None there chosen = cc
     go (Some o) there chosen = record {
       edits = changed i (record o { operands = operands_after edit o.operands }) ∷ [];
       matches =
-          ap (λ x. bind x (λ (p : Op). with_fewer change (body_ops b) i p p.kind)) there
+          ap (λ x. option_and_then (λ (p : Op). with_fewer change (body_ops b) i p p.kind) x) there
           ∙ fewer_edits change (body_ops b) i o o.kind
-          ∙ ap (omap (λ (rs : List Ref). changed i (record o { operands = rs }) ∷ [])) (sym chosen);
+          ∙ ap (option_map (λ (rs : List Ref). changed i (record o { operands = rs }) ∷ [])) (sym chosen);
       form = refl;
       ops = done.ops ∙ with_operands_set i (operands_after edit) (body_ops b) o there;
       fresh = (fresh_id (ids_of b)).0;

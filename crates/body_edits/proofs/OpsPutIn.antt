@@ -4,7 +4,7 @@ use Rattle.std.specs.Prelude.{insert}
 use Rattle.wiring.proofs.Members.{map_same}
 use Rattle.hw_model.specs.Design.{Ref, Op}
 use Rattle.hw_model.specs.Design.Ref.{port, result, undefined}
-use Rattle.hw_edits.specs.Laws.{up, up_ref, insert_op}
+use Rattle.edit_laws.specs.Laws.{up, up_ref, insert_op}
 use Rattle.ir_store.specs.declared.operation.OpId.{OpId}
 use Rattle.ir_store.specs.BodyOps.{BodyOp, ids_in, put_before}
 use Rattle.ir_store.specs.Numbered.{position_of}

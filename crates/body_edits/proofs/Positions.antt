@@ -1,20 +1,19 @@
 -- Positions of operations by ids, and after an operation is put in or taken out.
-use Rattle.std.proofs.Common.{◌≡◌, ℕ, zero, suc, ◌<◌, Bool, true, false, cond, nat_eq, List, [], ◌∷◌, length, map, Some, slice_get, refl, ap, ◌∙◌, arith, eq-eqb, None}
+use Rattle.std.proofs.Common.{◌≡◌, ℕ, zero, suc, ◌<◌, Bool, true, false, cond, nat_eq, List, [], ◌∷◌, length, map, Some, slice_get, refl, ap, ◌∙◌, arith, eq-eqb, None, option_map}
 use Rattle.std.specs.Prelude.{Contains}
 use Rattle.std.proofs.lemmas.Bool.{eqb-true, eqb-false}
-use Rattle.wiring.specs.Options.{omap}
 use Rattle.ir_store.specs.declared.operation.OpId.{OpId}
 use Rattle.ir_store.specs.BodyOps.{BodyOp, ids_in, op_at, put_before}
 use Rattle.ir_store.specs.Numbered.{position_of}
 use Rattle.ir_store.specs.Positions.{position_after_erase}
-use Rattle.hw_edits.specs.Laws.{down}
+use Rattle.edit_laws.specs.Laws.{down}
 
 -- the two definitions of where a position is after an edit are one
 pub down-erase : (i j : ℕ) → down i j ≡ position_after_erase i j
 down-erase zero zero = refl
 down-erase zero (suc j) = refl
 down-erase (suc i) zero = refl
-down-erase (suc i) (suc j) = ap (omap suc) (down-erase i j)
+down-erase (suc i) (suc j) = ap (option_map suc) (down-erase i j)
 
 -- ---- ids
 

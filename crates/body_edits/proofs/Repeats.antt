@@ -4,7 +4,6 @@ use Rattle.std.specs.Prelude.{option_map, position, remove, IfSome, All}
 use Rattle.std.specs.List.{AllByRecursion}
 use Rattle.std.proofs.lemmas.List.Elements.{recursion_from_All}
 use Rattle.std.proofs.Math.Seq.{drop-length}
-use Rattle.wiring.specs.Options.{omap}
 use Rattle.hw_model.specs.Design.{Ref}
 use Rattle.ir_store.specs.Positions.{same_ref}
 use Rattle.fold_laws.specs.Fewer.{without_first, or_else, without_repeat, without_pair}
@@ -19,10 +18,10 @@ repeat_goes (x ∷ xs) = go (position (same_ref x) xs) (first_repeat same_ref xs
   where
     go : (o : Option ℕ) (p : Option Repeat) (w v : Option (List Ref)) → option_map (λ k. remove xs k) o ≡ w → option_map (λ (r : Repeat). remove xs r.second) p ≡ v
         → option_map (λ (r : Repeat). remove (x ∷ xs) r.second) (or_repeat (option_map (λ k. record { first = 0; second = suc k }) o) (option_map later p))
-        ≡ or_else (omap (λ (ys : List Ref). x ∷ ys) w) (omap (λ (ys : List Ref). x ∷ ys) v)
-    go (Some k) p w v is rest = ap (λ u. or_else (omap (λ (ys : List Ref). x ∷ ys) u) (omap (λ (ys : List Ref). x ∷ ys) v)) is
-    go None None w v is rest = ap₂ (λ u t. or_else (omap (λ (ys : List Ref). x ∷ ys) u) (omap (λ (ys : List Ref). x ∷ ys) t)) is rest
-    go None (Some r) w v is rest = ap₂ (λ u t. or_else (omap (λ (ys : List Ref). x ∷ ys) u) (omap (λ (ys : List Ref). x ∷ ys) t)) is rest
+        ≡ or_else (option_map (λ (ys : List Ref). x ∷ ys) w) (option_map (λ (ys : List Ref). x ∷ ys) v)
+    go (Some k) p w v is rest = ap (λ u. or_else (option_map (λ (ys : List Ref). x ∷ ys) u) (option_map (λ (ys : List Ref). x ∷ ys) v)) is
+    go None None w v is rest = ap₂ (λ u t. or_else (option_map (λ (ys : List Ref). x ∷ ys) u) (option_map (λ (ys : List Ref). x ∷ ys) t)) is rest
+    go None (Some r) w v is rest = ap₂ (λ u t. or_else (option_map (λ (ys : List Ref). x ∷ ys) u) (option_map (λ (ys : List Ref). x ∷ ys) t)) is rest
 
 pub pair_goes : (xs : List Ref) → option_map (λ (r : Repeat). remove (remove xs r.second) r.first) (first_repeat same_ref xs) ≡ without_pair xs
 pair_goes [] = refl
@@ -30,10 +29,10 @@ pair_goes (x ∷ xs) = go (position (same_ref x) xs) (first_repeat same_ref xs) 
   where
     go : (o : Option ℕ) (p : Option Repeat) (w v : Option (List Ref)) → option_map (λ k. remove xs k) o ≡ w → option_map (λ (r : Repeat). remove (remove xs r.second) r.first) p ≡ v
         → option_map (λ (r : Repeat). remove (remove (x ∷ xs) r.second) r.first) (or_repeat (option_map (λ k. record { first = 0; second = suc k }) o) (option_map later p))
-        ≡ or_else w (omap (λ (ys : List Ref). x ∷ ys) v)
-    go (Some k) p w v is rest = ap (λ u. or_else u (omap (λ (ys : List Ref). x ∷ ys) v)) is
-    go None None w v is rest = ap₂ (λ u t. or_else u (omap (λ (ys : List Ref). x ∷ ys) t)) is rest
-    go None (Some r) w v is rest = ap₂ (λ u t. or_else u (omap (λ (ys : List Ref). x ∷ ys) t)) is rest
+        ≡ or_else w (option_map (λ (ys : List Ref). x ∷ ys) v)
+    go (Some k) p w v is rest = ap (λ u. or_else u (option_map (λ (ys : List Ref). x ∷ ys) v)) is
+    go None None w v is rest = ap₂ (λ u t. or_else u (option_map (λ (ys : List Ref). x ∷ ys) t)) is rest
+    go None (Some r) w v is rest = ap₂ (λ u t. or_else u (option_map (λ (ys : List Ref). x ∷ ys) t)) is rest
 
 module _ {A : Type 0} (same : A → A → Bool) where
   pub repeat_within : (xs : List A) → IfSome (first_repeat same xs) (λ r. (r.first < r.second) × (r.second < length xs))

@@ -14,8 +14,8 @@ use Rattle.ir_store.specs.Numbered.{position_of, ref_by, op_by, ops_by_position}
 use Rattle.ir_store.specs.Positions.{retarget, position_after_insert, pushed_ref, with_op}
 use Rattle.ir_store.proofs.Living.{added_live, all_none, still_contained, times-put_before}
 use Rattle.ir_store.proofs.Numbering.{numbered-put_before}
-use Rattle.hw_edits.specs.Laws.{down, ref_after_erase, without, erase_op}
-use Rattle.hw_edits.proofs.Positions.{down_same, down_none}
+use Rattle.edit_laws.specs.Laws.{down, ref_after_erase, without, erase_op}
+use Rattle.edit_laws.proofs.Positions.{down_same, down_none}
 use Rattle.body_edits.specs.Replaceable.{IsNoFurther, HasNoFurther, HaveNoFurther}
 use Rattle.body_edits.proofs.Positions.{position_within, position_after, position_before}
 use Rattle.body_edits.proofs.Erasing.{numbered_erase}

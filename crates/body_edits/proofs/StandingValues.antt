@@ -1,7 +1,7 @@
 -- An operation that a value stands for, by ids and by positions.
 use Rattle.std.proofs.Common.{◌≡◌, sym, ap, subst, ◌∙◌}
 use Rattle.std.specs.Prelude.{Contains}
-use Rattle.hw_edits.specs.Laws.{erase_op}
+use Rattle.edit_laws.specs.Laws.{erase_op}
 use Rattle.ir_store.specs.declared.body.Body.{Body}
 use Rattle.ir_store.specs.declared.operation.OpId.{OpId}
 use Rattle.ir_store.specs.declared.operation.Value.{Value}

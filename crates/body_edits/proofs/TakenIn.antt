@@ -6,7 +6,7 @@ use Rattle.std.proofs.lemmas.Option.{slice_get_within}
 use Rattle.fold_laws.proofs.Splices.{map-splice}
 use Rattle.hw_model.specs.Design.{Ref, Op}
 use Rattle.hw_model.specs.Design.Ref.{result, undefined}
-use Rattle.hw_edits.specs.Laws.{erase_op}
+use Rattle.edit_laws.specs.Laws.{erase_op}
 use Rattle.ir_store.specs.declared.body.Body.{Body}
 use Rattle.ir_store.specs.declared.operation.OpId.{OpId}
 use Rattle.ir_store.specs.declared.operation.Value.{Value}
@@ -30,7 +30,7 @@ use Rattle.body_edits.proofs.OperandChanges.{with_operands_set}
 use Rattle.body_edits.proofs.OperandEditing.{op_there, operands_seen, has_operand, same_place}
 use Rattle.body_edits.proofs.Positions.{position_there}
 use Rattle.body_edits.proofs.SpliceEdits.{all_splice, one_change, each_there}
-use Rattle.body_edits.proofs.UnusedRow.{body_unused, erased_plainly}
+use Rattle.body_edits.proofs.UnusedPattern.{body_unused, erased_plainly}
 
 -- ---- operations that are there
 

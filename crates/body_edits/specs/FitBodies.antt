@@ -2,7 +2,7 @@
 use Rattle.std.specs.Prelude.{◌≡◌, ℕ, Some, slice_get}
 use Rattle.hw_model.specs.Design.{Module, Design}
 use Rattle.ir_store.specs.declared.body.Body.{Body}
-use Rattle.accepted_edits.specs.Keeps.{IsFit}
+use Rattle.acceptance_laws.specs.Keeps.{IsFit}
 use Rattle.body_edits.specs.Views.{body_ops}
 
 -- the body is that of a module of a fit design

@@ -9,3 +9,4 @@ pub mod Tests
 pub mod Sites
 pub mod OperandEdits
 pub mod Nests
+pub mod WiresOut

@@ -1,13 +1,12 @@
 -- Operations that code finds among those that made the operands of one (CIRCT, Comb dialect: canonicalization of its
 -- operations).
-use Rattle.std.specs.Prelude.{◌≡◌, ℕ, ◌+◌, Bool, List, [], set, remove, Option, Some, None, slice_get}
-use Rattle.wiring.specs.Options.{bind}
+use Rattle.std.specs.Prelude.{◌≡◌, ℕ, ◌+◌, Bool, List, [], set, remove, Option, Some, None, slice_get, option_and_then}
 use Rattle.hw_model.specs.FamilyViews.{variadic_of}
 use Rattle.hw_model.specs.Kinds.{Kind}
 use Rattle.hw_model.specs.Kinds.Kind.{variadic}
 use Rattle.hw_model.specs.Design.{Op}
 use Rattle.hw_model.specs.Design.Ref.{result, undefined}
-use Rattle.hw_edits.specs.Laws.{erase_op}
+use Rattle.edit_laws.specs.Laws.{erase_op}
 use Rattle.ir_store.specs.declared.body.Body.{Body}
 use Rattle.ir_store.specs.declared.operation.Value.{Value}
 use Rattle.ir_store.specs.Bodies.{ids_of}
@@ -41,7 +40,7 @@ same_nested os i o _ = None
 
 -- that of the operation at a position
 abbrev pub same_nested_at : List Op → ℕ → Option Nested
-same_nested_at os i = bind (slice_get os i) (λ (o : Op). same_nested os i o o.kind)
+same_nested_at os i = option_and_then (λ (o : Op). same_nested os i o o.kind) (slice_get os i)
 
 -- the operation at position j made an operand of the one at position i, and its results have no other use
 pub record IsInner (os : List Op) (i number j : ℕ) : Type 0 where

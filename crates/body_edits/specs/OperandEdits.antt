@@ -1,6 +1,5 @@
 -- Changes of the operands of an operation of any number of operands (MLIR documentation, "Pattern Rewriting": update in place).
-use Rattle.std.specs.Prelude.{◌≡◌, ℕ, ◌<◌, suc, Bool, List, [], ◌∷◌, ◌++◌, take, drop, remove, Option, Some, None, option_map, position, slice_get}
-use Rattle.wiring.specs.Options.{bind}
+use Rattle.std.specs.Prelude.{◌≡◌, ℕ, ◌<◌, suc, Bool, List, [], ◌∷◌, ◌++◌, take, drop, remove, Option, Some, None, option_map, position, slice_get, option_and_then}
 use Rattle.hw_model.specs.Kinds.{Kind}
 use Rattle.hw_model.specs.Kinds.Kind.{variadic}
 use Rattle.hw_model.specs.Design.{Ref, Op}
@@ -37,7 +36,7 @@ changed_operands change os _ rs = None
 
 -- those of the operation at a position
 abbrev pub changed_there : Operands → List Op → ℕ → Option (List Ref)
-changed_there change os i = bind (slice_get os i) (λ (o : Op). changed_operands change os o.kind o.operands)
+changed_there change os i = option_and_then (λ (o : Op). changed_operands change os o.kind o.operands) (slice_get os i)
 
 -- a body after an edit of the operands of the operation at a position, which leaves the ids
 pub record IsOperandEdit (edit : OperandEdit) (before after : Body) (i : ℕ) : Type 0 where

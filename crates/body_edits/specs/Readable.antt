@@ -1,4 +1,4 @@
--- What is asked of a body that rows read: no operand names what is not there, and constants are words.
+-- What is asked of a body that patterns read: no operand names what is not there, and constants are words.
 use Rattle.std.specs.Prelude.{◌≡◌, ℕ, ℤ, ◌≤◌, Option, Some, slice_get, ⊤}
 use Rattle.hw_model.specs.Types.{HwType}
 use Rattle.hw_model.specs.Types.HwType.{int}

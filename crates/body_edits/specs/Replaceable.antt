@@ -4,7 +4,7 @@ use Rattle.std.specs.Prelude.{◌≡◌, ℕ, suc, List}
 use Rattle.wiring.specs.Wiring.{In}
 use Rattle.hw_model.specs.Design.{Ref, Op}
 use Rattle.hw_model.specs.Design.Ref.{result}
-use Rattle.hw_edits.specs.Laws.{IsNotOf}
+use Rattle.edit_laws.specs.Laws.{IsNotOf}
 
 -- a value is no result but the first of the operation at a position
 abbrev pub IsNoFurther : ℕ → Ref → Type 0

@@ -1,10 +1,9 @@
 -- Operations that stand in the place of others of a body in code (MLIR documentation, "Pattern Rewriting": replacing an
 -- operation with a new one).
-use Rattle.std.specs.Prelude.{◌≡◌, ℕ, List, [], map, set, Option, Some, Contains, slice_get}
-use Rattle.wiring.specs.Options.{bind}
+use Rattle.std.specs.Prelude.{◌≡◌, ℕ, List, [], map, set, Option, Some, Contains, slice_get, option_and_then}
 use Rattle.wiring.specs.Wiring.{In}
 use Rattle.hw_model.specs.Types.{HwType}
-use Rattle.hw_model.specs.Design.{Place, Ref, Op, result_type}
+use Rattle.hw_model.specs.Design.{Location, Ref, Op, result_type}
 use Rattle.ir_store.specs.declared.body.Body.{Body}
 use Rattle.ir_store.specs.declared.operation.NewOp.{NewOp}
 use Rattle.ir_store.specs.Bodies.{ids_of}
@@ -14,7 +13,7 @@ use Rattle.body_edits.specs.Views.{body_ops, value_ref}
 
 -- the type of the first result of the operation at a position
 abbrev pub first_type_at : List Op → ℕ → Option HwType
-first_type_at os i = bind (slice_get os i) (λ (o : Op). result_type o 0)
+first_type_at os i = option_and_then (λ (o : Op). result_type o 0) (slice_get os i)
 
 -- an operation without operands
 abbrev pub plain_op : OpParts → Op
@@ -27,7 +26,7 @@ plain_op p = record {
   name = p.name;
   dictionary = p.dictionary;
   bin = p.bin;
-  place = p.place;
+  location = p.location;
 }
 
 -- a new operation, by the positions of a body
@@ -44,10 +43,10 @@ pub record IsNamed (os : List Op) (r : Ref) : Type 0 where
 abbrev pub HasNamed : List Op → Op → Type 0
 HasNamed os o = (r : Ref) → In r o.operands → IsNamed os r
 
--- the new operation is the hw.constant of a number and a type, at a place of the text
-pub record IsNumberOp (n : ℕ) (t : HwType) (place : Place) (o : NewOp) : Type 0 where
+-- the new operation is the hw.constant of a number and a type, at a location of the text
+pub record IsNumberOp (n : ℕ) (t : HwType) (location : Location) (o : NewOp) : Type 0 where
   pub operands : o.operands.items ≡ []
-  pub is : plain_op (new_parts o) ≡ number_op n t place
+  pub is : plain_op (new_parts o) ≡ number_op n t location
 
 -- in the body after, another operation, of a fresh id, stands in the place of the one at position i
 pub record IsReplaced (before after : Body) (i : ℕ) (o : Op) : Type 0 where
@@ -57,10 +56,10 @@ pub record IsReplaced (before after : Body) (i : ℕ) (o : Op) : Type 0 where
   pub ids : ids_of after ≡ set (ids_of before) i fresh
 
 -- in the body after, the constant of a number stands there, which has the type of the first result of that one and its
--- place of the text
+-- location in the text
 pub record HasNumber (before after : Body) (i n : ℕ) : Type 0 where
   pub op : Op
   pub there : slice_get (body_ops before) i ≡ Some op
   pub type : HwType
   pub typed : result_type op 0 ≡ Some type
-  pub replaced : IsReplaced before after i (number_op n type op.place)
+  pub replaced : IsReplaced before after i (number_op n type op.location)

@@ -1,4 +1,4 @@
--- An operation of a body that rows read, by positions (MLIR language reference: operations).
+-- An operation of a body that patterns read, by positions (MLIR language reference: operations).
 use Rattle.std.specs.Prelude.{ℕ, ◌≤◌, List, map, Option, All, slice_get, option_map}
 use Rattle.hw_model.specs.Types.{HwType, width}
 use Rattle.hw_model.specs.Kinds.{Kind}

@@ -5,7 +5,7 @@ use Rattle.hw_model.specs.Design.{Ref, Op}
 use Rattle.ir_store.specs.declared.body.Body.{Body}
 use Rattle.ir_store.specs.declared.body.Op.{Op as ReadOp}
 use Rattle.ir_store.specs.DictionaryViews.{entries_in}
-use Rattle.ir_store.specs.OperationViews.{types_in, results_in, place_of}
+use Rattle.ir_store.specs.OperationViews.{types_in, results_in, location_of}
 use Rattle.ir_store.specs.declared.operation.OpId.{OpId}
 use Rattle.ir_store.specs.declared.operation.Value.{Value}
 use Rattle.ir_store.specs.Bodies.{ids_of, ops_of}
@@ -34,7 +34,7 @@ op_seen b o = record {
   name = o.name.now;
   dictionary = entries_in o.dictionary.now;
   bin = o.bin;
-  place = place_of o.place;
+  location = location_of o.location;
 }
 
 -- the body has an operation of this id

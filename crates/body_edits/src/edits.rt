@@ -1,6 +1,6 @@
-//! The edits by which rows change a body.
+//! The edits by which patterns change a body.
 ghost use Rattle.std.specs.Prelude.{◌≡◌, remove};
-ghost use Rattle.hw_edits.specs.Laws.{erase_op};
+ghost use Rattle.edit_laws.specs.Laws.{erase_op};
 ghost use Rattle.ir_store.specs.Bodies.{ids_of};
 ghost use Rattle.body_edits.specs.FitBodies.{IsOfFit};
 ghost use Rattle.body_edits.specs.Replaceable.{MayStand};

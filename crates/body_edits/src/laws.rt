@@ -1,7 +1,7 @@
 //! The laws on what edits of a body by ids do to its operations by positions, each a clause of a function that does nothing.
 ghost use Rattle.std.specs.Prelude.{◌≡◌, ℕ, List, [], Some, Contains, set, slice_get};
 ghost use Rattle.hw_model.specs.Design.{Ref, Op};
-ghost use Rattle.hw_edits.specs.Laws.{erase_op};
+ghost use Rattle.edit_laws.specs.Laws.{erase_op};
 ghost use Rattle.ir_store.specs.declared.operation.OpId.{OpId};
 ghost use Rattle.ir_store.specs.declared.operation.Value.{Value};
 ghost use Rattle.ir_store.specs.declared.operation.Value.TheVariants.{Result};

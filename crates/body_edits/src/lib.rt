@@ -16,5 +16,6 @@ pub mod reading;
 pub mod site;
 pub mod spliced;
 pub mod splices;
+pub mod wires;
 
 pub use laws::{erasures, operand_changes, replacements};

@@ -2,14 +2,14 @@
 ghost use Rattle.std.specs.Prelude.{◌≡◌, true, Some, is_some, slice_get, option_map, IfOk, OnOk, OnErr};
 ghost use Rattle.hw_model.specs.TypeViews.{type_of};
 ghost use Rattle.ir_store.specs.Bodies.{ops_of};
-ghost use Rattle.ir_store.specs.OperationViews.{place_of, results_in};
+ghost use Rattle.ir_store.specs.OperationViews.{location_of, results_in};
 ghost use Rattle.body_edits.specs.FitBodies.{IsOfFit};
 ghost use Rattle.body_edits.specs.Replaceable.{HaveNoFurther};
 ghost use Rattle.body_edits.specs.Replaced.{first_type_at, IsNumberOp, HasNumber};
 ghost use Rattle.body_edits.specs.Views.{HasOp, body_ops, position_in};
 
 use crate::in_place::put_in_place;
-use diag::refusal::Place;
+use diag::refusal::Location;
 use hw_model::kinds::{Integer, OpKind};
 use hw_model::types::Ty;
 use io_edge::byte_text::Text;
@@ -33,7 +33,7 @@ pub fn put_number(alloc: Global, body: &mut Body, op: OpId, number: u128) -> Res
     let found = body.op(op);
     match first_type(found.results) {
         Some(ty) => {
-            let constant = number_op(alloc, number, ty, found.place)?;
+            let constant = number_op(alloc, number, ty, found.location)?;
             put_in_place(body, op, constant)
         }
         None => unreachable!(),
@@ -51,8 +51,13 @@ pub fn first_type(results: &NewResultList) -> Option<&Ty>
 }
 
 /// The `hw.constant` of a number and a type, at a place of the text.
-pub fn number_op(alloc: Global, number: u128, ty: &Ty, place: Place) -> Result<NewOp, AllocError>
-    ensures { IfOk result (λ op. IsNumberOp number (type_of ty.now) (place_of place) op) }
+pub fn number_op(
+    alloc: Global,
+    number: u128,
+    ty: &Ty,
+    location: Location,
+) -> Result<NewOp, AllocError>
+    ensures { IfOk result (λ op. IsNumberOp number (type_of ty.now) (location_of location) op) }
 {
     Ok(NewOp {
         kind: OpKind::Constant(Integer::NonNegative(number)),
@@ -66,6 +71,6 @@ pub fn number_op(alloc: Global, number: u128, ty: &Ty, place: Place) -> Result<N
         name: Text::new(alloc),
         dictionary: Dictionary::new(alloc),
         bin: false,
-        place,
+        location,
     })
 }

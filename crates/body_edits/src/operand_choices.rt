@@ -1,4 +1,4 @@
-//! The choices that rows make of the operands that go or move.
+//! The choices that patterns make of the operands that go or move.
 ghost use Rattle.std.specs.Prelude.{◌≡◌, ◌+◌, ◌<◌, ◌&&◌, ℕ, false, nat_eq, nat_lt, not, drop, Some, length, position, option_map, IfSome};
 ghost use Rattle.std.specs.List.{list_any};
 ghost use Rattle.fold_laws.specs.Constants.{is_constant_where};

@@ -1,4 +1,4 @@
-//! Rows by which an operation of any number of operands has others.
+//! Patterns by which an operation of any number of operands has others.
 ghost use Rattle.std.specs.Prelude.{◌≡◌, ◌<◌, true, Some, is_some, option_map, length, slice_get, IfSome, IfOk, OnOk, OnErr};
 ghost use Rattle.ir_store.specs.Bodies.{ops_of};
 ghost use Rattle.ir_store.specs.BodyOps.{HasOperand};
@@ -26,8 +26,8 @@ pub enum OperandEdit {
     MoveLast(usize),
 }
 
-/// A row of the table of folds by which an operation of any number of operands has others.
-pub trait OperandRow {
+/// A pattern of the table of folds by which an operation of any number of operands has others.
+pub trait OperandPattern {
     ghost use Rattle.fold_laws.specs.Fewer.{Operands};
     ghost use Rattle.hw_model.specs.FamilyViews.{variadic_of};
     ghost use Rattle.ir_store.specs.Bodies.{ops_of, read_op};
@@ -37,7 +37,7 @@ pub trait OperandRow {
     // The operands that an operation has after the change.
     ghost operands: { Operands };
 
-    /// The change of the operands of the operation `id`, which is of a kind, where the row matches.
+    /// The change of the operands of the operation `id`, which is of a kind, where the pattern matches.
     fn edit(site: &Site<'_>, id: OpId, kind: Variadic) -> Option<OperandEdit>
         requires readable { IsReadableSite site.now }
         requires own { op_at (ops_of site.now.body.now) id.index ≡ Some (read_op id site.now.op) }
@@ -45,8 +45,8 @@ pub trait OperandRow {
         ensures within { IfSome result (IsWithin (length (refs_at site.now))) };
 }
 
-/// Whether a row that changes operands matches at an operation.
-pub fn operands_match<R: OperandRow>(body: &Body, op: OpId) -> bool
+/// Whether a pattern that changes operands matches at an operation.
+pub fn operands_match<R: OperandPattern>(body: &Body, op: OpId) -> bool
     requires fit { IsOfFit body.now }
     requires live { HasOp body.now op }
     ensures { result ≡ is_some (by_operands R.operands (body_ops body.now) (position_in body.now op)) }
@@ -54,9 +54,9 @@ pub fn operands_match<R: OperandRow>(body: &Body, op: OpId) -> bool
     edit_at::<R>(body, op).is_some()
 }
 
-/// Changes the operands of an operation at which a row matches that does so. On an error, which comes where memory that is
+/// Changes the operands of an operation at which a pattern matches that does so. On an error, which comes where memory that is
 /// needed is refused, the operations stay. Linear in the operands, besides the search for the change.
-pub fn apply_operands<R: OperandRow>(body: &mut Body, op: OpId) -> Result<(), AllocError>
+pub fn apply_operands<R: OperandPattern>(body: &mut Body, op: OpId) -> Result<(), AllocError>
     requires fit { IsOfFit body.old }
     requires live { HasOp body.old op }
     requires matches { is_some (by_operands R.operands (body_ops body.old) (position_in body.old op)) ≡ true }
@@ -69,8 +69,8 @@ pub fn apply_operands<R: OperandRow>(body: &mut Body, op: OpId) -> Result<(), Al
     }
 }
 
-/// The change of the operands of an operation, where a row matches that changes them.
-fn edit_at<R: OperandRow>(body: &Body, op: OpId) -> Option<OperandEdit>
+/// The change of the operands of an operation, where a pattern matches that changes them.
+fn edit_at<R: OperandPattern>(body: &Body, op: OpId) -> Option<OperandEdit>
     requires fit { IsOfFit body.now }
     requires live { HasOp body.now op }
     ensures operands { option_map (λ e. operands_after e (operands_there (slice_get (body_ops body.now) (position_in body.now op)))) result ≡ changed_there R.operands (body_ops body.now) (position_in body.now op) }

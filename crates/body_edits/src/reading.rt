@@ -1,4 +1,4 @@
-//! What rows read of a body: the operations that made values, and constants.
+//! What patterns read of a body: the operations that made values, and constants.
 ghost use Rattle.std.specs.Prelude.{◌≡◌, option_map};
 ghost use Rattle.ir_store.specs.declared.operation.Value.TheVariants.{Result};
 ghost use Rattle.fold_laws.specs.Constants.{constant_at, is_constant_where};

@@ -1,4 +1,4 @@
-//! An operation of a body, as rows read it, and the choices that they make among its operands.
+//! An operation of a body, as patterns read it, and the choices that they make among its operands.
 ghost use Rattle.std.specs.Prelude.{◌≡◌, ◌&&◌, cond, option_map, Some, slice_get};
 ghost use Rattle.fold_laws.specs.Constants.{constant_at, is_constant_where, is_true, is_false};
 ghost use Rattle.fold_laws.specs.Standing.{when, only_operand, first_where, first_operand, of_three_operands, writes_one_type};

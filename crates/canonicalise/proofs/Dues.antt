@@ -1,5 +1,6 @@
 -- Where a sweep goes on after a fold, by ids.
-use Rattle.std.proofs.Common.{◌≡◌, ℕ, zero, suc, ◌+◌, ◌-◌, ◌<◌, ◌≤◌, Bool, true, false, cond, nat_eq, nat_lt, List, [], ◌∷◌, ◌++◌, length, map, drop, set, insert, remove, Option, Some, refl, sym, ap, subst, ◌∙◌, arith, zero-add, suc-add, eq-eqb}
+use Rattle.std.proofs.Common.{◌≡◌, ℕ, zero, suc, ◌+◌, ◌-◌, ◌<◌, ◌≤◌, Bool, true, false, cond, nat_eq, nat_lt, List, [], ◌∷◌, ◌++◌, length, map, drop, set, insert, remove, Option, Some, refl, sym, ap}
+use Rattle.std.proofs.Common.{subst, ◌∙◌, arith, zero-add, suc-add, eq-eqb}
 use Rattle.std.specs.Prelude.{Contains}
 use Rattle.std.proofs.lemmas.Bool.{eqb-true, eqb-false, ltb-true, ltb-false}
 use Rattle.std.proofs.lemmas.List.{length-append, append_assoc}
@@ -12,7 +13,7 @@ use Rattle.ir_store.specs.Numbered.{position_of}
 use Rattle.hw_model.specs.Design.{Ref, Op}
 use Rattle.fold_laws.specs.Edits.{Edit}
 use Rattle.fold_laws.specs.Edits.Edit.{changed, replaced, erased, put_in}
-use Rattle.body_edits.specs.Folded.{ids_edited_by, IsRowEdit}
+use Rattle.body_edits.specs.Folded.{ids_edited_by, IsPatternEdit}
 use Rattle.canonicalise.specs.Dues.{IsDue}
 use Rattle.canonicalise.specs.Sweeps.{moved_by}
 
@@ -112,24 +113,24 @@ drop_here [] x ys = refl
 drop_here (z ∷ xs) x ys = drop_here xs x ys
 
 -- an id that stands once stands in no other place
-pub once_here : (front : List ℕ) (id : ℕ) (rest : List ℕ) → AreDistinct (front ++ id ∷ rest) → (times id front ≡ 0) × (times id rest ≡ 0)
-once_here front id rest distinct =
-    let sum : times id (front ++ id ∷ rest) ≡ times id front + times id (id ∷ rest) = times-append id front (id ∷ rest) in
+pub once_here : (prefix : List ℕ) (id : ℕ) (rest : List ℕ) → AreDistinct (prefix ++ id ∷ rest) → (times id prefix ≡ 0) × (times id rest ≡ 0)
+once_here prefix id rest distinct =
+    let sum : times id (prefix ++ id ∷ rest) ≡ times id prefix + times id (id ∷ rest) = times-append id prefix (id ∷ rest) in
     let one : times id (id ∷ rest) ≡ suc (times id rest) = times_here id rest in
-    let most : times id (front ++ id ∷ rest) ≤ 1 = distinct id in
+    let most : times id (prefix ++ id ∷ rest) ≤ 1 = distinct id in
     (omega (arith, sum, one, most), omega (arith, sum, one, most))
 
-pub position_here : (front : List ℕ) (id : ℕ) (rest : List ℕ) → AreDistinct (front ++ id ∷ rest) → position_of (front ++ id ∷ rest) id ≡ length front
-position_here front id rest distinct = position_split front id rest (once_here front id rest distinct).0
+pub position_here : (prefix : List ℕ) (id : ℕ) (rest : List ℕ) → AreDistinct (prefix ++ id ∷ rest) → position_of (prefix ++ id ∷ rest) id ≡ length prefix
+position_here prefix id rest distinct = position_split prefix id rest (once_here prefix id rest distinct).0
 
 -- what stands after its position
-pub rest_here : (front : List ℕ) (id : ℕ) (rest : List ℕ) → AreDistinct (front ++ id ∷ rest) → drop (suc (position_of (front ++ id ∷ rest) id)) (front ++ id ∷ rest) ≡ rest
-rest_here front id rest distinct = ap (λ n. drop (suc n) (front ++ id ∷ rest)) (position_here front id rest distinct) ∙ drop_here front id rest
+pub rest_here : (prefix : List ℕ) (id : ℕ) (rest : List ℕ) → AreDistinct (prefix ++ id ∷ rest) → drop (suc (position_of (prefix ++ id ∷ rest) id)) (prefix ++ id ∷ rest) ≡ rest
+rest_here prefix id rest distinct = ap (λ n. drop (suc n) (prefix ++ id ∷ rest)) (position_here prefix id rest distinct) ∙ drop_here prefix id rest
 
-pub contains_here : (front : List ℕ) (id : ℕ) (rest : List ℕ) → Contains (front ++ id ∷ rest) id
-contains_here front id rest = here front id rest
+pub contains_here : (prefix : List ℕ) (id : ℕ) (rest : List ℕ) → Contains (prefix ++ id ∷ rest) id
+contains_here prefix id rest = here prefix id rest
 
--- ---- the forms of a row's edits
+-- ---- the forms of a pattern's edits
 
 data Form (n i : ℕ) (es : List Edit) : Type 0 where
   changes : (o : Op) → es ≡ changed i o ∷ [] → Form n i es
@@ -139,7 +140,7 @@ data Form (n i : ℕ) (es : List Edit) : Type 0 where
   replaces_one : (o : Op) (k : ℕ) (x : Ref) → es ≡ replaced i o ∷ erased k x ∷ [] → (k ≡ i → ⊥) → k < n → Form n i es
   puts_one : (o p : Op) → es ≡ put_in i o ∷ changed (suc i) p ∷ [] → Form n i es
 
-form_of : (n i : ℕ) (es : List Edit) → IsRowEdit n i es → Form n i es
+form_of : (n i : ℕ) (es : List Edit) → IsPatternEdit n i es → Form n i es
 form_of n i (changed j o ∷ []) same = changes o (ap (λ k. changed k o ∷ []) same)
 form_of n i (replaced j o ∷ []) same = replaces o (ap (λ k. replaced k o ∷ []) same)
 form_of n i (erased j x ∷ []) same = erases x (ap (λ k. erased k x ∷ []) same)
@@ -152,10 +153,10 @@ form_of n i _ form = absurd form
 
 -- ids with the position that is visited next, of the operation that is due; at most so many are left
 pub record Goes (ids : List ℕ) (position most : ℕ) (due : Option OpId) : Type 0 where
-  pub front : List ℕ
+  pub prefix : List ℕ
   pub rest : List ℕ
-  pub whole : ids ≡ front ++ rest
-  pub size : length front ≡ position
+  pub whole : ids ≡ prefix ++ rest
+  pub size : length prefix ≡ position
   pub at : due ≡ first_id (map op_id rest)
   pub few : length rest ≤ most
 
@@ -175,10 +176,10 @@ length_with_last : (xs : List ℕ) (y : ℕ) → length (xs ++ y ∷ []) ≡ suc
 length_with_last [] y = refl
 length_with_last (x ∷ xs) y = ap suc (length_with_last xs y)
 
-module _ (front : List ℕ) (id : OpId) (rest : List ℕ) (distinct : AreDistinct (front ++ id.index ∷ rest)) (fresh : ℕ) (unused : Contains (front ++ id.index ∷ rest) fresh → ⊥)
+module _ (prefix : List ℕ) (id : OpId) (rest : List ℕ) (distinct : AreDistinct (prefix ++ id.index ∷ rest)) (fresh : ℕ) (unused : Contains (prefix ++ id.index ∷ rest) fresh → ⊥)
     (next second due : Option OpId) (is_next : next ≡ first_id (map op_id rest)) (is_second : (n : ℕ) (ns : List ℕ) → rest ≡ n ∷ ns → second ≡ first_id (map op_id ns)) where
   abbrev ids : List ℕ
-  ids = front ++ id.index ∷ rest
+  ids = prefix ++ id.index ∷ rest
 
   abbrev Due : List ℕ → Type 0
   Due after = (Contains after id.index → due ≡ Some id) × ((Contains after id.index → ⊥) → IsDue after next second due)
@@ -192,21 +193,21 @@ module _ (front : List ℕ) (id : OpId) (rest : List ℕ) (distinct : AreDistinc
       absent v (xs ++ fresh ∷ ys) (omega (arith, none, nil, sum, skip))
 
   -- the visited one is not among parts of what stood before and after it
-  gone : (xs ys : List ℕ) → times id.index xs ≤ times id.index front → times id.index ys ≤ times id.index rest → Contains (xs ++ fresh ∷ ys) id.index → ⊥
+  gone : (xs ys : List ℕ) → times id.index xs ≤ times id.index prefix → times id.index ys ≤ times id.index rest → Contains (xs ++ fresh ∷ ys) id.index → ⊥
   gone xs ys few less =
-      let one = once_here front id.index rest distinct in
-      away id.index xs ys (here front id.index rest) (omega (arith, one.0, few)) (omega (arith, one.1, less))
+      let one = once_here prefix id.index rest distinct in
+      away id.index xs ys (here prefix id.index rest) (omega (arith, one.0, few)) (omega (arith, one.1, less))
 
-  gone_whole : Contains (front ++ rest) id.index → ⊥
+  gone_whole : Contains (prefix ++ rest) id.index → ⊥
   gone_whole =
-      let one = once_here front id.index rest distinct in
-      let sum : times id.index (front ++ rest) ≡ times id.index front + times id.index rest = times-append id.index front rest in
-      absent id.index (front ++ rest) (omega (arith, one.0, one.1, sum))
+      let one = once_here prefix id.index rest distinct in
+      let sum : times id.index (prefix ++ rest) ≡ times id.index prefix + times id.index rest = times-append id.index prefix rest in
+      absent id.index (prefix ++ rest) (omega (arith, one.0, one.1, sum))
 
   -- it stays
   stays : (after xs ys : List ℕ) (position : ℕ) → after ≡ xs ++ id.index ∷ ys → length xs ≡ position → length ys ≤ length rest → Due after → Goes after position (suc (length rest)) due
   stays after xs ys position whole size few dues = record {
-    front = xs;
+    prefix = xs;
     rest = id.index ∷ ys;
     whole = whole;
     size = size;
@@ -217,7 +218,7 @@ module _ (front : List ℕ) (id : OpId) (rest : List ℕ) (distinct : AreDistinc
   -- it goes, and what stood after it is there
   goes : (after xs : List ℕ) (position : ℕ) → after ≡ xs ++ rest → length xs ≡ position → (Contains after id.index → ⊥) → Due after → Goes after position (suc (length rest)) due
   goes after xs position whole size absence dues = record {
-    front = xs;
+    prefix = xs;
     rest = rest;
     whole = whole;
     size = size;
@@ -226,38 +227,38 @@ module _ (front : List ℕ) (id : OpId) (rest : List ℕ) (distinct : AreDistinc
   }
 
   -- it goes, the fresh one standing there, and so does one of those that stood after it
-  goes_with : (after : List ℕ) (zs : List ℕ) (k : ℕ) → rest ≡ zs → after ≡ front ++ fresh ∷ remove zs k → k < length zs → Due after → Goes after (suc (length front)) (suc (length rest)) due
+  goes_with : (after : List ℕ) (zs : List ℕ) (k : ℕ) → rest ≡ zs → after ≡ prefix ++ fresh ∷ remove zs k → k < length zs → Due after → Goes after (suc (length prefix)) (suc (length rest)) due
   goes_with after [] k same whole less dues = absurd (omega (arith, less))
   goes_with after (n ∷ ns) zero same whole less dues =
-      let ids_are : ids ≡ front ++ id.index ∷ n ∷ ns = ap (λ z. front ++ id.index ∷ z) same in
-      let split : ids ≡ (front ++ id.index ∷ []) ++ n ∷ ns = ids_are ∙ with_last front id.index (n ∷ ns) in
-      let one = once_here (front ++ id.index ∷ []) n ns (subst AreDistinct split distinct) in
-      let sum : times n (front ++ id.index ∷ []) ≡ times n front + times n (id.index ∷ []) = times-append n front (id.index ∷ []) in
+      let ids_are : ids ≡ prefix ++ id.index ∷ n ∷ ns = ap (λ z. prefix ++ id.index ∷ z) same in
+      let split : ids ≡ (prefix ++ id.index ∷ []) ++ n ∷ ns = ids_are ∙ with_last prefix id.index (n ∷ ns) in
+      let one = once_here (prefix ++ id.index ∷ []) n ns (subst AreDistinct split distinct) in
+      let sum : times n (prefix ++ id.index ∷ []) ≡ times n prefix + times n (id.index ∷ []) = times-append n prefix (id.index ∷ []) in
       let absence : Contains after n → ⊥ =
-      (λ there. away n front ns (subst (λ z. Contains z n) (sym split) (here (front ++ id.index ∷ []) n ns)) (omega (arith, one.0, sum)) one.1 (subst (λ z. Contains z n) whole there)) in
+      (λ there. away n prefix ns (subst (λ z. Contains z n) (sym split) (here (prefix ++ id.index ∷ []) n ns)) (omega (arith, one.0, sum)) one.1 (subst (λ z. Contains z n) whole there)) in
       let left : Contains after id.index → ⊥ =
-      (λ there. gone front ns (omega arith) (subst (λ z. times id.index ns ≤ times id.index z) (sym same) (times_least id.index n ns)) (subst (λ z. Contains z id.index) whole there)) in
+      (λ there. gone prefix ns (omega arith) (subst (λ z. times id.index ns ≤ times id.index z) (sym same) (times_least id.index n ns)) (subst (λ z. Contains z id.index) whole there)) in
       record {
-        front = front ++ fresh ∷ [];
+        prefix = prefix ++ fresh ∷ [];
         rest = ns;
-        whole = whole ∙ with_last front fresh ns;
-        size = length_with_last front fresh;
+        whole = whole ∙ with_last prefix fresh ns;
+        size = length_with_last prefix fresh;
         at = second_due after n ns next second due (is_next ∙ ap (λ z. first_id (map op_id z)) same) (is_second n ns same) (dues.1 left) absence;
         few = let size : length rest ≡ suc (length ns) = ap length same in omega (arith, size);
       }
   goes_with after (n ∷ ns) (suc k) same whole less dues =
       let left : Contains after id.index → ⊥ =
-      (λ there. gone front (n ∷ remove ns k) (omega arith) (subst (λ z. times id.index (n ∷ remove ns k) ≤ times id.index z) (sym same) (times-remove id.index (n ∷ ns) (suc k)))
+      (λ there. gone prefix (n ∷ remove ns k) (omega arith) (subst (λ z. times id.index (n ∷ remove ns k) ≤ times id.index z) (sym same) (times-remove id.index (n ∷ ns) (suc k)))
       (subst (λ z. Contains z id.index) whole there)) in
       let due_is : due ≡ first_id (map op_id (n ∷ ns)) =
       next_due after (n ∷ ns) next second due (is_next ∙ ap (λ z. first_id (map op_id z)) same) (dues.1 left)
-      (λ m ms is. let first : n ≡ m = cc in subst (λ z. Contains z m) (sym (whole ∙ with_last front fresh (n ∷ remove ns k)))
-      (subst (λ z. Contains ((front ++ fresh ∷ []) ++ n ∷ remove ns k) z) first (here (front ++ fresh ∷ []) n (remove ns k)))) in
+      (λ m ms is. let first : n ≡ m = cc in subst (λ z. Contains z m) (sym (whole ∙ with_last prefix fresh (n ∷ remove ns k)))
+      (subst (λ z. Contains ((prefix ++ fresh ∷ []) ++ n ∷ remove ns k) z) first (here (prefix ++ fresh ∷ []) n (remove ns k)))) in
       record {
-        front = front ++ fresh ∷ [];
+        prefix = prefix ++ fresh ∷ [];
         rest = n ∷ remove ns k;
-        whole = whole ∙ with_last front fresh (n ∷ remove ns k);
-        size = length_with_last front fresh;
+        whole = whole ∙ with_last prefix fresh (n ∷ remove ns k);
+        size = length_with_last prefix fresh;
         at = due_is;
         few = let size : length rest ≡ suc (length ns) = ap length same in let less_left = length-remove_most ns k in omega (arith, size, less_left);
       }
@@ -265,43 +266,44 @@ module _ (front : List ℕ) (id : OpId) (rest : List ℕ) (distinct : AreDistinc
   -- a position of another id is before or after that of the visited one
   record After (k : ℕ) : Type 0 where
     beyond : ℕ
-    is : k ≡ length front + suc beyond
+    is : k ≡ length prefix + suc beyond
     within : beyond < length rest
 
-  after_it : (k : ℕ) → (k ≡ length front → ⊥) → k < length ids → nat_lt k (length front) ≡ false → After k
+  after_it : (k : ℕ) → (k ≡ length prefix → ⊥) → k < length ids → nat_lt k (length prefix) ≡ false → After k
   after_it k other less test =
-      let past : length front ≤ k = omega (arith, ltb-false k (length front) test) in
-      let size : length ids ≡ length front + suc (length rest) = length-append front (id.index ∷ rest) in
-      record { beyond = k - length front - 1; is = omega (arith, past, other); within = omega (arith, past, other, less, size) }
+      let past : length prefix ≤ k = omega (arith, ltb-false k (length prefix) test) in
+      let size : length ids ≡ length prefix + suc (length rest) = length-append prefix (id.index ∷ rest) in
+      record { beyond = k - length prefix - 1; is = omega (arith, past, other); within = omega (arith, past, other, less, size) }
 
   erased_before : (xs : List ℕ) (y : ℕ) (ys : List ℕ) (k : ℕ) → k < length xs → remove (xs ++ y ∷ ys) k ≡ remove xs k ++ y ∷ ys
   erased_before xs y ys k less = remove_before xs (y ∷ ys) k less
 
-  changes_one_goes : (o : Op) (k : ℕ) (x : Ref) → (k ≡ length front → ⊥) → k < length ids → (b : Bool) → nat_lt k (length front) ≡ b → Due (remove ids k) → Goes (remove ids k) (cond b (length front - 1) (length front)) (suc (length rest)) due
+  changes_one_goes : (o : Op) (k : ℕ) (x : Ref) → (k ≡ length prefix → ⊥) → k < length ids → (b : Bool) → nat_lt k (length prefix) ≡ b → Due (remove ids k)
+      → Goes (remove ids k) (cond b (length prefix - 1) (length prefix)) (suc (length rest)) due
   changes_one_goes o k x other less true test dues =
-      let below : k < length front = ltb-true k (length front) test in
-      let size : length (remove front k) + 1 ≡ length front = length-remove_one front k below in
-      stays (remove ids k) (remove front k) rest (length front - 1) (remove_before front (id.index ∷ rest) k below) (omega (arith, size)) (omega arith) dues
+      let below : k < length prefix = ltb-true k (length prefix) test in
+      let size : length (remove prefix k) + 1 ≡ length prefix = length-remove_one prefix k below in
+      stays (remove ids k) (remove prefix k) rest (length prefix - 1) (remove_before prefix (id.index ∷ rest) k below) (omega (arith, size)) (omega arith) dues
   changes_one_goes o k x other less false test dues =
       let p = after_it k other less test in
-      stays (remove ids k) front (remove rest p.beyond) (length front) (ap (remove ids) p.is ∙ remove_after front (id.index ∷ rest) (suc p.beyond)) refl (length-remove_most rest p.beyond) dues
+      stays (remove ids k) prefix (remove rest p.beyond) (length prefix) (ap (remove ids) p.is ∙ remove_after prefix (id.index ∷ rest) (suc p.beyond)) refl (length-remove_most rest p.beyond) dues
 
-  replaced_ids : set ids (length front) fresh ≡ front ++ fresh ∷ rest
-  replaced_ids = set_here front id.index fresh rest
+  replaced_ids : set ids (length prefix) fresh ≡ prefix ++ fresh ∷ rest
+  replaced_ids = set_here prefix id.index fresh rest
 
-  replaces_one_goes : (k : ℕ) → (k ≡ length front → ⊥) → k < length ids → (b : Bool) → nat_lt k (length front) ≡ b → Due (remove (set ids (length front) fresh) k)
-      → Goes (remove (set ids (length front) fresh) k) (cond b (length front) (suc (length front))) (suc (length rest)) due
+  replaces_one_goes : (k : ℕ) → (k ≡ length prefix → ⊥) → k < length ids → (b : Bool) → nat_lt k (length prefix) ≡ b → Due (remove (set ids (length prefix) fresh) k)
+      → Goes (remove (set ids (length prefix) fresh) k) (cond b (length prefix) (suc (length prefix))) (suc (length rest)) due
   replaces_one_goes k other less true test dues =
-      let below : k < length front = ltb-true k (length front) test in
-      let size : length (remove front k) + 1 ≡ length front = length-remove_one front k below in
-      let whole : remove (set ids (length front) fresh) k ≡ remove front k ++ fresh ∷ rest = ap (λ z. remove z k) replaced_ids ∙ remove_before front (fresh ∷ rest) k below in
-      goes (remove (set ids (length front) fresh) k) (remove front k ++ fresh ∷ []) (length front) (whole ∙ with_last (remove front k) fresh rest) (length_with_last (remove front k) fresh ∙ omega (arith, size))
-      (λ there. gone (remove front k) rest (times-remove id.index front k) (omega arith) (subst (λ z. Contains z id.index) whole there)) dues
+      let below : k < length prefix = ltb-true k (length prefix) test in
+      let size : length (remove prefix k) + 1 ≡ length prefix = length-remove_one prefix k below in
+      let whole : remove (set ids (length prefix) fresh) k ≡ remove prefix k ++ fresh ∷ rest = ap (λ z. remove z k) replaced_ids ∙ remove_before prefix (fresh ∷ rest) k below in
+      goes (remove (set ids (length prefix) fresh) k) (remove prefix k ++ fresh ∷ []) (length prefix) (whole ∙ with_last (remove prefix k) fresh rest) (length_with_last (remove prefix k) fresh ∙ omega (arith, size))
+      (λ there. gone (remove prefix k) rest (times-remove id.index prefix k) (omega arith) (subst (λ z. Contains z id.index) whole there)) dues
   replaces_one_goes k other less false test dues =
       let p = after_it k other less test in
-      let whole : remove (set ids (length front) fresh) k ≡ front ++ fresh ∷ remove rest p.beyond =
-      ap (λ z. remove z k) replaced_ids ∙ ap (remove (front ++ fresh ∷ rest)) p.is ∙ remove_after front (fresh ∷ rest) (suc p.beyond) in
-      goes_with (remove (set ids (length front) fresh) k) rest p.beyond refl whole p.within dues
+      let whole : remove (set ids (length prefix) fresh) k ≡ prefix ++ fresh ∷ remove rest p.beyond =
+      ap (λ z. remove z k) replaced_ids ∙ ap (remove (prefix ++ fresh ∷ rest)) p.is ∙ remove_after prefix (fresh ∷ rest) (suc p.beyond) in
+      goes_with (remove (set ids (length prefix) fresh) k) rest p.beyond refl whole p.within dues
 
   nat_lt_self : (n : ℕ) → nat_lt n n ≡ false
   nat_lt_self n = go (nat_lt n n) refl
@@ -323,38 +325,39 @@ module _ (front : List ℕ) (id : OpId) (rest : List ℕ) (distinct : AreDistinc
       go true one false two = absurd (other (omega (arith, ltb-true k (suc n) one, ltb-false k n two)))
       go false one true two = absurd (omega (arith, ltb-false k (suc n) one, ltb-true k n two))
 
-  by_form : (es : List Edit) → Form (length ids) (length front) es → Due (ids_edited_by fresh es ids) → Goes (ids_edited_by fresh es ids) (moved_by es (length front)) (suc (length rest)) due
+  by_form : (es : List Edit) → Form (length ids) (length prefix) es → Due (ids_edited_by fresh es ids) → Goes (ids_edited_by fresh es ids) (moved_by es (length prefix)) (suc (length rest)) due
   by_form es (changes o is) dues =
-      subst (λ z. Goes (ids_edited_by fresh z ids) (moved_by z (length front)) (suc (length rest)) due) (sym is)
-      (stays ids front rest (length front) refl refl (omega arith) (subst (λ z. Due (ids_edited_by fresh z ids)) is dues))
+      subst (λ z. Goes (ids_edited_by fresh z ids) (moved_by z (length prefix)) (suc (length rest)) due) (sym is)
+      (stays ids prefix rest (length prefix) refl refl (omega arith) (subst (λ z. Due (ids_edited_by fresh z ids)) is dues))
   by_form es (replaces o is) dues =
       let d = subst (λ z. Due (ids_edited_by fresh z ids)) is dues in
-      subst (λ z. Goes (ids_edited_by fresh z ids) (moved_by z (length front)) (suc (length rest)) due) (sym is)
-      (subst (λ b. Goes (set ids (length front) fresh) (cond b (suc (length front)) (length front)) (suc (length rest)) due) (sym (nat_eq_self (length front)))
-      (goes (set ids (length front) fresh) (front ++ fresh ∷ []) (suc (length front)) (replaced_ids ∙ with_last front fresh rest) (length_with_last front fresh)
-      (λ there. gone front rest (omega arith) (omega arith) (subst (λ z. Contains z id.index) replaced_ids there)) d))
+      subst (λ z. Goes (ids_edited_by fresh z ids) (moved_by z (length prefix)) (suc (length rest)) due) (sym is)
+      (subst (λ b. Goes (set ids (length prefix) fresh) (cond b (suc (length prefix)) (length prefix)) (suc (length rest)) due) (sym (nat_eq_self (length prefix)))
+      (goes (set ids (length prefix) fresh) (prefix ++ fresh ∷ []) (suc (length prefix)) (replaced_ids ∙ with_last prefix fresh rest) (length_with_last prefix fresh)
+      (λ there. gone prefix rest (omega arith) (omega arith) (subst (λ z. Contains z id.index) replaced_ids there)) d))
   by_form es (erases x is) dues =
       let d = subst (λ z. Due (ids_edited_by fresh z ids)) is dues in
-      subst (λ z. Goes (ids_edited_by fresh z ids) (moved_by z (length front)) (suc (length rest)) due) (sym is)
-      (subst (λ b. Goes (remove ids (length front)) (cond b (length front - 1) (length front)) (suc (length rest)) due) (sym (nat_lt_self (length front)))
-      (goes (remove ids (length front)) front (length front) (remove_here front id.index rest) refl (λ there. gone_whole (subst (λ z. Contains z id.index) (remove_here front id.index rest) there)) d))
+      subst (λ z. Goes (ids_edited_by fresh z ids) (moved_by z (length prefix)) (suc (length rest)) due) (sym is)
+      (subst (λ b. Goes (remove ids (length prefix)) (cond b (length prefix - 1) (length prefix)) (suc (length rest)) due) (sym (nat_lt_self (length prefix)))
+      (goes (remove ids (length prefix)) prefix (length prefix) (remove_here prefix id.index rest) refl (λ there. gone_whole (subst (λ z. Contains z id.index) (remove_here prefix id.index rest) there)) d))
   by_form es (changes_one o k x is other less) dues =
-      subst (λ z. Goes (ids_edited_by fresh z ids) (moved_by z (length front)) (suc (length rest)) due) (sym is)
-      (changes_one_goes o k x other less (nat_lt k (length front)) refl (subst (λ z. Due (ids_edited_by fresh z ids)) is dues))
+      subst (λ z. Goes (ids_edited_by fresh z ids) (moved_by z (length prefix)) (suc (length rest)) due) (sym is)
+      (changes_one_goes o k x other less (nat_lt k (length prefix)) refl (subst (λ z. Due (ids_edited_by fresh z ids)) is dues))
   by_form es (replaces_one o k x is other less) dues =
       let d = subst (λ z. Due (ids_edited_by fresh z ids)) is dues in
-      subst (λ z. Goes (ids_edited_by fresh z ids) (moved_by z (length front)) (suc (length rest)) due) (sym is)
-      (subst (λ b. Goes (remove (set ids (length front) fresh) k) (cond (nat_lt k (cond b (suc (length front)) (length front))) (cond b (suc (length front)) (length front) - 1) (cond b (suc (length front)) (length front))) (suc (length rest)) due)
-      (sym (nat_eq_self (length front)))
-      (let down : length front ≡ suc (length front) - 1 = omega arith in
-      subst (λ n. Goes (remove (set ids (length front) fresh) k) (cond (nat_lt k (suc (length front))) n (suc (length front))) (suc (length rest)) due) down
-      (subst (λ b. Goes (remove (set ids (length front) fresh) k) (cond b (length front) (suc (length front))) (suc (length rest)) due) (sym (lt_suc k (length front) other))
-      (replaces_one_goes k other less (nat_lt k (length front)) refl d))))
+      subst (λ z. Goes (ids_edited_by fresh z ids) (moved_by z (length prefix)) (suc (length rest)) due) (sym is)
+      (subst (λ b. Goes (remove (set ids (length prefix) fresh) k) (cond (nat_lt k (cond b (suc (length prefix)) (length prefix))) (cond b (suc (length prefix)) (length prefix) - 1)
+      (cond b (suc (length prefix)) (length prefix))) (suc (length rest)) due)
+      (sym (nat_eq_self (length prefix)))
+      (let down : length prefix ≡ suc (length prefix) - 1 = omega arith in
+      subst (λ n. Goes (remove (set ids (length prefix) fresh) k) (cond (nat_lt k (suc (length prefix))) n (suc (length prefix))) (suc (length rest)) due) down
+      (subst (λ b. Goes (remove (set ids (length prefix) fresh) k) (cond b (length prefix) (suc (length prefix))) (suc (length rest)) due) (sym (lt_suc k (length prefix) other))
+      (replaces_one_goes k other less (nat_lt k (length prefix)) refl d))))
   by_form es (puts_one o p is) dues =
       let d = subst (λ z. Due (ids_edited_by fresh z ids)) is dues in
-      subst (λ z. Goes (ids_edited_by fresh z ids) (moved_by z (length front)) (suc (length rest)) due) (sym is)
-      (subst (λ b. Goes (insert ids (length front) fresh) (cond b (length front) (suc (length front))) (suc (length rest)) due) (sym (nat_lt_self (length front)))
-      (stays (insert ids (length front) fresh) (front ++ fresh ∷ []) rest (suc (length front)) (insert_here front fresh (id.index ∷ rest) ∙ with_last front fresh (id.index ∷ rest)) (length_with_last front fresh) (omega arith) d))
+      subst (λ z. Goes (ids_edited_by fresh z ids) (moved_by z (length prefix)) (suc (length rest)) due) (sym is)
+      (subst (λ b. Goes (insert ids (length prefix) fresh) (cond b (length prefix) (suc (length prefix))) (suc (length rest)) due) (sym (nat_lt_self (length prefix)))
+      (stays (insert ids (length prefix) fresh) (prefix ++ fresh ∷ []) rest (suc (length prefix)) (insert_here prefix fresh (id.index ∷ rest) ∙ with_last prefix fresh (id.index ∷ rest)) (length_with_last prefix fresh) (omega arith) d))
 
-  pub goes_on : (es : List Edit) → IsRowEdit (length ids) (length front) es → Due (ids_edited_by fresh es ids) → Goes (ids_edited_by fresh es ids) (moved_by es (length front)) (suc (length rest)) due
-  goes_on es form dues = by_form es (form_of (length ids) (length front) es form) dues
+  pub goes_on : (es : List Edit) → IsPatternEdit (length ids) (length prefix) es → Due (ids_edited_by fresh es ids) → Goes (ids_edited_by fresh es ids) (moved_by es (length prefix)) (suc (length rest)) due
+  goes_on es form dues = by_form es (form_of (length ids) (length prefix) es form) dues

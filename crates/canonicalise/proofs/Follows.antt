@@ -1,15 +1,14 @@
 -- What designs keep to whose operations single folds lead.
-use Rattle.std.proofs.Common.{◌≡◌, ℕ, List, Some, slice_get, sym, ap, subst, ◌∙◌, inl, inr, arith}
-use Rattle.wiring.specs.Options.{omap}
+use Rattle.std.proofs.Common.{◌≡◌, ℕ, List, Some, slice_get, sym, ap, subst, ◌∙◌, inl, inr, arith, option_map}
 use Rattle.hw_model.specs.Design.{Op, Module, Design}
-use Rattle.hw_edits.specs.Laws.{with_body}
-use Rattle.accepted_edits.specs.Keeps.{IsFit}
+use Rattle.edit_laws.specs.Laws.{with_body}
+use Rattle.acceptance_laws.specs.Keeps.{IsFit}
 use Rattle.pass_laws.proofs.Steps.{Keeps, steps_keep}
 use Rattle.fold_laws.specs.Edits.{Edit, edited_by}
 use Rattle.fold_laws.specs.Fold.{IsSmaller, IsFold}
-use Rattle.fold_laws.specs.Table.{rows}
-use Rattle.fold_laws.proofs.AllRows.{all_rows_fold}
-use Rattle.fold_laws.proofs.Table.{first_row_folds}
+use Rattle.fold_laws.specs.Table.{patterns}
+use Rattle.fold_laws.proofs.AllPatterns.{all_patterns_fold}
+use Rattle.fold_laws.proofs.Table.{first_pattern_folds}
 use Rattle.ir_store.specs.declared.body.Body.{Body}
 use Rattle.body_edits.specs.FitBodies.{IsOfFit}
 use Rattle.body_edits.specs.Views.{body_ops}
@@ -19,7 +18,7 @@ use Rattle.canonicalise.specs.Canonical.{table, IsFoldOf, Leads}
 -- one fold of the operations of a module of a fit design
 pub folds_once : (d : Design) (k : ℕ) (m : Module) (os : List Op) → IsFit d → slice_get d k ≡ Some m → IsFoldOf table m.body os → IsFold d k m os
 folds_once d k m os fit at (i, es, matches, is) =
-    first_row_folds rows all_rows_fold d k m i os fit at (ap (omap (λ (z : List Edit). edited_by z m.body)) matches ∙ ap Some (sym is))
+    first_pattern_folds patterns all_patterns_fold d k m i os fit at (ap (option_map (λ (z : List Edit). edited_by z m.body)) matches ∙ ap Some (sym is))
 
 fold_keeps : (d : Design) (k : ℕ) (m : Module) (os : List Op) → IsFit d → slice_get d k ≡ Some m → IsFoldOf table m.body os → Keeps d (with_body d k m os)
 fold_keeps d k m os fit at fold = let once : IsFold d k m os = folds_once d k m os fit at fold in record { steady = once.steady; lighter = once.lighter }

@@ -1,4 +1,4 @@
--- What the edits of a row keep of a body: the other operations, with their ids.
+-- What the edits of a pattern keep of a body: the other operations, with their ids.
 use Rattle.std.proofs.Common.{◌≡◌, ◌⊎◌, ℕ, zero, suc, ◌+◌, ◌≤◌, ◌<◌, Bool, true, false, nat_eq, List, [], ◌∷◌, length, map, set, remove, Some, None, slice_get, refl, sym, ap, subst, ◌∙◌, inl, inr, arith, eq-eqb, ne_eqb}
 use Rattle.std.proofs.lemmas.Bool.{eqb-true, eqb-false}
 use Rattle.std.proofs.lemmas.Option.{slice_get_within}
@@ -7,18 +7,18 @@ use Rattle.wiring.proofs.Lists.{slice_get-set_same, slice_get-set_other}
 use Rattle.bits_core.specs.Word.{bit}
 use Rattle.hw_model.specs.Design.{Ref, Op}
 use Rattle.hw_model.specs.Design.Ref.{port, result, undefined}
-use Rattle.hw_edits.specs.Edit.{retarget}
-use Rattle.hw_edits.specs.Laws.{up, down, up_ref, without, erase_op, insert_op}
-use Rattle.hw_edits.proofs.Positions.{down-up, get_put, get_taken, down_same}
+use Rattle.edit_laws.specs.Edit.{retarget}
+use Rattle.edit_laws.specs.Laws.{up, down, up_ref, without, erase_op, insert_op}
+use Rattle.edit_laws.proofs.Positions.{down-up, get_put, get_taken, down_same}
 use Rattle.fold_laws.specs.Edits.{Edit, edited_by}
 use Rattle.fold_laws.specs.Edits.Edit.{changed, replaced, erased, put_in}
 use Rattle.fold_laws.specs.Nested.{uses_among, use_count}
 use Rattle.fold_laws.specs.Unused.{is_result_of}
 use Rattle.fold_laws.proofs.PutIn.{next_op}
-use Rattle.fold_reach.specs.Kept.{Keeps}
-use Rattle.fold_reach.proofs.Edits.{keeps_set, pulled, pulled_is, keeps_erase, keeps_put, keeps_then, keeps_more}
-use Rattle.fold_reach.proofs.RowEdits.{IsTaken, TakesIn, IsShown}
-use Rattle.body_edits.specs.Folded.{ids_edited_by, IsRowEdit}
+use Rattle.canonicalise.specs.Kept.{Keeps}
+use Rattle.canonicalise.proofs.Edits.{keeps_set, pulled, pulled_is, keeps_erase, keeps_put, keeps_then, keeps_more}
+use Rattle.canonicalise.proofs.PatternEdits.{IsTaken, TakesIn, IsShown}
+use Rattle.body_edits.specs.Folded.{ids_edited_by, IsPatternEdit}
 
 -- ids before and after edits, where new operations have a fresh one
 pub record IsFreshOf (fresh : ℕ) (n : ℕ) (ids : List ℕ) : Type 0 where
@@ -229,10 +229,10 @@ module _ (os : List Op) (i : ℕ) (old : Op) (there : slice_get os i ≡ Some ol
 
   -- ---- all forms
 
-  pub row_keeps : (es : List Edit) → IsRowEdit (length os) i es → IsShown os i es → IsKept os i old es
-  row_keeps es form shown = go es form shown.takes
+  pub pattern_keeps : (es : List Edit) → IsPatternEdit (length os) i es → IsShown os i es → IsKept os i old es
+  pattern_keeps es form shown = go es form shown.takes
     where
-      go : (es : List Edit) → IsRowEdit (length os) i es → TakesIn os i es → IsKept os i old es
+      go : (es : List Edit) → IsPatternEdit (length os) i es → TakesIn os i es → IsKept os i old es
       go (changed j o ∷ []) same taken = subst (λ m. IsKept os i old (changed m o ∷ [])) (sym same) (kept_changed o)
       go (replaced j o ∷ []) same taken = subst (λ m. IsKept os i old (replaced m o ∷ [])) (sym same) (kept_replaced o)
       go (erased j x ∷ []) same taken = subst (λ m. IsKept os i old (erased m x ∷ [])) (sym same) (kept_erased x)

@@ -9,3 +9,12 @@ pub mod Reached
 pub mod Sweeping
 pub mod Tried
 pub mod Visiting
+pub mod Alike
+pub mod AllPatterns
+pub mod AllShown
+pub mod Counts
+pub mod Edits
+pub mod OtherPatterns
+pub mod PatternEdits
+pub mod Sees
+pub mod StandPatterns

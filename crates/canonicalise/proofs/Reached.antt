@@ -1,15 +1,14 @@
--- After a fold no row matches at an operation at which none did, if it used no result of the folded one, and was not left unused
+-- After a fold no pattern matches at an operation at which none did, if it used no result of the folded one, and was not left unused
 -- or with the only use of a value by it.
-use Rattle.std.proofs.Common.{◌≡◌, ◌⊎◌, ℕ, zero, suc, ◌+◌, ◌≤◌, Bool, true, false, cond, nat_eq, List, [], ◌∷◌, length, map, Some, None, slice_get, refl, sym, ap, subst, ◌∙◌, inl, inr, arith}
+use Rattle.std.proofs.Common.{◌≡◌, ◌⊎◌, ℕ, zero, suc, ◌+◌, ◌≤◌, Bool, true, false, cond, nat_eq, List, [], ◌∷◌, length, map, Some, None, slice_get, refl, sym, ap, subst, ◌∙◌, inl, inr, arith, option_map}
 use Rattle.std.specs.Prelude.{All, Contains}
 use Rattle.std.proofs.lemmas.List.Elements.{All-head, All-tail}
-use Rattle.wiring.specs.Options.{omap}
 use Rattle.wiring.specs.Wiring.{In}
 use Rattle.wiring.proofs.Members.{In-map, In-slice_get, All-member}
 use Rattle.linked_lists.specs.Ids.{times}
 use Rattle.hw_model.specs.Design.{Op}
 use Rattle.hw_model.specs.Design.Ref.{result}
-use Rattle.hw_edits.specs.Edit.{retarget}
+use Rattle.edit_laws.specs.Edit.{retarget}
 use Rattle.ir_store.specs.declared.body.Body.{Body}
 use Rattle.ir_store.specs.declared.operation.OpId.{OpId}
 use Rattle.ir_store.specs.declared.operation.Value.TheVariants.{Result}
@@ -21,18 +20,18 @@ use Rattle.ir_store.specs.Uses.{uses_in}
 use Rattle.ir_store.proofs.BodyLemmas.{ids_once}
 use Rattle.fold_laws.specs.Edits.{edited_by}
 use Rattle.fold_laws.specs.Nested.{uses_among, use_count}
-use Rattle.fold_laws.specs.Table.{rows}
+use Rattle.fold_laws.specs.Table.{patterns}
 use Rattle.fold_laws.specs.Unused.{is_used}
 use Rattle.fold_laws.proofs.MadeKinds.{is_made}
 use Rattle.fold_laws.proofs.NestedUses.{uses_of_two}
-use Rattle.fold_reach.specs.Reach.{SeesNoMore}
-use Rattle.fold_reach.proofs.AllRows.{first_quiet, all_rows_quiet}
-use Rattle.fold_reach.proofs.AllShown.{table_shown}
-use Rattle.fold_reach.proofs.Counts.{used_among, among_used, used_by_one, unused_count}
-use Rattle.fold_reach.proofs.RowEdits.{IsShown}
-use Rattle.fold_reach.proofs.Sees.{sees_no_more}
+use Rattle.canonicalise.specs.Reach.{SeesNoMore}
+use Rattle.canonicalise.proofs.AllPatterns.{first_quiet, all_patterns_quiet}
+use Rattle.canonicalise.proofs.AllShown.{table_shown}
+use Rattle.canonicalise.proofs.Counts.{used_among, among_used, used_by_one, unused_count}
+use Rattle.canonicalise.proofs.PatternEdits.{IsShown}
+use Rattle.canonicalise.proofs.Sees.{sees_no_more}
 use Rattle.body_edits.specs.FitBodies.{IsOfFit}
-use Rattle.body_edits.specs.Folded.{IsRowEdit, IsFolded}
+use Rattle.body_edits.specs.Folded.{IsPatternEdit, IsFolded}
 use Rattle.body_edits.specs.Replaceable.{HaveNoFurther}
 use Rattle.body_edits.specs.Views.{HasOp, body_ops, position_in}
 use Rattle.body_edits.proofs.FitOps.{fit_live, fit_no_further}
@@ -40,7 +39,7 @@ use Rattle.body_edits.proofs.OperandEditing.{op_there, operands_seen}
 use Rattle.canonicalise.specs.Canonical.{table}
 use Rattle.canonicalise.specs.Settled.{IsUser, IsApart}
 use Rattle.canonicalise.proofs.IdUses.{at_position, contains_at, one_place, position_found, same_id, IsResultOf, result_among, operand_used, few_uses, times_few}
-use Rattle.canonicalise.proofs.KeptOps.{IsFreshOf, IsGone, IsKept, row_keeps}
+use Rattle.canonicalise.proofs.KeptOps.{IsFreshOf, IsGone, IsKept, pattern_keeps}
 use Rattle.canonicalise.proofs.Visiting.{length-body_ops, position_is}
 
 -- ---- operands of operations that are there
@@ -91,8 +90,8 @@ module _ (before after : Body) (op : OpId) (fit : IsOfFit before) (fit_then : Is
   shown = table_shown os (position_in before op) folded.edits folded.matches
 
   kept : IsKept os (position_in before op) old folded.edits
-  kept = row_keeps os (position_in before op) old old_there folded.edits
-      (subst (λ n. IsRowEdit n (position_in before op) folded.edits) (sym (length-body_ops before)) folded.form) shown
+  kept = pattern_keeps os (position_in before op) old old_there folded.edits
+      (subst (λ n. IsPatternEdit n (position_in before op) folded.edits) (sym (length-body_ops before)) folded.form) shown
 
   fresh : IsFreshOf folded.fresh (length os) (ids_of before)
   fresh = record { size = sym (length-body_ops before); unused = λ j at. folded.is_fresh (contains_at (ids_of before) j folded.fresh at) }
@@ -211,7 +210,7 @@ module _ (before after : Body) (op : OpId) (fit : IsOfFit before) (fit_then : Is
     same_operands : map kept.name user.operands ≡ map (ref_by (position_of (ids_of after))) own_then.0.operands
     same_operands =
         let one : slice_get os' (kept.place p) ≡ Some (retarget kept.name user) =
-        ap (λ z. slice_get z (kept.place p)) folded.ops ∙ kept.keeps.ops p stays ∙ ap (omap (retarget kept.name)) user_there in
+        ap (λ z. slice_get z (kept.place p)) folded.ops ∙ kept.keeps.ops p stays ∙ ap (option_map (retarget kept.name)) user_there in
         let two : slice_get os' (kept.place p) ≡ Some (op_by (position_of (ids_of after)) own_then.0) = ap (slice_get os') (sym place_is) ∙ seen_at after u own_then.0 own_then.1 in
         let both : Some (retarget kept.name user) ≡ Some (op_by (position_of (ids_of after)) own_then.0) = sym one ∙ two in
         let same : retarget kept.name user ≡ op_by (position_of (ids_of after)) own_then.0 = cc in
@@ -248,4 +247,4 @@ module _ (before after : Body) (op : OpId) (fit : IsOfFit before) (fit_then : Is
         (λ none. unused (ap (use_count (kept.place p)) folded.ops ∙ none)) (λ j used one. single j used (ap (use_count (kept.place j)) folded.ops ∙ one)))
 
     pub stays_settled : Contains (ids_of after) u × (table os' (position_of (ids_of after) u) ≡ None)
-    stays_settled = (still, ap (table os') place_is ∙ first_quiet rows all_rows_quiet os p os' (kept.place p) sees quiet)
+    stays_settled = (still, ap (table os') place_is ∙ first_quiet patterns all_patterns_quiet os p os' (kept.place p) sees quiet)

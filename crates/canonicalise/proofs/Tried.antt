@@ -19,7 +19,7 @@ use Rattle.canonicalise.proofs.Reached.{own, stays_settled}
 use Rattle.canonicalise.proofs.Sweeping.{leads_self, leads_more}
 use Rattle.canonicalise.proofs.Visiting.{same_ops, position_is}
 
--- no row matches at a settled operation
+-- no pattern matches at a settled operation
 pub settled_none : (b : Body) (m : Marks) (op : OpId) → AreSettled m b → IsSettled m op.index → table (body_ops b) (position_in b op) ≡ None
 settled_none b m op settled is = ap (table (body_ops b)) (position_is b op) ∙ (settled op.index is).1
 

@@ -2,3 +2,5 @@ pub mod Canonical
 pub mod Dues
 pub mod Settled
 pub mod Sweeps
+pub mod Kept
+pub mod Reach

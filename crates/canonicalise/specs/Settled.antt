@@ -1,4 +1,4 @@
--- The worklist of a body: rows are tried at each operation but those that are settled (MLIR documentation, "Pattern Rewriting").
+-- The worklist of a body: patterns are tried at each operation but those that are settled (MLIR documentation, "Pattern Rewriting").
 use Rattle.std.specs.Prelude.{◌≡◌, ℕ, ◌≤◌, true, List, length, Some, None, Contains, slice_get}
 use Rattle.ir_store.specs.declared.body.Body.{Body}
 use Rattle.ir_store.specs.declared.operation.OpId.{OpId}
@@ -17,7 +17,7 @@ use Rattle.canonicalise.specs.declared.marks.Marks.{Marks}
 abbrev pub IsSettled : Marks → ℕ → Type 0
 IsSettled m id = slice_get m.settled.items id ≡ Some true
 
--- each settled operation is there, and no row of the table matches at it
+-- each settled operation is there, and no pattern of the table matches at it
 abbrev pub AreSettled : Marks → Body → Type 0
 AreSettled m b = (id : ℕ) → IsSettled m id → Contains (ids_of b) id × (table (body_ops b) (position_of (ids_of b) id) ≡ None)
 

@@ -1,8 +1,8 @@
--- Sweeps over the operations of a body, at which rows of the table of folds are tried (MLIR documentation, "Operation
+-- Sweeps over the operations of a body, at which patterns of the table of folds are tried (MLIR documentation, "Operation
 -- canonicalization").
 use Rattle.std.specs.Prelude.{◌≡◌, ◌≤◌, ℕ, zero, suc, ◌-◌, Bool, true, false, cond, nat_eq, nat_lt, List, [], ◌∷◌, length, Option, Some, None}
 use Rattle.hw_model.specs.Design.{Op}
-use Rattle.fold_laws.specs.Edits.{Edit, Row, edited_by}
+use Rattle.fold_laws.specs.Edits.{Edit, FoldPattern, edited_by}
 use Rattle.fold_laws.specs.Edits.Edit.{changed, replaced, erased, put_in}
 
 -- the position at which a sweep goes on after an edit: that of the operation that was visited, or of the next one where it
@@ -28,33 +28,33 @@ pub record Sweep : Type 0 where
 abbrev pub sweep_of : List Op → Sweep
 sweep_of os = record { ops = os; position = 0; changed = false }
 
--- a sweep after the edits of the row that matches, or at the next operation where none does
+-- a sweep after the edits of the pattern that matches, or at the next operation where none does
 abbrev pub with_edits : Sweep → Option (List Edit) → Sweep
 with_edits s None = record { ops = s.ops; position = suc s.position; changed = s.changed }
 with_edits s (Some es) = record { ops = edited_by es s.ops; position = moved_by es s.position; changed = true }
 
 -- a sweep after one more visit; after the last operation nothing is left to visit
-abbrev pub visit : Row → Sweep → Sweep
-visit row s = cond (nat_lt s.position (length s.ops)) (with_edits s (row s.ops s.position)) s
+abbrev pub visit : FoldPattern → Sweep → Sweep
+visit pattern s = cond (nat_lt s.position (length s.ops)) (with_edits s (pattern s.ops s.position)) s
 
 -- after so many
-abbrev pub visits : Row → ℕ → Sweep → Sweep
-visits row zero s = s
-visits row (suc n) s = visit row (visits row n s)
+abbrev pub visits : FoldPattern → ℕ → Sweep → Sweep
+visits pattern zero s = s
+visits pattern (suc n) s = visit pattern (visits pattern n s)
 
 -- a whole sweep over operations makes these of them, and changes something or not
-pub record IsSwept (row : Row) (before : List Op) (any : Bool) (after : List Op) : Type 0 where
+pub record IsSwept (pattern : FoldPattern) (before : List Op) (any : Bool) (after : List Op) : Type 0 where
   pub count : ℕ
   pub position : ℕ
-  pub is : visits row count (sweep_of before) ≡ record { ops = after; position = position; changed = any }
+  pub is : visits pattern count (sweep_of before) ≡ record { ops = after; position = position; changed = any }
   pub ended : length after ≤ position
 
 -- sweeps, so many that change something, and the last one that does not
-abbrev pub IsSweptBy : Row → ℕ → List Op → List Op → Type 0
-IsSweptBy row zero before after = IsSwept row before false after
-IsSweptBy row (suc n) before after = (between : List Op) × IsSwept row before true between × IsSweptBy row n between after
+abbrev pub IsSweptBy : FoldPattern → ℕ → List Op → List Op → Type 0
+IsSweptBy pattern zero before after = IsSwept pattern before false after
+IsSweptBy pattern (suc n) before after = (between : List Op) × IsSwept pattern before true between × IsSweptBy pattern n between after
 
 -- what sweeps make of operations in the end
-pub record IsSweptOut (row : Row) (before after : List Op) : Type 0 where
+pub record IsSweptOut (pattern : FoldPattern) (before after : List Op) : Type 0 where
   pub sweeps : ℕ
-  pub swept : IsSweptBy row sweeps before after
+  pub swept : IsSweptBy pattern sweeps before after

@@ -15,7 +15,7 @@ use ir_store::body::Body;
 use ir_store::operation::OpId;
 use std::alloc::{AllocError, Global};
 
-/// Brings a body into its canonical form: sweeps over its operations in text order, at each of which the first row of the
+/// Brings a body into its canonical form: sweeps over its operations in text order, at each of which the first pattern of the
 /// table of folds that matches changes the body, until none matches or the operation is gone; the last sweep changes
 /// nothing. On an error, which comes where memory that is needed is refused, some of the folds are made (MLIR
 /// documentation, "Operation canonicalization").
@@ -29,7 +29,7 @@ pub fn canonicalize(alloc: Global, body: &mut Body) -> Result<(), AllocError>
     Ok(())
 }
 
-/// A sweep over a body, in which rows are tried at the operations that are not settled, and whether it changed something.
+/// A sweep over a body, in which patterns are tried at the operations that are not settled, and whether it changed something.
 fn sweep(alloc: Global, body: &mut Body, marks: &mut Marks) -> Result<bool, AllocError>
     requires fit { IsOfFit body.old }
     requires marks { AreSettled marks.old body.old }

@@ -4,8 +4,8 @@ ghost use Rattle.std.specs.Prelude.{◌≡◌, ◌≤◌, ℕ, List, Some, slice
 ghost use Rattle.hw_model.specs.Types.{Name};
 ghost use Rattle.hw_model.specs.Design.{Op, Module, Design};
 ghost use Rattle.hw_model.specs.Weight.{weight};
-ghost use Rattle.hw_edits.specs.Laws.{with_body};
-ghost use Rattle.accepted_edits.specs.Keeps.{IsFit};
+ghost use Rattle.edit_laws.specs.Laws.{with_body};
+ghost use Rattle.acceptance_laws.specs.Keeps.{IsFit};
 ghost use Rattle.pass_laws.specs.Steady.{IsSteady};
 ghost use Rattle.canonicalise.specs.Canonical.{table, IsCanonicalOf, HasNoFold, Leads};
 
@@ -14,7 +14,7 @@ pub fn canonical_bodies_once()
     ensures { (os a b : List Op) → IsCanonicalOf os a → IsCanonicalOf os b → a ≡ b }
 {}
 
-/// Does nothing. Its clauses say that single folds lead to a canonical form, and that no row matches there.
+/// Does nothing. Its clauses say that single folds lead to a canonical form, and that no pattern matches there.
 pub fn canonical_bodies_are_folded()
     ensures leads { (os os' : List Op) → IsCanonicalOf os os' → Leads table os os' }
     ensures folded { (os os' : List Op) → IsCanonicalOf os os' → HasNoFold os' }

@@ -1,4 +1,4 @@
-//! The worklist of a body: the operations at which rows are to be tried.
+//! The worklist of a body: the operations at which patterns are to be tried.
 ghost use Rattle.std.specs.Prelude.{◌≡◌, ◌⊎◌, ◌↔◌, ℕ, Some, IsTrue, Contains, OnOk, slice_get};
 ghost use Rattle.ir_store.specs.Bodies.{ids_of, ops_of};
 ghost use Rattle.ir_store.specs.declared.operation.OpId.{OpId};
@@ -9,14 +9,14 @@ use ir_store::body::Body;
 use ir_store::operation::{OpId, Value};
 use std::alloc::{AllocError, Global};
 
-/// Which operations of a body are settled, by their ids: no row need be tried at them. At all others rows are to be tried.
+/// Which operations of a body are settled, by their ids: no pattern need be tried at them. At all others patterns are to be tried.
 #[derive(Drop)]
 pub(crate) struct Marks {
     settled: Vec<bool>,
 }
 
 impl Marks {
-    /// Rows are to be tried at all operations. It takes no memory.
+    /// Patterns are to be tried at all operations. It takes no memory.
     pub(crate) fn new(alloc: Global) -> Marks
         ensures { (id : ℕ) → IsSettled result id → ⊥ }
     {
@@ -47,7 +47,7 @@ impl Marks {
         Ok(())
     }
 
-    /// Rows are to be tried at an operation.
+    /// Patterns are to be tried at an operation.
     pub(crate) fn mark(&mut self, op: OpId)
         ensures { (id : ℕ) → IsSettled self.new id → IsSettled self.old id × (id ≡ op.index → ⊥) }
     {
@@ -57,7 +57,7 @@ impl Marks {
         }
     }
 
-    /// Rows are to be tried at the operations that use a value. Linear in the chain of the value's head.
+    /// Patterns are to be tried at the operations that use a value. Linear in the chain of the value's head.
     pub(crate) fn mark_users(&mut self, body: &Body, value: Value)
         ensures { (id : ℕ) → IsSettled self.new id → IsSettled self.old id × (IsUser value (ops_of body.now) id → ⊥) }
     {
@@ -66,7 +66,7 @@ impl Marks {
         }
     }
 
-    /// Rows are to be tried where an edit took uses of values: at the operations that made them, where they are gone or
+    /// Patterns are to be tried where an edit took uses of values: at the operations that made them, where they are gone or
     /// have no use left, and at those that have the only use left. Linear in the values.
     pub(crate) fn mark_makers(&mut self, body: &Body, values: &[Value])
         ensures { (id : ℕ) → IsSettled self.new id → IsSettled self.old id × ((k : ℕ) (op : OpId) (n : ℕ) → slice_get values.now k ≡ Some (Result op n) → IsApart body.now op id) }
@@ -78,7 +78,7 @@ impl Marks {
         }
     }
 
-    /// Rows are to be tried at an operation, where it is gone or its first result has no use, or else at the one that has the
+    /// Patterns are to be tried at an operation, where it is gone or its first result has no use, or else at the one that has the
     /// only use.
     fn mark_maker(&mut self, body: &Body, op: OpId)
         ensures { (id : ℕ) → IsSettled self.new id → IsSettled self.old id × IsApart body.now op id }

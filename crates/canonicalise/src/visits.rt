@@ -1,4 +1,4 @@
-//! Visits of operations of a body, at which rows of the table of folds are tried.
+//! Visits of operations of a body, at which patterns of the table of folds are tried.
 ghost use Rattle.std.specs.Prelude.{◌≡◌, IfOk, OnOk, OnErr};
 ghost use Rattle.ir_store.specs.Bodies.{ops_of};
 ghost use Rattle.body_edits.specs.FitBodies.{IsOfFit};
@@ -14,7 +14,7 @@ use ir_store::operation::{OpId, Value};
 use smallvec::SmallVec;
 use std::alloc::{AllocError, Global};
 
-/// Tries the rows of the table at an operation, unless it is settled, and says whether one has changed the body. Where none
+/// Tries the patterns of the table at an operation, unless it is settled, and says whether one has changed the body. Where none
 /// matches, the operation is settled. On an error, which comes where memory that is needed is refused, the operations stay.
 pub(crate) fn visit(
     alloc: Global,
@@ -39,9 +39,9 @@ pub(crate) fn visit(
     Ok(false)
 }
 
-/// Makes the fold of the first row that matches at an operation, and marks the operations at which another one may match
+/// Makes the fold of the first pattern that matches at an operation, and marks the operations at which another one may match
 /// because of it: those that used its result, those that made its operands and have no use left, and those that have the
-/// only use left of one of these. Linear in its operands and in the uses of its result, beside what the row takes.
+/// only use left of one of these. Linear in its operands and in the uses of its result, beside what the pattern takes.
 fn fold_marked(
     alloc: Global,
     body: &mut Body,

@@ -1,4 +1,4 @@
--- What is known of the rows while their watches are read.
+-- What is known of the stored clauses while their watches are read.
 use Rattle.std.proofs.Common.{◌≡◌, ◌≢◌, ℕ, zero, suc, ◌+◌, ◌-◌, ◌<◌, ◌≤◌, Bool, true, false, ◌||◌, cond, List, [], ◌∷◌, ◌++◌, length, get_or, swap, take, leb, refl, sym, ◌∙◌, ap, subst, inl, inr, arith, Some}
 use Rattle.std.specs.List.{list_any}
 use Rattle.std.proofs.lemmas.List.{get_or-take, get_or_append_left, take-append-le, take_at, take-take, length-take-le, length_push, take_all, get_or_push, get_or_read}
@@ -11,7 +11,7 @@ use Rattle.cdcl_proof.specs.Learning.{falsifies}
 use Rattle.resolution_proof.specs.Replay.{is_number}
 use Rattle.cdcl_proof.specs.Trail.{literals, entry_at, no_entry, Implies}
 use Rattle.cdcl_proof.specs.Propagation.{IsConflict}
-use Rattle.cdcl_proof.specs.Watching.{IsRow, AreRows, AreShort, AreMarks, IsCovered, AreCovered, Propagates, is_satisfied, row_at, literal_at}
+use Rattle.cdcl_proof.specs.Watching.{IsStored, AreStored, AreShort, AreMarks, IsCovered, AreCovered, Propagates, is_satisfied, stored_clause_at, literal_at}
 use Rattle.cdcl_proof.specs.Watcher.{IsProgress}
 use Rattle.resolution_proof.proofs.Sets.{same-refl, all_at, all_from, any_at, any_from}
 use Rattle.cdcl_proof.proofs.Entries.{holds_entry, entry_at-push_new}
@@ -19,13 +19,14 @@ use Rattle.cdcl_proof.proofs.Scanning.{free_from}
 use Rattle.cdcl_proof.proofs.Resolution.{cases_le, holds_take}
 use Rattle.cdcl_proof.proofs.LearntClauses.{two_free}
 use Rattle.cdcl_proof.proofs.Sound.{is_number_at, clause_at-next}
-use Rattle.cdcl_proof.proofs.Rows.{holds_at, place_of, swap_first, swap_other}
+use Rattle.cdcl_proof.proofs.StoredClauses.{holds_at, place_of, swap_first, swap_other}
 
--- two of the first places of a row
+-- two of the first places of a stored clause
 other_place : (place m : ℕ) → place < 2 → m < 2 → m ≢ place → m ≡ 1 - place
 other_place place m p l ne = omega (arith, p, l, ne)
 
-pub all_false : (s permuted : List Literal) (place : ℕ) → place < 2 → ((m : ℕ) → 2 ≤ m → m < length permuted → holds s (negation (literal_at permuted m)) ≡ true) → holds s (negation (literal_at permuted place)) ≡ true → holds s (negation (literal_at permuted (1 - place))) ≡ true → falsifies s permuted ≡ true
+pub all_false : (s permuted : List Literal) (place : ℕ) → place < 2 → ((m : ℕ) → 2 ≤ m → m < length permuted → holds s (negation (literal_at permuted m)) ≡ true)
+    → holds s (negation (literal_at permuted place)) ≡ true → holds s (negation (literal_at permuted (1 - place))) ≡ true → falsifies s permuted ≡ true
 all_false s permuted place low rest one two = all_from (λ l. holds s (negation l)) permuted (λ l h. let p = place_of permuted l h in subst (λ (x : Literal). holds s (negation x) ≡ true) p.2 (at p.0 p.1))
   where
     at : (m : ℕ) → m < length permuted → holds s (negation (literal_at permuted m)) ≡ true
@@ -38,9 +39,16 @@ all_false s permuted place low rest one two = all_from (λ l. holds s (negation 
           ]
         ]
 
-pub all_but_one : (s permuted : List Literal) (place : ℕ) → place < 2 → 2 ≤ length permuted → ((m : ℕ) → 2 ≤ m → m < length permuted → holds s (negation (literal_at permuted m)) ≡ true) → holds s (negation (literal_at permuted place)) ≡ true → holds s (literal_at permuted (1 - place)) ≡ false → holds s (negation (literal_at permuted (1 - place))) ≡ false → (holds permuted (literal_at permuted (1 - place)) ≡ true) × (is_free s (literal_at permuted (1 - place)) ≡ true) × (is_unit s (literal_at permuted (1 - place)) permuted ≡ true)
-all_but_one s permuted place low long rest one none not_false =
-    (holds_at permuted (1 - place) (omega (arith, long)), not_from_false (mentions s (literal_at permuted (1 - place)).variable) (free_from s (literal_at permuted (1 - place)) none not_false), all_from (λ l. same l (literal_at permuted (1 - place)) || holds s (negation l)) permuted (λ l h. let p = place_of permuted l h in subst (λ (x : Literal). (same x (literal_at permuted (1 - place)) || holds s (negation x)) ≡ true) p.2 (at p.0 p.1)))
+pub all_but_one : (s permuted : List Literal) (place : ℕ) → place < 2 → 2 ≤ length permuted → ((m : ℕ) → 2 ≤ m → m < length permuted → holds s (negation (literal_at permuted m)) ≡ true)
+    → holds s (negation (literal_at permuted place)) ≡ true → holds s (literal_at permuted (1 - place)) ≡ false → holds s (negation (literal_at permuted (1 - place))) ≡ false
+    → (holds permuted (literal_at permuted (1 - place)) ≡ true) × (is_free s (literal_at permuted (1 - place)) ≡ true) × (is_unit s (literal_at permuted (1 - place)) permuted ≡ true)
+all_but_one s permuted place low long rest one none not_false = (
+  holds_at permuted (1 - place) (omega (arith, long)),
+  not_from_false (mentions s (literal_at permuted (1 - place)).variable)
+      (free_from s (literal_at permuted (1 - place)) none not_false),
+  all_from (λ l. same l (literal_at permuted (1 - place)) || holds s (negation l)) permuted
+      (λ l h. let p = place_of permuted l h in subst (λ (x : Literal). (same x (literal_at permuted (1 - place)) || holds s (negation x)) ≡ true) p.2 (at p.0 p.1)),
+)
   where
     at : (m : ℕ) → m < length permuted → (same (literal_at permuted m) (literal_at permuted (1 - place)) || holds s (negation (literal_at permuted m))) ≡ true
     at m lm =
@@ -48,16 +56,17 @@ all_but_one s permuted place low long rest one none not_false =
           | inl high ↦ or_right (same (literal_at permuted m) (literal_at permuted (1 - place))) (holds s (negation (literal_at permuted m))) (rest m high lm)
           | inr small ↦ elim (cases_eq m place) as (λ _. (same (literal_at permuted m) (literal_at permuted (1 - place)) || holds s (negation (literal_at permuted m))) ≡ true) [
             | inl e ↦ or_right (same (literal_at permuted m) (literal_at permuted (1 - place))) (holds s (negation (literal_at permuted m))) (subst (λ (x : ℕ). holds s (negation (literal_at permuted x)) ≡ true) (sym e) one)
-            | inr ne ↦ or_left (same (literal_at permuted m) (literal_at permuted (1 - place))) (holds s (negation (literal_at permuted m))) (subst (λ (x : ℕ). same (literal_at permuted x) (literal_at permuted (1 - place)) ≡ true) (sym (other_place place m low small ne)) (same-refl (literal_at permuted (1 - place))))
+            | inr ne ↦ or_left (same (literal_at permuted m) (literal_at permuted (1 - place))) (holds s (negation (literal_at permuted m)))
+                (subst (λ (x : ℕ). same (literal_at permuted x) (literal_at permuted (1 - place)) ≡ true) (sym (other_place place m low small ne)) (same-refl (literal_at permuted (1 - place))))
           ]
         ]
 
--- a row that is satisfied
+-- a stored clause that is satisfied
 pub satisfied_more : (s t permuted : List Literal) → ((l : Literal) → holds s l ≡ true → holds t l ≡ true) → is_satisfied s permuted ≡ true → is_satisfied t permuted ≡ true
 satisfied_more s t permuted more h = let l = any_at (holds s) permuted h in any_from (holds t) permuted l.0 l.1 (more l.0 l.2)
 
-pub satisfied_row : (s a b : List Literal) → ((l : Literal) → holds a l ≡ true → holds b l ≡ true) → is_satisfied s a ≡ true → is_satisfied s b ≡ true
-satisfied_row s a b more h = let l = any_at (holds s) a h in any_from (holds s) b l.0 (more l.0 l.1) l.2
+pub satisfied_stored_clause : (s a b : List Literal) → ((l : Literal) → holds a l ≡ true → holds b l ≡ true) → is_satisfied s a ≡ true → is_satisfied s b ≡ true
+satisfied_stored_clause s a b more h = let l = any_at (holds s) a h in any_from (holds s) b l.0 (more l.0 l.1) l.2
 
 -- the literals of the first entries are literals of all
 pub take_holds : (es : List Entry) (n : ℕ) (l : Literal) → holds (literals (take n es)) l ≡ true → holds (literals es) l ≡ true
@@ -66,31 +75,32 @@ take_holds es n l h = let k = holds_take es n l h in subst (λ (x : Literal). ho
 pub kept_holds : (old new : List Entry) (l : Literal) → take (length old) new ≡ old → holds (literals old) l ≡ true → holds (literals new) l ≡ true
 kept_holds old new l e h = take_holds new (length old) l (subst (λ (x : List Entry). holds (literals x) l ≡ true) (sym e) h)
 
--- the rows stay covered while the trail grows
-pub covered_more : (before s t : List Literal) (rows : List (List Literal)) → ((l : Literal) → holds s l ≡ true → holds t l ≡ true) → AreCovered before s rows → AreCovered before t rows
-covered_more before s t rows more c i k lk long h = satisfied_more s t (row_at rows i) more (c i k lk long h)
+-- the stored clauses stay covered while the trail grows
+pub covered_more : (before s t : List Literal) (stored_clauses : List (List Literal)) → ((l : Literal) → holds s l ≡ true → holds t l ≡ true) → AreCovered before s stored_clauses → AreCovered before t stored_clauses
+covered_more before s t stored_clauses more c i k lk long h = satisfied_more s t (stored_clause_at stored_clauses i) more (c i k lk long h)
 
 -- and where a watch moves to a literal that is not false
-pub covered_swap : (before s permuted : List Literal) (first k : ℕ) → first < 2 → 2 ≤ k → k < length permuted → holds before (negation (literal_at permuted k)) ≡ false → ((l : Literal) → holds permuted l ≡ true → holds (swap permuted first k) l ≡ true) → IsCovered before s permuted → IsCovered before s (swap permuted first k)
+pub covered_swap : (before s permuted : List Literal) (first k : ℕ) → first < 2 → 2 ≤ k → k < length permuted → holds before (negation (literal_at permuted k)) ≡ false
+    → ((l : Literal) → holds permuted l ≡ true → holds (swap permuted first k) l ≡ true) → IsCovered before s permuted → IsCovered before s (swap permuted first k)
 covered_swap before s permuted first k f2 k2 lk not_false same c m m2 long h =
     let lf : first < length permuted = omega (arith, f2, k2, lk) in
     elim (cases_eq m first) as (λ _. is_satisfied s (swap permuted first k) ≡ true) [
       | inl e ↦ absurd (both_ways (holds before (negation (literal_at permuted k))) not_false (subst (λ (x : Literal). holds before (negation x) ≡ true) (swap_first permuted first k m lf lk e) h))
       | inr ne ↦
           let other = swap_other permuted first k m lf lk ne (λ e. omega (arith, e, m2, k2)) in
-          satisfied_row s permuted (swap permuted first k) same (c m m2 (omega (arith, k2, lk)) (subst (λ (x : Literal). holds before (negation x) ≡ true) other h))
+          satisfied_stored_clause s permuted (swap permuted first k) same (c m m2 (omega (arith, k2, lk)) (subst (λ (x : Literal). holds before (negation x) ≡ true) other h))
     ]
 
 -- clauses that are closed
-closed_each : (s : List Literal) (cs : List (List Literal)) → ((i : ℕ) → i < length cs → is_closed_at s (row_at cs i) ≡ true) → is_closed s cs ≡ true
+closed_each : (s : List Literal) (cs : List (List Literal)) → ((i : ℕ) → i < length cs → is_closed_at s (stored_clause_at cs i) ≡ true) → is_closed s cs ≡ true
 closed_each s [] h = refl
 closed_each s (c ∷ cs) h = and_from (is_closed_at s c) (is_closed s cs) (h zero (omega arith)) (closed_each s cs (λ i l. h (suc i) (omega (arith, l))))
 
-closed_satisfied : (s clause permuted : List Literal) → IsRow clause permuted → is_satisfied s permuted ≡ true → is_closed_at s clause ≡ true
-closed_satisfied s clause permuted r h = or_left (list_any (holds s) clause) (leb 2 (count_free s clause)) (satisfied_row s permuted clause (λ l t. sym (r.same l) ∙ t) h)
+closed_satisfied : (s clause permuted : List Literal) → IsStored clause permuted → is_satisfied s permuted ≡ true → is_closed_at s clause ≡ true
+closed_satisfied s clause permuted r h = or_left (list_any (holds s) clause) (leb 2 (count_free s clause)) (satisfied_stored_clause s permuted clause (λ l t. sym (r.same l) ∙ t) h)
 
-closed_row : (s clause permuted : List Literal) → IsRow clause permuted → 2 ≤ length permuted → IsCovered s s permuted → is_closed_at s clause ≡ true
-closed_row s clause permuted r long c = go (holds s (negation a)) refl (holds s (negation b)) refl (holds s a) refl (holds s b) refl
+closed_stored_clause : (s clause permuted : List Literal) → IsStored clause permuted → 2 ≤ length permuted → IsCovered s s permuted → is_closed_at s clause ≡ true
+closed_stored_clause s clause permuted r long c = go (holds s (negation a)) refl (holds s (negation b)) refl (holds s a) refl (holds s b) refl
   where
     a : Literal
     a = literal_at permuted 0
@@ -98,48 +108,54 @@ closed_row s clause permuted r long c = go (holds s (negation a)) refl (holds s 
     b : Literal
     b = literal_at permuted 1
 
-    go : (na : Bool) → holds s (negation (literal_at permuted 0)) ≡ na → (nb : Bool) → holds s (negation (literal_at permuted 1)) ≡ nb → (ha : Bool) → holds s (literal_at permuted 0) ≡ ha → (hb : Bool) → holds s (literal_at permuted 1) ≡ hb → is_closed_at s clause ≡ true
+    go : (na : Bool) → holds s (negation (literal_at permuted 0)) ≡ na → (nb : Bool) → holds s (negation (literal_at permuted 1)) ≡ nb → (ha : Bool) → holds s (literal_at permuted 0) ≡ ha
+        → (hb : Bool) → holds s (literal_at permuted 1) ≡ hb → is_closed_at s clause ≡ true
     go true p nb q ha u hb v = closed_satisfied s clause permuted r (c 0 (omega arith) long p)
     go false p true q ha u hb v = closed_satisfied s clause permuted r (c 1 (omega arith) long q)
     go false p false q true u hb v = closed_satisfied s clause permuted r (any_from (holds s) permuted (literal_at permuted 0) (holds_at permuted 0 (omega (arith, long))) u)
     go false p false q false u true v = closed_satisfied s clause permuted r (any_from (holds s) permuted (literal_at permuted 1) (holds_at permuted 1 (omega (arith, long))) v)
     go false p false q false u false v =
-        let two = two_free s clause (literal_at permuted 0) (literal_at permuted 1) (sym (r.same (literal_at permuted 0)) ∙ holds_at permuted 0 (omega (arith, long))) (sym (r.same (literal_at permuted 1)) ∙ holds_at permuted 1 (omega (arith, long)))
+        let two = two_free s clause (literal_at permuted 0) (literal_at permuted 1) (sym (r.same (literal_at permuted 0)) ∙ holds_at permuted 0 (omega (arith, long)))
+        (sym (r.same (literal_at permuted 1)) ∙ holds_at permuted 1 (omega (arith, long)))
         (λ e. let one = r.apart 0 1 (omega (arith, long)) (omega (arith, long)) e in omega (arith, one))
         (not_from_false (mentions s (literal_at permuted 0).variable) (free_from s (literal_at permuted 0) u p))
         (not_from_false (mentions s (literal_at permuted 1).variable) (free_from s (literal_at permuted 1) v q)) in
         or_right (list_any (holds s) clause) (leb 2 (count_free s clause)) (le-leb 2 (count_free s clause) two)
 
 -- once all is read, all clauses are closed
-pub closed_all : (clauses rows : List (List Literal)) (short : List ℕ) (es : List Entry) (head : ℕ) (marks : List ℕ) (short_head base : ℕ) → AreRows clauses rows → AreShort rows short → IsProgress rows short es head marks short_head base → length es ≤ head → length short ≤ short_head → is_closed (literals es) clauses ≡ true
-closed_all clauses rows short es head marks short_head base are are_short p read all = closed_each (literals es) clauses each
+pub closed_all : (clauses stored_clauses : List (List Literal)) (short : List ℕ) (es : List Entry) (head : ℕ) (marks : List ℕ) (short_head base : ℕ) → AreStored clauses stored_clauses
+    → AreShort stored_clauses short → IsProgress stored_clauses short es head marks short_head base → length es ≤ head → length short ≤ short_head → is_closed (literals es) clauses ≡ true
+closed_all clauses stored_clauses short es head marks short_head base are are_short p read all = closed_each (literals es) clauses each
   where
-    each : (i : ℕ) → i < length clauses → is_closed_at (literals es) (row_at clauses i) ≡ true
+    each : (i : ℕ) → i < length clauses → is_closed_at (literals es) (stored_clause_at clauses i) ≡ true
     each i l =
         let r = are.each i l in
-        elim (cases_le 2 (length (row_at rows i))) as (λ _. is_closed_at (literals es) (row_at clauses i) ≡ true) [
-          | inl long ↦ closed_row (literals es) (row_at clauses i) (row_at rows i) r long (subst (λ (x : List Entry). IsCovered (literals x) (literals es) (row_at rows i)) (take_all head es read) (p.covered i))
+        elim (cases_le 2 (length (stored_clause_at stored_clauses i))) as (λ _. is_closed_at (literals es) (stored_clause_at clauses i) ≡ true) [
+          | inl long ↦ closed_stored_clause (literals es) (stored_clause_at clauses i) (stored_clause_at stored_clauses i) r long
+              (subst (λ (x : List Entry). IsCovered (literals x) (literals es) (stored_clause_at stored_clauses i)) (take_all head es read) (p.covered i))
           | inr few ↦
-              let inside : i < length rows = let c = are.count in omega (arith, c, l) in
+              let inside : i < length stored_clauses = let c = are.count in omega (arith, c, l) in
               let j = are_short.each i inside few in
               let t = p.short_true j.0 (omega (arith, j.1, all)) in
-              closed_satisfied (literals es) (row_at clauses i) (row_at rows i) r
-              (satisfied_more (literals (take base es)) (literals es) (row_at rows i) (take_holds es base) (subst (λ (x : ℕ). is_satisfied (literals (take base es)) (row_at rows x) ≡ true) j.2 t))
+              closed_satisfied (literals es) (stored_clause_at clauses i) (stored_clause_at stored_clauses i) r
+              (satisfied_more (literals (take base es)) (literals es) (stored_clause_at stored_clauses i) (take_holds es base) (subst (λ (x : ℕ). is_satisfied (literals (take base es)) (stored_clause_at stored_clauses x) ≡ true) j.2 t))
         ]
 
 -- one entry more
-pub progress_push : (rows : List (List Literal)) (short : List ℕ) (es : List Entry) (e : Entry) (head : ℕ) (marks : List ℕ) (short_head base : ℕ) → IsProgress rows short es head marks short_head base → IsProgress rows short (es ++ e ∷ []) head marks short_head base
-progress_push rows short es e head marks short_head base p = record {
+pub progress_push : (stored_clauses : List (List Literal)) (short : List ℕ) (es : List Entry) (e : Entry) (head : ℕ) (marks : List ℕ) (short_head base : ℕ)
+    → IsProgress stored_clauses short es head marks short_head base → IsProgress stored_clauses short (es ++ e ∷ []) head marks short_head base
+progress_push stored_clauses short es e head marks short_head base p = record {
   head_in = let n = length_push es e in let h = p.head_in in omega (arith, n, h);
-  covered = rw (take-append-le head es (e ∷ []) p.head_in) (covered_more (literals (take head es)) (literals es) (literals (es ++ e ∷ [])) rows (λ l h. kept_holds es (es ++ e ∷ []) l (take_at es (e ∷ []) (length es) refl) h) p.covered);
-  marked = marks_push rows es e head marks p.head_in p.marked;
+  covered = rw (take-append-le head es (e ∷ []) p.head_in) (covered_more (literals (take head es)) (literals es) (literals (es ++ e ∷ [])) stored_clauses
+      (λ l h. kept_holds es (es ++ e ∷ []) l (take_at es (e ∷ []) (length es) refl) h) p.covered);
+  marked = marks_push stored_clauses es e head marks p.head_in p.marked;
   short_head_in = p.short_head_in;
   base_in = let n = length_push es e in let b = p.base_in in omega (arith, n, b);
   short_true = rw (take-append-le base es (e ∷ []) p.base_in) p.short_true;
 }
   where
-    marks_push : (rows : List (List Literal)) (es : List Entry) (e : Entry) (head : ℕ) (marks : List ℕ) → head ≤ length es → AreMarks rows es head marks → AreMarks rows (es ++ e ∷ []) head marks
-    marks_push rows es e head marks h m = record {
+    marks_push : (stored_clauses : List (List Literal)) (es : List Entry) (e : Entry) (head : ℕ) (marks : List ℕ) → head ≤ length es → AreMarks stored_clauses es head marks → AreMarks stored_clauses (es ++ e ∷ []) head marks
+    marks_push stored_clauses es e head marks h m = record {
       sorted = m.sorted;
       below = m.below;
       covered = λ j l. let b = m.below j l in let low : get_or marks j 0 ≤ length es = omega (arith, b, h) in rw (take-append-le (get_or marks j 0) es (e ∷ []) low) (m.covered j l);
@@ -171,21 +187,22 @@ propagates_then clauses a b c p q = record {
     | inl late ↦ q.implied k late l
     | inr early ↦
         let at : entry_at b k ≡ entry_at c k = ap (λ (x : List Entry). entry_at x k) (sym q.kept) ∙ get_or-take (length b) c k no_entry early in
-        let front : take k b ≡ take k c = ap (take k) (sym q.kept) ∙ take-take k (length b) c (omega (arith, early)) in
-        rw (← at, ← front) (p.implied k low early)
+        let prefix : take k b ≡ take k c = ap (take k) (sym q.kept) ∙ take-take k (length b) c (omega (arith, early)) in
+        rw (← at, ← prefix) (p.implied k low early)
   ];
   free = λ k low l. elim (cases_le (length b) k) as (λ _. is_free (literals (take k c)) (entry_at c k).literal ≡ true) [
     | inl late ↦ q.free k late l
     | inr early ↦
         let at : entry_at b k ≡ entry_at c k = ap (λ (x : List Entry). entry_at x k) (sym q.kept) ∙ get_or-take (length b) c k no_entry early in
-        let front : take k b ≡ take k c = ap (take k) (sym q.kept) ∙ take-take k (length b) c (omega (arith, early)) in
-        rw (← at, ← front) (p.free k low early)
+        let prefix : take k b ≡ take k c = ap (take k) (sym q.kept) ∙ take-take k (length b) c (omega (arith, early)) in
+        rw (← at, ← prefix) (p.free k low early)
   ];
 }
 
 -- propagation is complete: one mark more
-pub marks_more : (rows : List (List Literal)) (es : List Entry) (head : ℕ) (marks : List ℕ) → length es ≤ head → AreCovered (literals (take head es)) (literals es) rows → AreMarks rows es head marks → AreMarks rows es head (marks ++ head ∷ [])
-marks_more rows es head marks read covered m = record {
+pub marks_more : (stored_clauses : List (List Literal)) (es : List Entry) (head : ℕ) (marks : List ℕ) → length es ≤ head → AreCovered (literals (take head es)) (literals es) stored_clauses
+    → AreMarks stored_clauses es head marks → AreMarks stored_clauses es head (marks ++ head ∷ [])
+marks_more stored_clauses es head marks read covered m = record {
   sorted = λ j k jk lk. elim (cases_eq k (length marks)) as (λ _. get_or (marks ++ head ∷ []) j 0 ≤ get_or (marks ++ head ∷ []) k 0) [
     | inl last ↦ let top = at_last k last in let b = up j (omega (arith, jk, lk)) in omega (arith, top, b)
     | inr before ↦
@@ -197,8 +214,8 @@ marks_more rows es head marks read covered m = record {
         omega (arith, a, b, s)
   ];
   below = λ j l. up j l;
-  covered = λ j l. elim (cases_eq j (length marks)) as (λ _. AreCovered (literals (take (get_or (marks ++ head ∷ []) j 0) es)) (literals (take (get_or (marks ++ head ∷ []) j 0) es)) rows) [
-    | inl last ↦ rw (at_last j last) (subst (λ (x : List Entry). AreCovered (literals (take head es)) (literals x) rows) (sym (take_all head es read)) covered)
+  covered = λ j l. elim (cases_eq j (length marks)) as (λ _. AreCovered (literals (take (get_or (marks ++ head ∷ []) j 0) es)) (literals (take (get_or (marks ++ head ∷ []) j 0) es)) stored_clauses) [
+    | inl last ↦ rw (at_last j last) (subst (λ (x : List Entry). AreCovered (literals (take head es)) (literals x) stored_clauses) (sym (take_all head es read)) covered)
     | inr before ↦ let low : j < length marks = let n = length_push marks head in omega (arith, n, l, before) in rw (at_old j low) (m.covered j low)
   ];
 }
@@ -216,18 +233,23 @@ marks_more rows es head marks read covered m = record {
     ]
 
 -- the first marks alone, and the first entries alone
-pub progress_back : (rows : List (List Literal)) (short : List ℕ) (es : List Entry) (head : ℕ) (marks : List ℕ) (short_head base : ℕ) (n kept new_head : ℕ) → IsProgress rows short es head marks short_head base → n ≤ length es → base ≤ n → kept ≤ length marks → (0 < kept → get_or marks (kept - 1) 0 ≤ n) → (kept ≡ 0 → new_head ≡ 0) → (0 < kept → new_head ≡ get_or marks (kept - 1) 0) → IsProgress rows short (take n es) new_head (take kept marks) short_head base
-progress_back rows short es head marks short_head base n kept new_head p n_in base_low kept_in last_low none some = record {
+pub progress_back : (stored_clauses : List (List Literal)) (short : List ℕ) (es : List Entry) (head : ℕ) (marks : List ℕ) (short_head base : ℕ) (n kept new_head : ℕ)
+    → IsProgress stored_clauses short es head marks short_head base → n ≤ length es → base ≤ n → kept ≤ length marks → (0 < kept → get_or marks (kept - 1) 0 ≤ n) → (kept ≡ 0 → new_head ≡ 0)
+    → (0 < kept → new_head ≡ get_or marks (kept - 1) 0) → IsProgress stored_clauses short (take n es) new_head (take kept marks) short_head base
+progress_back stored_clauses short es head marks short_head base n kept new_head p n_in base_low kept_in last_low none some = record {
   head_in = let m = length-take-le n es n_in in omega (arith, m, head_low);
-  covered = rw (take-take new_head n es head_low) (elim (cases_eq kept 0) as (λ _. AreCovered (literals (take new_head es)) (literals (take n es)) rows) [
+  covered = rw (take-take new_head n es head_low) (elim (cases_eq kept 0) as (λ _. AreCovered (literals (take new_head es)) (literals (take n es)) stored_clauses) [
     | inl zero_kept ↦ rw (none zero_kept) (λ i k lk long h. absurd (false≢true h))
     | inr more ↦
         let last : kept - 1 < length marks = omega (arith, kept_in, more) in
         let at : new_head ≡ get_or marks (kept - 1) 0 = some (omega (arith, more)) in
-        rw at (covered_more (literals (take (get_or marks (kept - 1) 0) es)) (literals (take (get_or marks (kept - 1) 0) es)) (literals (take n es)) rows (λ l h. take_holds (take n es) (get_or marks (kept - 1) 0) l (subst (λ (x : List Entry). holds (literals x) l ≡ true) (sym (take-take (get_or marks (kept - 1) 0) n es (last_low (omega (arith, more))))) h)) (p.marked.covered (kept - 1) last))
+        rw at (covered_more (literals (take (get_or marks (kept - 1) 0) es)) (literals (take (get_or marks (kept - 1) 0) es)) (literals (take n es)) stored_clauses
+        (λ l h. take_holds (take n es) (get_or marks (kept - 1) 0) l (subst (λ (x : List Entry). holds (literals x) l ≡ true)
+        (sym (take-take (get_or marks (kept - 1) 0) n es (last_low (omega (arith, more))))) h)) (p.marked.covered (kept - 1) last))
   ]);
   marked = record {
-    sorted = λ j k jk lk. let len = length-take-le kept marks kept_in in let lk2 : k < kept = omega (arith, len, lk) in rw (get_or-take kept marks j 0 (omega (arith, jk, lk2)), get_or-take kept marks k 0 lk2) (p.marked.sorted j k jk (omega (arith, lk2, kept_in)));
+    sorted = λ j k jk lk. let len = length-take-le kept marks kept_in in let lk2 : k < kept = omega (arith, len, lk) in rw
+        (get_or-take kept marks j 0 (omega (arith, jk, lk2)), get_or-take kept marks k 0 lk2) (p.marked.sorted j k jk (omega (arith, lk2, kept_in)));
     below = λ j l. let len = length-take-le kept marks kept_in in let lj : j < kept = omega (arith, len, l) in let a = get_or-take kept marks j 0 lj in let b = up j lj in omega (arith, a, b);
     covered = λ j l. let len = length-take-le kept marks kept_in in let lj : j < kept = omega (arith, len, l) in
         let b = up j lj in
@@ -249,21 +271,25 @@ progress_back rows short es head marks short_head base n kept new_head p n_in ba
     up j lj = let s = some (omega (arith, lj)) in let o = p.marked.sorted j (kept - 1) (omega (arith, lj)) (omega (arith, lj, kept_in)) in omega (arith, s, o)
 
 -- no short clause is read yet
-pub progress_reset_short : (rows : List (List Literal)) (short : List ℕ) (es : List Entry) (head : ℕ) (marks : List ℕ) (short_head base : ℕ) → IsProgress rows short es head marks short_head base → IsProgress rows short es head marks 0 0
-progress_reset_short rows short es head marks short_head base p = record { head_in = p.head_in; covered = p.covered; marked = p.marked; short_head_in = omega arith; base_in = omega arith; short_true = λ j l. absurd (omega (arith, l)) }
+pub progress_reset_short : (stored_clauses : List (List Literal)) (short : List ℕ) (es : List Entry) (head : ℕ) (marks : List ℕ) (short_head base : ℕ)
+    → IsProgress stored_clauses short es head marks short_head base → IsProgress stored_clauses short es head marks 0 0
+progress_reset_short stored_clauses short es head marks short_head base p = record { head_in = p.head_in; covered = p.covered; marked = p.marked; short_head_in = omega arith; base_in = omega arith; short_true = λ j l. absurd (omega (arith, l)) }
 
 -- one short clause more is true
-pub progress_short : (rows : List (List Literal)) (short : List ℕ) (es : List Entry) (head : ℕ) (marks : List ℕ) (short_head base : ℕ) → IsProgress rows short es head marks short_head base → short_head < length short → is_satisfied (literals es) (row_at rows (get_or short short_head 0)) ≡ true → IsProgress rows short es head marks (short_head + 1) (length es)
-progress_short rows short es head marks short_head base p more here = record {
+pub progress_short : (stored_clauses : List (List Literal)) (short : List ℕ) (es : List Entry) (head : ℕ) (marks : List ℕ) (short_head base : ℕ)
+    → IsProgress stored_clauses short es head marks short_head base → short_head < length short → is_satisfied (literals es) (stored_clause_at stored_clauses (get_or short short_head 0)) ≡ true
+    → IsProgress stored_clauses short es head marks (short_head + 1) (length es)
+progress_short stored_clauses short es head marks short_head base p more here = record {
   head_in = p.head_in;
   covered = p.covered;
   marked = p.marked;
   short_head_in = omega (arith, more);
   base_in = omega arith;
-  short_true = λ j l. subst (λ (x : List Entry). is_satisfied (literals x) (row_at rows (get_or short j 0)) ≡ true) (sym (take_all (length es) es (omega arith))) (elim (cases_eq j short_head) as (λ _. is_satisfied (literals es) (row_at rows (get_or short j 0)) ≡ true) [
-    | inl e ↦ subst (λ (x : ℕ). is_satisfied (literals es) (row_at rows (get_or short x 0)) ≡ true) (sym e) here
-    | inr ne ↦ satisfied_more (literals (take base es)) (literals es) (row_at rows (get_or short j 0)) (take_holds es base) (p.short_true j (omega (arith, l, ne)))
-  ]);
+  short_true = λ j l. subst (λ (x : List Entry). is_satisfied (literals x) (stored_clause_at stored_clauses (get_or short j 0)) ≡ true) (sym (take_all (length es) es (omega arith)))
+      (elim (cases_eq j short_head) as (λ _. is_satisfied (literals es) (stored_clause_at stored_clauses (get_or short j 0)) ≡ true) [
+        | inl e ↦ subst (λ (x : ℕ). is_satisfied (literals es) (stored_clause_at stored_clauses (get_or short x 0)) ≡ true) (sym e) here
+        | inr ne ↦ satisfied_more (literals (take base es)) (literals es) (stored_clause_at stored_clauses (get_or short j 0)) (take_holds es base) (p.short_true j (omega (arith, l, ne)))
+      ]);
 }
 
 count_free_le : (s c : List Literal) → count_free s c ≤ length c
@@ -281,50 +307,58 @@ closed_short s c few closed = elim (or_cases (list_any (holds s) c) (leb 2 (coun
   | inr two ↦ let t = leb-true 2 (count_free s c) two in let l = count_free_le s c in absurd (omega (arith, t, l, few))
 ]
 
--- the clause of an index and its row
-module _ (clauses rows : List (List Literal)) (are : AreRows clauses rows) where
-  pub row_satisfied : (s : List Literal) (i : ℕ) → i < length rows → is_satisfied s (row_at clauses i) ≡ true → is_satisfied s (row_at rows i) ≡ true
-  row_satisfied s i l h = let low : i < length clauses = let c = are.count in omega (arith, c, l) in satisfied_row s (row_at clauses i) (row_at rows i) (λ x t. (are.each i low).same x ∙ t) h
+-- the clause of an index and its stored clause
+module _ (clauses stored_clauses : List (List Literal)) (are : AreStored clauses stored_clauses) where
+  pub stored_clause_satisfied : (s : List Literal) (i : ℕ) → i < length stored_clauses → is_satisfied s (stored_clause_at clauses i) ≡ true → is_satisfied s (stored_clause_at stored_clauses i) ≡ true
+  stored_clause_satisfied s i l h = let low : i < length clauses = let c = are.count in omega (arith, c, l) in satisfied_stored_clause s (stored_clause_at clauses i) (stored_clause_at stored_clauses i) (λ x t. (are.each i low).same x ∙ t) h
 
-  pub short_clause : (short : List ℕ) → AreShort rows short → (j : ℕ) → j < length short → length (row_at clauses (get_or short j 0)) < 2
+  pub short_clause : (short : List ℕ) → AreShort stored_clauses short → (j : ℕ) → j < length short → length (stored_clause_at clauses (get_or short j 0)) < 2
   short_clause short are_short j l = let o = are_short.only j l in let low : get_or short j 0 < length clauses = let c = are.count in omega (arith, c, o.0) in let n = (are.each (get_or short j 0) low).len in omega (arith, n, o.1)
 
-  pub number_in : (i : ℕ) → i < length rows → is_number clauses (i + 1) ≡ true
+  pub number_in : (i : ℕ) → i < length stored_clauses → is_number clauses (i + 1) ≡ true
   number_in i l = is_number_at clauses i (let c = are.count in omega (arith, c, l))
 
-  -- what a row implies, its clause implies
-  pub implied_by_row : (s : List Literal) (i : ℕ) (u : Literal) → i < length rows → holds (row_at rows i) u ≡ true → is_unit s u (row_at rows i) ≡ true → Implies clauses (i + 1) s u
-  implied_by_row s i u l h unit =
+  -- what a stored clause implies, its clause implies
+  pub implied_by_stored_clause : (s : List Literal) (i : ℕ) (u : Literal) → i < length stored_clauses → holds (stored_clause_at stored_clauses i) u ≡ true
+      → is_unit s u (stored_clause_at stored_clauses i) ≡ true → Implies clauses (i + 1) s u
+  implied_by_stored_clause s i u l h unit =
       let low : i < length clauses = let c = are.count in omega (arith, c, l) in
       let r = are.each i low in
       record {
         number = number_in i l;
         within = subst (λ (c : List Literal). holds c u ≡ true) (sym (clause_at-next clauses i)) (sym (r.same u) ∙ h);
-        others = subst (λ (c : List Literal). is_unit s u c ≡ true) (sym (clause_at-next clauses i)) (all_from (λ x. same x u || holds s (negation x)) (row_at clauses i) (λ x t. all_at (λ y. same y u || holds s (negation y)) (row_at rows i) x unit (r.same x ∙ t)));
+        others = subst (λ (c : List Literal). is_unit s u c ≡ true) (sym (clause_at-next clauses i))
+            (all_from (λ x. same x u || holds s (negation x)) (stored_clause_at clauses i)
+            (λ x t. all_at (λ y. same y u || holds s (negation y)) (stored_clause_at stored_clauses i) x unit (r.same x ∙ t)));
       }
 
-  pub conflict_by_row : (s : List Literal) (i : ℕ) → i < length rows → falsifies s (row_at rows i) ≡ true → IsConflict clauses s (i + 1)
-  conflict_by_row s i l h =
+  pub conflict_by_stored_clause : (s : List Literal) (i : ℕ) → i < length stored_clauses → falsifies s (stored_clause_at stored_clauses i) ≡ true → IsConflict clauses s (i + 1)
+  conflict_by_stored_clause s i l h =
       let low : i < length clauses = let c = are.count in omega (arith, c, l) in
-      let r = are.each i low in
-      (number_in i l, subst (λ (c : List Literal). falsifies s c ≡ true) (sym (clause_at-next clauses i)) (all_from (λ x. holds s (negation x)) (row_at clauses i) (λ x t. all_at (λ y. holds s (negation y)) (row_at rows i) x h (r.same x ∙ t))))
+      let r = are.each i low in (
+        number_in i l,
+        subst (λ (c : List Literal). falsifies s c ≡ true) (sym (clause_at-next clauses i))
+            (all_from (λ x. holds s (negation x)) (stored_clause_at clauses i) (λ x t. all_at (λ y. holds s (negation y)) (stored_clause_at stored_clauses i) x h (r.same x ∙ t))),
+      )
 
 -- what a read of the next short clause gives
-pub record ReadsShort (clauses rows : List (List Literal)) (short : List ℕ) (short_head i : ℕ) (clause : List Literal) : Type 0 where
+pub record ReadsShort (clauses stored_clauses : List (List Literal)) (short : List ℕ) (short_head i : ℕ) (clause : List Literal) : Type 0 where
   pub is_index : i ≡ get_or short short_head 0
-  pub is_clause : clause ≡ row_at clauses i
+  pub is_clause : clause ≡ stored_clause_at clauses i
   pub few : length clause < 2
-  pub inside : i < length rows
+  pub inside : i < length stored_clauses
 
-pub reads_short : (clauses rows : List (List Literal)) (short : List ℕ) (short_head i : ℕ) (clause again : List Literal) → AreRows clauses rows → AreShort rows short → short_head < length short → i ≡ get_or short short_head i → clause ≡ again → again ≡ get_or clauses i again → ReadsShort clauses rows short short_head i clause
-reads_short clauses rows short short_head i clause again are are_short more ei ec ea =
+pub reads_short : (clauses stored_clauses : List (List Literal)) (short : List ℕ) (short_head i : ℕ) (clause again : List Literal) → AreStored clauses stored_clauses
+    → AreShort stored_clauses short → short_head < length short → i ≡ get_or short short_head i → clause ≡ again → again ≡ get_or clauses i again
+    → ReadsShort clauses stored_clauses short short_head i clause
+reads_short clauses stored_clauses short short_head i clause again are are_short more ei ec ea =
     let is : i ≡ get_or short short_head 0 = get_or_read short short_head i more ei 0 in
     let o = are_short.only short_head more in
-    let inside : i < length rows = omega (arith, is, o.0) in
+    let inside : i < length stored_clauses = omega (arith, is, o.0) in
     let low : i < length clauses = let c = are.count in omega (arith, c, inside) in
-    let at : clause ≡ row_at clauses i = ec ∙ get_or_read clauses i again low ea [] in
-    let few = short_clause clauses rows are short are_short short_head more in
-    record { is_index = is; is_clause = at; few = subst (λ (c : List Literal). length c < 2) (sym (at ∙ ap (row_at clauses) is)) few; inside = inside }
+    let at : clause ≡ stored_clause_at clauses i = ec ∙ get_or_read clauses i again low ea [] in
+    let few = short_clause clauses stored_clauses are short are_short short_head more in
+    record { is_index = is; is_clause = at; few = subst (λ (c : List Literal). length c < 2) (sym (at ∙ ap (stored_clause_at clauses) is)) few; inside = inside }
 
 pub last_holds : (es : List Entry) (e : Entry) → holds (literals (es ++ e ∷ [])) e.literal ≡ true
 last_holds es e = let n = length_push es e in subst (λ (x : Entry). holds (literals (es ++ e ∷ [])) x.literal ≡ true) (entry_at-push_new es e (length es) refl) (holds_entry (es ++ e ∷ []) (length es) (omega (arith, n)))

@@ -96,14 +96,16 @@ length_below variables es apart =
     omega (arith, bound, n)
 
 -- the mark of a literal that the set holds
-pub mark_of_holds : (marks : List (Option Mark)) (es : List Entry) → IsTied marks es → (l : Literal) → holds (literals es) l ≡ true → (k : ℕ) × (k < length es) × (get_or marks (l.variable - 1) None ≡ Some (record { positive = l.positive; place = k }))
+pub mark_of_holds : (marks : List (Option Mark)) (es : List Entry) → IsTied marks es → (l : Literal) → holds (literals es) l ≡ true → (k : ℕ) × (k < length es)
+    × (get_or marks (l.variable - 1) None ≡ Some (record { positive = l.positive; place = k }))
 mark_of_holds marks es tied l h =
     let r = entry_of_holds es l h in
     let marked = tied.marked r.0 r.1 in
     (r.0, r.1, subst (λ (x : Literal). get_or marks (x.variable - 1) None ≡ Some (record { positive = x.positive; place = r.0 })) r.2 marked)
 
 -- the literal that a mark tells is true, at the mark's place
-pub holds_of_mark : (marks : List (Option Mark)) (es : List Entry) → IsTied marks es → (v : ℕ) (m : Mark) → 1 ≤ v → get_or marks (v - 1) None ≡ Some m → (m.place < length es) × ((entry_at es m.place).literal ≡ record { variable = v; positive = m.positive })
+pub holds_of_mark : (marks : List (Option Mark)) (es : List Entry) → IsTied marks es → (v : ℕ) (m : Mark) → 1 ≤ v → get_or marks (v - 1) None ≡ Some m → (m.place < length es)
+    × ((entry_at es m.place).literal ≡ record { variable = v; positive = m.positive })
 holds_of_mark marks es tied v m low e =
     let placed = tied.placed (v - 1) m e in
     let var : variable_at es m.place ≡ v = placed.1 ∙ (let t : suc (v - 1) ≡ v = omega arith in t) in
@@ -148,7 +150,8 @@ value_by_mark marks es tied l m low e = go (beq m.positive l.positive) refl
         rw same_one refl
     go false b =
         let none : holds (literals es) l ≡ false = false_from_ne_true (holds (literals es) l) (not_held b) in
-        let other : holds (literals es) (negation l) ≡ true = subst (λ (x : Literal). holds (literals es) x ≡ true) (literal_ext (record { variable = l.variable; positive = m.positive }) (negation l) refl (opposite m.positive l.positive b)) held in
+        let other : holds (literals es) (negation l) ≡ true = subst (λ (x : Literal). holds (literals es) x ≡ true)
+        (literal_ext (record { variable = l.variable; positive = m.positive }) (negation l) refl (opposite m.positive l.positive b)) held in
         rw (none, other) refl
 
 -- a variable with no mark is not mentioned
@@ -235,7 +238,8 @@ not_after_by_mark marks es tied v floor e = sym (false_from_ne_true (is_after es
         both_ways (mentions (literals es) v) (free_by_mark marks es tied v e) found
 
 -- the marks after an entry is added
-pub tied_push : (marks : List (Option Mark)) (es : List Entry) (e : Entry) → IsTied marks es → is_among (length marks) e.literal ≡ true → mentions (literals es) e.literal.variable ≡ false → IsTied (set marks (e.literal.variable - 1) (Some (record { positive = e.literal.positive; place = length es }))) (es ++ e ∷ [])
+pub tied_push : (marks : List (Option Mark)) (es : List Entry) (e : Entry) → IsTied marks es → is_among (length marks) e.literal ≡ true → mentions (literals es) e.literal.variable ≡ false
+    → IsTied (set marks (e.literal.variable - 1) (Some (record { positive = e.literal.positive; place = length es }))) (es ++ e ∷ [])
 tied_push marks es e tied among free = record {
   among = λ k l. elim (cases_push es e k l) as (λ _. is_among (length marks') (entry_at (es ++ e ∷ []) k).literal ≡ true) [
     | inl old ↦ rw (len, entry_at-push_old es e k old) (tied.among k old)
@@ -293,7 +297,8 @@ tied_pop marks es e tied = record {
   marked = λ k l. get_or-set_other marks (e.literal.variable - 1) (variable_at es k - 1) None None (others k l) ∙ old_mark k l;
   placed = λ v m h. elim (cases_eq v (e.literal.variable - 1)) as (λ _. (m.place < length es) × ((entry_at es m.place).literal.variable ≡ suc v)) [
     | inl same_one ↦
-        let gone : get_or (set marks (e.literal.variable - 1) None) v None ≡ None = subst (λ (w : ℕ). get_or (set marks (e.literal.variable - 1) None) w None ≡ None) (sym same_one) (get_or-set_same marks (e.literal.variable - 1) None None inside) in
+        let gone : get_or (set marks (e.literal.variable - 1) None) v None ≡ None = subst (λ (w : ℕ). get_or (set marks (e.literal.variable - 1) None) w None ≡ None) (sym same_one)
+        (get_or-set_same marks (e.literal.variable - 1) None None inside) in
         absurd (none_some m (sym gone ∙ h))
     | inr other ↦
         let before : get_or marks v None ≡ Some m = sym (get_or-set_other marks (e.literal.variable - 1) v None None other) ∙ h in

@@ -23,15 +23,19 @@ given_clauses : (f : Formula) (steps : List Step) → IsKept f steps → (are_cl
 given_clauses f steps k = and_parts (are_clauses f.variables f.clauses) (are_clauses f.variables (learnt_clauses steps)) (sym (list_all-append (is_clause f.variables) f.clauses (learnt_clauses steps)) ∙ k.clauses)
 
 -- one more learnt clause
-pub kept_push : (f : Formula) (steps : List Step) (s : Step) → IsKept f steps → is_clause f.variables s.clause ≡ true → derives (f.clauses ++ learnt_clauses steps) s.hints s.clause ≡ true → is_regular (f.clauses ++ learnt_clauses steps) s.hints ≡ true → IsFresh (f.clauses ++ learnt_clauses steps) s.clause → is_empty s.clause ≡ false → IsKept f (steps ++ s ∷ [])
+pub kept_push : (f : Formula) (steps : List Step) (s : Step) → IsKept f steps → is_clause f.variables s.clause ≡ true → derives (f.clauses ++ learnt_clauses steps) s.hints s.clause ≡ true
+    → is_regular (f.clauses ++ learnt_clauses steps) s.hints ≡ true → IsFresh (f.clauses ++ learnt_clauses steps) s.clause → is_empty s.clause ≡ false → IsKept f (steps ++ s ∷ [])
 kept_push f steps s k clause derived regular fresh full = record {
   clauses =
-      let parts : f.clauses ++ learnt_clauses (steps ++ s ∷ []) ≡ (f.clauses ++ learnt_clauses steps) ++ s.clause ∷ [] = ap (λ (cs : List (List Literal)). f.clauses ++ cs) (learnt_clauses-push steps s) ∙ sym (append_assoc f.clauses (learnt_clauses steps) (s.clause ∷ [])) in
-      ap (are_clauses f.variables) parts ∙ list_all-append (is_clause f.variables) (f.clauses ++ learnt_clauses steps) (s.clause ∷ []) ∙ and_from (are_clauses f.variables (f.clauses ++ learnt_clauses steps)) (is_clause f.variables s.clause && true) k.clauses (and_from (is_clause f.variables s.clause) true clause refl);
+      let parts : f.clauses ++ learnt_clauses (steps ++ s ∷ []) ≡ (f.clauses ++ learnt_clauses steps) ++ s.clause
+      ∷ [] = ap (λ (cs : List (List Literal)). f.clauses ++ cs) (learnt_clauses-push steps s) ∙ sym (append_assoc f.clauses (learnt_clauses steps) (s.clause ∷ [])) in
+      ap (are_clauses f.variables) parts ∙ list_all-append (is_clause f.variables) (f.clauses ++ learnt_clauses steps) (s.clause ∷ [])
+      ∙ and_from (are_clauses f.variables (f.clauses ++ learnt_clauses steps)) (is_clause f.variables s.clause && true) k.clauses (and_from (is_clause f.variables s.clause) true clause refl);
   replays = replays_from-push f.clauses steps s ∙ and_from (replay f steps) (derives (f.clauses ++ learnt_clauses steps) s.hints s.clause) k.replays derived;
   fresh = fresh_push f.clauses steps s k.fresh (λ e. fresh);
   regular = regular_from-push f.clauses steps s ∙ and_from (is_regular_log f steps) (is_regular (f.clauses ++ learnt_clauses steps) s.hints) k.regular regular;
-  none_empty = list_all-append (λ (t : Step). not (is_empty t.clause)) steps (s ∷ []) ∙ and_from (has_no_empty steps) (not (is_empty s.clause) && true) k.none_empty (and_from (not (is_empty s.clause)) true (not_from_false (is_empty s.clause) full) refl);
+  none_empty = list_all-append (λ (t : Step). not (is_empty t.clause)) steps (s ∷ []) ∙ and_from (has_no_empty steps) (not (is_empty s.clause) && true) k.none_empty
+      (and_from (not (is_empty s.clause)) true (not_from_false (is_empty s.clause) full) refl);
 }
 
 -- a kept log is a proof
@@ -49,7 +53,8 @@ kept_proof f steps k =
     }
 
 -- and with the empty clause a refutation
-pub kept_refutes : (f : Formula) (steps : List Step) (s : Step) → IsKept f steps → derives (f.clauses ++ learnt_clauses steps) s.hints s.clause ≡ true → is_regular (f.clauses ++ learnt_clauses steps) s.hints ≡ true → s.clause ≡ [] → Refutes f (steps ++ s ∷ [])
+pub kept_refutes : (f : Formula) (steps : List Step) (s : Step) → IsKept f steps → derives (f.clauses ++ learnt_clauses steps) s.hints s.clause ≡ true
+    → is_regular (f.clauses ++ learnt_clauses steps) s.hints ≡ true → s.clause ≡ [] → Refutes f (steps ++ s ∷ [])
 kept_refutes f steps s k derived regular empty =
     let given = given_clauses f steps k in
     let once = clauses_once f.variables f.clauses given.0 in
@@ -60,11 +65,20 @@ kept_refutes f steps s k derived regular empty =
     let fresh = fresh_push f.clauses steps s k.fresh (λ e. absurd (false≢true (sym e ∙ ap is_empty empty))) in
     let true_all = follows f (steps ++ s ∷ []) once more replays in
     record {
-      proof = record { replays = replays; fresh = fresh; regular = regular_from-push f.clauses steps s ∙ and_from (is_regular_log f steps) (is_regular (f.clauses ++ learnt_clauses steps) s.hints) k.regular regular; follows = true_all; new = fresh_new_from f.clauses (steps ++ s ∷ []) once more fresh };
+      proof = record {
+        replays = replays;
+        fresh = fresh;
+        regular = regular_from-push f.clauses steps s
+            ∙ and_from (is_regular_log f steps) (is_regular (f.clauses ++ learnt_clauses steps) s.hints) k.regular regular;
+        follows = true_all;
+        new = fresh_new_from f.clauses
+            (steps ++ s ∷ []) once more fresh;
+      };
       ends = record { earlier = steps; last = s; parts = refl; empty = empty };
       unsatisfiable = λ bits h.
           let all = true_all bits h in
-          let last = (and_parts (list_all (makes_true bits) (learnt_clauses steps)) (makes_true bits s.clause && true) (sym (list_all-append (makes_true bits) (learnt_clauses steps) (s.clause ∷ [])) ∙ sym (ap (list_all (makes_true bits)) (learnt_clauses-push steps s)) ∙ all)).1 in
+          let last = (and_parts (list_all (makes_true bits) (learnt_clauses steps)) (makes_true bits s.clause && true)
+          (sym (list_all-append (makes_true bits) (learnt_clauses steps) (s.clause ∷ [])) ∙ sym (ap (list_all (makes_true bits)) (learnt_clauses-push steps s)) ∙ all)).1 in
           let this = (and_parts (makes_true bits s.clause) true last).0 in
           false≢true (sym (ap (makes_true bits) empty) ∙ this);
     }
@@ -95,7 +109,8 @@ steps_of-push (g ∷ gs) [] h c e = absurd (omega (arith, e))
 steps_of-push (g ∷ gs) (x ∷ xs) h c e = ap (λ (ss : List Step). record { clause = x; hints = g } ∷ ss) (steps_of-push gs xs h c (omega (arith, e)))
 
 -- the last chain and the last clause make the last step
-pub steps_moved : (hs : List (List Hint)) (cs : List (List Literal)) (h : List Hint) (c : List Literal) (steps : List Step) → length (hs ++ h ∷ []) ≡ length (cs ++ c ∷ []) → (length hs ≡ length cs) × (steps_of (hs ++ h ∷ []) (cs ++ c ∷ []) ++ reverse steps ≡ steps_of hs cs ++ reverse (steps ++ record { clause = c; hints = h } ∷ []))
+pub steps_moved : (hs : List (List Hint)) (cs : List (List Literal)) (h : List Hint) (c : List Literal) (steps : List Step) → length (hs ++ h ∷ []) ≡ length (cs ++ c ∷ [])
+    → (length hs ≡ length cs) × (steps_of (hs ++ h ∷ []) (cs ++ c ∷ []) ++ reverse steps ≡ steps_of hs cs ++ reverse (steps ++ record { clause = c; hints = h } ∷ []))
 steps_moved hs cs h c steps e =
     let n = length_push hs h in
     let m = length_push cs c in

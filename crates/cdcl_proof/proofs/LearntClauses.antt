@@ -1,5 +1,6 @@
 -- The learnt clause of a conflict: it is fresh, and a trail that stays sound with it.
-use Rattle.std.proofs.Common.{◌≡◌, ℕ, zero, suc, ◌+◌, ◌-◌, ◌<◌, ◌≤◌, Bool, true, false, not, ◌&&◌, ◌||◌, cond, List, [], ◌∷◌, ◌++◌, length, take, drop, map, eqb, leb, refl, sym, ◌∙◌, ap, subst, inl, inr, ◌⊎◌, arith, Option, Some, None, MatchOption, is_some, IsNone}
+use Rattle.std.proofs.Common.{◌≡◌, ℕ, zero, suc, ◌+◌, ◌-◌, ◌<◌, ◌≤◌, Bool, true, false, not, ◌&&◌, ◌||◌, cond, List, [], ◌∷◌, ◌++◌, length, take, drop, map, eqb, leb, refl, sym, ◌∙◌, ap, subst, inl}
+use Rattle.std.proofs.Common.{inr, ◌⊎◌, arith, Option, Some, None, MatchOption, is_some, IsNone}
 use Rattle.std.proofs.Math.Bool.{beq}
 use Rattle.std.specs.List.{list_any, filter}
 use Rattle.std.proofs.lemmas.List.{get_or-take, length-take, length-take-le, length-drop, get_or-drop, take-take, get_or_append_left, length_push}
@@ -43,7 +44,9 @@ holds-seen_negations seen (e ∷ es) l = go (is_seen_entry seen e) refl (same e.
     variable_is : same e.literal (negation l) ≡ true → e.literal.variable ≡ l.variable
     variable_is h = ap (λ (x : Literal). x.variable) (same-true e.literal (negation l) h)
 
-    go : (a : Bool) → is_seen_entry seen e ≡ a → (s : Bool) → same e.literal (negation l) ≡ s → holds (seen_negations seen es) l ≡ (is_seen seen l.variable && holds (literals es) (negation l)) → holds (map (λ (x : Entry). negation x.literal) (cond a (e ∷ filter (is_seen_entry seen) es) (filter (is_seen_entry seen) es))) l ≡ (is_seen seen l.variable && (s || holds (literals es) (negation l)))
+    go : (a : Bool) → is_seen_entry seen e ≡ a → (s : Bool) → same e.literal (negation l) ≡ s → holds (seen_negations seen es) l ≡ (is_seen seen l.variable && holds (literals es) (negation l))
+        → holds (map (λ (x : Entry). negation x.literal) (cond a (e ∷ filter (is_seen_entry seen) es) (filter (is_seen_entry seen) es))) l
+        ≡ (is_seen seen l.variable && (s || holds (literals es) (negation l)))
     go true p true q ih =
         let marked : is_seen seen l.variable ≡ true = subst (λ (v : ℕ). is_seen seen v ≡ true) (variable_is q) p in
         let one : same (negation e.literal) l ≡ true = same-negation e.literal l ∙ q in
@@ -68,9 +71,11 @@ once-seen_negations seen (e ∷ es) h =
     let parts = and_parts (not (mentions (literals es) e.literal.variable)) (is_once (literals es)) h in
     go (is_seen_entry seen e) (not-true (mentions (literals es) e.literal.variable) parts.0) (once-seen_negations seen es parts.1)
   where
-    go : (b : Bool) → mentions (literals es) e.literal.variable ≡ false → is_once (seen_negations seen es) ≡ true → is_once (map (λ (x : Entry). negation x.literal) (cond b (e ∷ filter (is_seen_entry seen) es) (filter (is_seen_entry seen) es))) ≡ true
+    go : (b : Bool) → mentions (literals es) e.literal.variable ≡ false → is_once (seen_negations seen es) ≡ true
+        → is_once (map (λ (x : Entry). negation x.literal) (cond b (e ∷ filter (is_seen_entry seen) es) (filter (is_seen_entry seen) es))) ≡ true
     go true absent ih = and_from (not (mentions (seen_negations seen es) e.literal.variable)) (is_once (seen_negations seen es))
-        (not_from_false (mentions (seen_negations seen es) e.literal.variable) (false_from_ne_true (mentions (seen_negations seen es) e.literal.variable) (λ m. both_ways (mentions (literals es) e.literal.variable) absent (mentions-seen_negations seen es e.literal.variable m)))) ih
+        (not_from_false (mentions (seen_negations seen es) e.literal.variable) (false_from_ne_true (mentions (seen_negations seen es) e.literal.variable)
+        (λ m. both_ways (mentions (literals es) e.literal.variable) absent (mentions-seen_negations seen es e.literal.variable m)))) ih
     go false absent ih = ih
 
 once_take : (n : ℕ) (es : List Entry) → is_once (literals es) ≡ true → is_once (literals (take n es)) ≡ true
@@ -152,7 +157,8 @@ record LastOf (xs : List Literal) (x : Literal) : Type 0 where
 last_more : (y : Literal) (xs : List Literal) (x : Literal) → LastOf xs x → LastOf (y ∷ xs) x
 last_more y xs x h = record { some = omega arith; last = last_cons y xs h.some ∙ h.last }
 
-last_seen : (seen : List Bool) (es : List Entry) (tip : ℕ) → tip < length es → is_seen_entry seen (entry_at es tip) ≡ true → ((k : ℕ) → tip < k → k < length es → is_seen_entry seen (entry_at es k) ≡ false) → LastOf (seen_negations seen es) (negation (entry_at es tip).literal)
+last_seen : (seen : List Bool) (es : List Entry) (tip : ℕ) → tip < length es → is_seen_entry seen (entry_at es tip) ≡ true
+    → ((k : ℕ) → tip < k → k < length es → is_seen_entry seen (entry_at es k) ≡ false) → LastOf (seen_negations seen es) (negation (entry_at es tip).literal)
 last_seen seen [] tip l m none = absurd (omega (arith, l))
 last_seen seen (e ∷ es) zero l m none = go (is_seen_entry seen e) m (none_seen seen es (λ k lk. none (suc k) (omega arith) (omega (arith, lk))))
   where
@@ -161,7 +167,8 @@ last_seen seen (e ∷ es) zero l m none = go (is_seen_entry seen e) m (none_seen
     go false p ih = absurd (false≢true p)
 last_seen seen (e ∷ es) (suc tip) l m none = go (is_seen_entry seen e) (last_seen seen es tip (omega (arith, l)) m (λ k low lk. none (suc k) (omega (arith, low)) (omega (arith, lk))))
   where
-    go : (b : Bool) → LastOf (seen_negations seen es) (negation (entry_at es tip).literal) → LastOf (map (λ (x : Entry). negation x.literal) (cond b (e ∷ filter (is_seen_entry seen) es) (filter (is_seen_entry seen) es))) (negation (entry_at es tip).literal)
+    go : (b : Bool) → LastOf (seen_negations seen es) (negation (entry_at es tip).literal)
+        → LastOf (map (λ (x : Entry). negation x.literal) (cond b (e ∷ filter (is_seen_entry seen) es) (filter (is_seen_entry seen) es))) (negation (entry_at es tip).literal)
     go true ih = last_more (negation e.literal) (seen_negations seen es) (negation (entry_at es tip).literal) ih
     go false ih = ih
 
@@ -194,7 +201,8 @@ two_free t (x ∷ xs) a b ha hb d fa fb =
     ]
 
 -- a trail stays sound with one more clause that is closed at its decisions
-pub sound_more : (variables : ℕ) (known : List (List Literal)) (c : List Literal) (es : List Entry) → IsSound variables known es → ((k : ℕ) → k < length es → (entry_at es k).reason ≡ None → is_closed_at (literals (take k es)) c ≡ true) → IsSound variables (known ++ c ∷ []) es
+pub sound_more : (variables : ℕ) (known : List (List Literal)) (c : List Literal) (es : List Entry) → IsSound variables known es
+    → ((k : ℕ) → k < length es → (entry_at es k).reason ≡ None → is_closed_at (literals (take k es)) c ≡ true) → IsSound variables (known ++ c ∷ []) es
 sound_more variables known c es sound closed k l =
     let s = sound k l in
     record { among = s.among; free = s.free; why = go (entry_at es k).reason refl s.why }
@@ -246,7 +254,9 @@ module _ (variables : ℕ) (known : List (List Literal)) (es : List Entry) (soun
       (all_from (λ l. holds (seen_negations seen es) l) (chain_of known hints) (λ l h. holds-seen_negations seen es l ∙ sym (resolving.marks l) ∙ h))
       (all_from (λ l. holds (chain_of known hints) l) (seen_negations seen es) (λ l h. resolving.marks l ∙ sym (holds-seen_negations seen es l) ∙ h)))
 
-  module _ (floor start place : ℕ) (one : count_seen seen (drop floor es) ≡ 1) (floor_in : floor < length es) (low : start ≤ place) (high : place ≤ floor) (above : (k : ℕ) → start ≤ k → k < floor → is_seen_entry seen (entry_at es k) ≡ false) (below : 0 < start → is_seen_entry seen (entry_at es (start - 1)) ≡ true) (decision : (entry_at es place).reason ≡ None) (before : NoDecision es start place) where
+  module _ (floor start place : ℕ) (one : count_seen seen (drop floor es) ≡ 1) (floor_in : floor < length es) (low : start ≤ place) (high : place ≤ floor)
+      (above : (k : ℕ) → start ≤ k → k < floor → is_seen_entry seen (entry_at es k) ≡ false) (below : 0 < start → is_seen_entry seen (entry_at es (start - 1)) ≡ true)
+      (decision : (entry_at es place).reason ≡ None) (before : NoDecision es start place) where
     top : OnlySeen seen (drop floor es)
     top = only_seen seen (drop floor es) one
 
@@ -325,7 +335,8 @@ module _ (variables : ℕ) (known : List (List Literal)) (es : List Entry) (soun
         let m_in : start - 1 < length es = omega (arith, early, low, high, floor_in) in
         let m_marked = below (omega (arith, early)) in
         let t = tip_above in
-        let apart_vars : (negation (entry_at es tip).literal).variable ≡ (negation (entry_at es (start - 1)).literal).variable → ⊥ = λ e. (let p : tip ≡ start - 1 = apart.apart tip (start - 1) tip_in m_in e in let q : ⊥ = omega (arith, p, t, low, high, early) in q) in
+        let apart_vars : (negation (entry_at es tip).literal).variable ≡ (negation (entry_at es (start - 1)).literal).variable
+        → ⊥ = λ e. (let p : tip ≡ start - 1 = apart.apart tip (start - 1) tip_in m_in e in let q : ⊥ = omega (arith, p, t, low, high, early) in q) in
         let two = two_free (literals (take k es)) (seen_negations seen es) (negation (entry_at es tip).literal) (negation (entry_at es (start - 1)).literal)
         (negated tip tip_in tip_marked) (negated (start - 1) m_in m_marked) apart_vars
         (not_from_false (mentions (literals (take k es)) (variable_at es tip)) (free_before variables es k tip apart (omega (arith, t, high, k_below)) tip_in))
@@ -369,5 +380,5 @@ module _ (variables : ℕ) (known : List (List Literal)) (es : List Entry) (soun
             let k_below : k < place = omega (arith, len, l) in
             let e = get_or-take place es k no_entry k_below in
             let at_k : (entry_at es k).reason ≡ None = ap (λ (x : Entry). x.reason) (sym e) ∙ none in
-            let front : take k (take place es) ≡ take k es = take-take k place es (omega (arith, k_below)) in
-            subst (λ (xs : List Entry). is_closed_at (literals xs) (seen_negations seen es) ≡ true) (sym front) (closed_below k k_below at_k)
+            let prefix : take k (take place es) ≡ take k es = take-take k place es (omega (arith, k_below)) in
+            subst (λ (xs : List Entry). is_closed_at (literals xs) (seen_negations seen es) ≡ true) (sym prefix) (closed_below k k_below at_k)

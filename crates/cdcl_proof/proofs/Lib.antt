@@ -7,7 +7,7 @@ pub mod Marking
 pub mod Resolution
 pub mod LearntClauses
 pub mod Keeping
-pub mod Rows
+pub mod StoredClauses
 pub mod Tables
 pub mod AddedClauses
 pub mod Covering

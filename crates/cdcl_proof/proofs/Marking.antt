@@ -68,14 +68,16 @@ count_seen-set_off variables seen v b (e ∷ es) low w m =
     ap (λ (x : Bool). cond x 1 0 + count_seen (set seen (v - 1) b) es) one ∙ ap (λ (n : ℕ). cond (is_seen_entry seen e) 1 0 + n) ih
 
 -- a new mark of an entry's variable counts one more
-pub count_seen-set_on : (variables : ℕ) (seen : List Bool) (v : ℕ) (es : List Entry) → 1 ≤ v → v ≤ length seen → is_seen seen v ≡ false → is_within variables (literals es) ≡ true → is_once (literals es) ≡ true → mentions (literals es) v ≡ true → count_seen (set seen (v - 1) true) es ≡ count_seen seen es + 1
+pub count_seen-set_on : (variables : ℕ) (seen : List Bool) (v : ℕ) (es : List Entry) → 1 ≤ v → v ≤ length seen → is_seen seen v ≡ false → is_within variables (literals es) ≡ true
+    → is_once (literals es) ≡ true → mentions (literals es) v ≡ true → count_seen (set seen (v - 1) true) es ≡ count_seen seen es + 1
 count_seen-set_on variables seen v [] low high un w o m = absurd (false≢true m)
 count_seen-set_on variables seen v (e ∷ es) low high un w o m =
     let parts = and_parts (is_among variables e.literal) (is_within variables (literals es)) w in
     let once = and_parts (not (mentions (literals es) e.literal.variable)) (is_once (literals es)) o in
     go parts (not-true (mentions (literals es) e.literal.variable) once.0) (is_on v e.literal) refl (λ there. count_seen-set_on variables seen v es low high un parts.1 once.1 there)
   where
-    go : (is_among variables e.literal ≡ true) × (is_within variables (literals es) ≡ true) → mentions (literals es) e.literal.variable ≡ false → (b : Bool) → is_on v e.literal ≡ b → (mentions (literals es) v ≡ true → count_seen (set seen (v - 1) true) es ≡ count_seen seen es + 1) → count_seen (set seen (v - 1) true) (e ∷ es) ≡ count_seen seen (e ∷ es) + 1
+    go : (is_among variables e.literal ≡ true) × (is_within variables (literals es) ≡ true) → mentions (literals es) e.literal.variable ≡ false → (b : Bool) → is_on v e.literal ≡ b
+        → (mentions (literals es) v ≡ true → count_seen (set seen (v - 1) true) es ≡ count_seen seen es + 1) → count_seen (set seen (v - 1) true) (e ∷ es) ≡ count_seen seen (e ∷ es) + 1
     go parts absent true at ih =
         let var : e.literal.variable ≡ v = eqb-true e.literal.variable v at in
         let new : is_seen_entry (set seen (v - 1) true) e ≡ true = subst (λ (x : ℕ). is_seen (set seen (v - 1) true) x ≡ true) (sym var) (seen-set_same seen v true low high) in
@@ -89,14 +91,16 @@ count_seen-set_on variables seen v (e ∷ es) low high un w o m =
         rw one (omega (arith, rest))
 
 -- a mark taken off counts one less
-pub count_seen-set_none : (variables : ℕ) (seen : List Bool) (v : ℕ) (es : List Entry) → 1 ≤ v → v ≤ length seen → is_seen seen v ≡ true → is_within variables (literals es) ≡ true → is_once (literals es) ≡ true → mentions (literals es) v ≡ true → count_seen (set seen (v - 1) false) es + 1 ≡ count_seen seen es
+pub count_seen-set_none : (variables : ℕ) (seen : List Bool) (v : ℕ) (es : List Entry) → 1 ≤ v → v ≤ length seen → is_seen seen v ≡ true → is_within variables (literals es) ≡ true
+    → is_once (literals es) ≡ true → mentions (literals es) v ≡ true → count_seen (set seen (v - 1) false) es + 1 ≡ count_seen seen es
 count_seen-set_none variables seen v [] low high un w o m = absurd (false≢true m)
 count_seen-set_none variables seen v (e ∷ es) low high un w o m =
     let parts = and_parts (is_among variables e.literal) (is_within variables (literals es)) w in
     let once = and_parts (not (mentions (literals es) e.literal.variable)) (is_once (literals es)) o in
     go parts (not-true (mentions (literals es) e.literal.variable) once.0) (is_on v e.literal) refl (λ there. count_seen-set_none variables seen v es low high un parts.1 once.1 there)
   where
-    go : (is_among variables e.literal ≡ true) × (is_within variables (literals es) ≡ true) → mentions (literals es) e.literal.variable ≡ false → (b : Bool) → is_on v e.literal ≡ b → (mentions (literals es) v ≡ true → count_seen (set seen (v - 1) false) es + 1 ≡ count_seen seen es) → count_seen (set seen (v - 1) false) (e ∷ es) + 1 ≡ count_seen seen (e ∷ es)
+    go : (is_among variables e.literal ≡ true) × (is_within variables (literals es) ≡ true) → mentions (literals es) e.literal.variable ≡ false → (b : Bool) → is_on v e.literal ≡ b
+        → (mentions (literals es) v ≡ true → count_seen (set seen (v - 1) false) es + 1 ≡ count_seen seen es) → count_seen (set seen (v - 1) false) (e ∷ es) + 1 ≡ count_seen seen (e ∷ es)
     go parts absent true at ih =
         let var : e.literal.variable ≡ v = eqb-true e.literal.variable v at in
         let new : is_seen_entry (set seen (v - 1) false) e ≡ false = subst (λ (x : ℕ). is_seen (set seen (v - 1) false) x ≡ false) (sym var) (seen-set_same seen v false low high) in
@@ -116,7 +120,8 @@ count_seen-mono variables old new (e ∷ es) w f =
     let parts = and_parts (is_among variables e.literal) (is_within variables (literals es)) w in
     go (is_seen_entry old e) refl (is_seen_entry new e) refl (f e.literal.variable (among_low variables e.literal parts.0)) (count_seen-mono variables old new es parts.1 f)
   where
-    go : (a : Bool) → is_seen_entry old e ≡ a → (b : Bool) → is_seen_entry new e ≡ b → (is_seen_entry old e ≡ true → is_seen_entry new e ≡ true) → count_seen old es ≤ count_seen new es → cond a 1 0 + count_seen old es ≤ cond b 1 0 + count_seen new es
+    go : (a : Bool) → is_seen_entry old e ≡ a → (b : Bool) → is_seen_entry new e ≡ b → (is_seen_entry old e ≡ true → is_seen_entry new e ≡ true) → count_seen old es ≤ count_seen new es
+        → cond a 1 0 + count_seen old es ≤ cond b 1 0 + count_seen new es
     go true p true q g ih = omega arith
     go true p false q g ih = absurd (false≢true (sym q ∙ g p))
     go false p true q g ih = omega arith
@@ -179,7 +184,8 @@ adds_other old seen pivot c i d l h e v low = go (eqb v pivot) refl
         or-none true = refl
         or-none false = refl
 
-pub adds_more : (old seen : List Bool) (pivot : ℕ) (c : List Literal) (i : ℕ) (d : Literal) → i < length c → AddsMarks old seen pivot (take i c) → ((get_or c i d).variable ≡ pivot → ⊥) → 1 ≤ (get_or c i d).variable → (get_or c i d).variable ≤ length seen → AddsMarks old (set seen ((get_or c i d).variable - 1) true) pivot (take (i + 1) c)
+pub adds_more : (old seen : List Bool) (pivot : ℕ) (c : List Literal) (i : ℕ) (d : Literal) → i < length c → AddsMarks old seen pivot (take i c) → ((get_or c i d).variable ≡ pivot → ⊥)
+    → 1 ≤ (get_or c i d).variable → (get_or c i d).variable ≤ length seen → AddsMarks old (set seen ((get_or c i d).variable - 1) true) pivot (take (i + 1) c)
 adds_more old seen pivot c i d l h apart xlow xhigh v low = go (eqb x.variable v) refl
   where
     x : Literal
@@ -229,7 +235,8 @@ resolves_from old new pivot c plow phigh h v low = go (eqb v pivot) refl
         h v low ∙ ap (λ (b : Bool). b || (not (eqb v pivot) && mentions c v)) other ∙ (let t : (is_seen old v || (not (eqb v pivot) && mentions c v)) ≡ (not (eqb v pivot) && (is_seen old v || mentions c v)) = rw at refl in t)
 
 -- the mark of an entry from the floor on is taken off
-pub unmark_count : (variables : ℕ) (seen : List Bool) (es : List Entry) (floor place : ℕ) → AreApart variables es → length seen ≡ variables → place < length es → floor ≤ place → is_seen_entry seen (entry_at es place) ≡ true → count_seen (set seen (variable_at es place - 1) false) (drop floor es) + 1 ≡ count_seen seen (drop floor es)
+pub unmark_count : (variables : ℕ) (seen : List Bool) (es : List Entry) (floor place : ℕ) → AreApart variables es → length seen ≡ variables → place < length es → floor ≤ place
+    → is_seen_entry seen (entry_at es place) ≡ true → count_seen (set seen (variable_at es place - 1) false) (drop floor es) + 1 ≡ count_seen seen (drop floor es)
 unmark_count variables seen es floor place apart len inside above marked =
     let tidy = apart_once variables es apart in
     let among = apart.among place inside in
@@ -266,10 +273,12 @@ resolves_off old pivot c plow phigh all = resolves_from old (set old (pivot - 1)
         rw here refl
 
 -- a mark of an earlier entry is not counted
-pub count_seen-before : (variables : ℕ) (seen : List Bool) (es : List Entry) (floor place : ℕ) → AreApart variables es → place < length es → place < floor → count_seen (set seen (variable_at es place - 1) false) (drop floor es) ≡ count_seen seen (drop floor es)
+pub count_seen-before : (variables : ℕ) (seen : List Bool) (es : List Entry) (floor place : ℕ) → AreApart variables es → place < length es → place < floor
+    → count_seen (set seen (variable_at es place - 1) false) (drop floor es) ≡ count_seen seen (drop floor es)
 count_seen-before variables seen es floor place apart inside below =
     let tidy = apart_once variables es apart in
-    count_seen-set_off variables seen (variable_at es place) false (drop floor es) (among_low variables (entry_at es place).literal (apart.among place inside)) (within_drop variables floor es tidy.1) (false_from_ne_true (is_after es floor (variable_at es place)) (λ m.
+    count_seen-set_off variables seen (variable_at es place) false (drop floor es) (among_low variables (entry_at es place).literal (apart.among place inside))
+    (within_drop variables floor es tidy.1) (false_from_ne_true (is_after es floor (variable_at es place)) (λ m.
     let r = entry_of_mentions (drop floor es) (variable_at es place) m in
     let n = length-drop floor es in
     let there : floor + r.0 < length es = omega (arith, n, r.1) in

@@ -19,7 +19,8 @@ regular_after-push known e [] h = and-true (avoids e (clause_at known h.clause))
     append_none [] = refl
     append_none (x ∷ xs) = ap (λ (ys : List Hint). x ∷ ys) (append_none xs)
 regular_after-push known e (g ∷ gs) h =
-    ap (λ (b : Bool). avoids e (clause_at known g.clause) && b) (regular_after-push known (e ++ g ∷ []) gs h ∙ ap (λ (x : List Hint). is_regular_after known (e ++ g ∷ []) gs && avoids x (clause_at known h.clause)) (append_assoc e (g ∷ []) gs))
+    ap (λ (b : Bool). avoids e (clause_at known g.clause) && b) (regular_after-push known (e ++ g ∷ []) gs h
+    ∙ ap (λ (x : List Hint). is_regular_after known (e ++ g ∷ []) gs && avoids x (clause_at known h.clause)) (append_assoc e (g ∷ []) gs))
     ∙ sym (and-assoc (avoids e (clause_at known g.clause)) (is_regular_after known (e ++ g ∷ []) gs) (avoids (e ++ (g ∷ gs)) (clause_at known h.clause)))
 
 -- one step more
@@ -30,7 +31,8 @@ regular_from-push known [] s = and-true (is_regular known s.hints) ∙ ap (λ (k
     append_none [] = refl
     append_none (x ∷ xs) = ap (λ (ys : List (List Literal)). x ∷ ys) (append_none xs)
 regular_from-push known (t ∷ ts) s =
-    ap (λ (b : Bool). is_regular known t.hints && b) (regular_from-push (known ++ t.clause ∷ []) ts s ∙ ap (λ (k : List (List Literal)). is_regular_from (known ++ t.clause ∷ []) ts && is_regular k s.hints) (append_assoc known (t.clause ∷ []) (learnt_clauses ts)))
+    ap (λ (b : Bool). is_regular known t.hints && b) (regular_from-push (known ++ t.clause ∷ []) ts s
+    ∙ ap (λ (k : List (List Literal)). is_regular_from (known ++ t.clause ∷ []) ts && is_regular k s.hints) (append_assoc known (t.clause ∷ []) (learnt_clauses ts)))
     ∙ sym (and-assoc (is_regular known t.hints) (is_regular_from (known ++ t.clause ∷ []) ts) (is_regular (known ++ (t.clause ∷ learnt_clauses ts)) s.hints))
 
 pub pivots_down : (es : List Entry) (place : ℕ) (hs : List Hint) → ArePivotsFrom es (place + 1) hs → ArePivotsFrom es place hs
@@ -42,7 +44,8 @@ pivots_push es place [] h p l e = ((place, omega arith, l, e), tt)
 pivots_push es place (g ∷ gs) h p l e = (p.0, pivots_push es place gs h p.1 l e)
 
 -- a variable of an entry up to the place is none of the pivots
-pub survives_from : (variables : ℕ) (es : List Entry) (place : ℕ) (hs : List Hint) (l : Literal) (m : ℕ) → AreApart variables es → ArePivotsFrom es (place + 1) hs → m ≤ place → m < length es → (entry_at es m).literal.variable ≡ l.variable → survives hs l ≡ true
+pub survives_from : (variables : ℕ) (es : List Entry) (place : ℕ) (hs : List Hint) (l : Literal) (m : ℕ) → AreApart variables es → ArePivotsFrom es (place + 1) hs → m ≤ place → m < length es
+    → (entry_at es m).literal.variable ≡ l.variable → survives hs l ≡ true
 survives_from variables es place [] l m apart p low inside e = refl
 survives_from variables es place (h ∷ hs) l m apart p low inside e =
     and_from (not (is_on h.pivot l)) (survives hs l)
@@ -66,6 +69,7 @@ pivots_above es low high (h ∷ hs) l p = go hs p
     go (g ∷ gs) p = ((p.0.0, omega (arith, l, p.0.1), p.0.2, p.0.3), go gs p.1)
 
 -- the reason of an entry at the place is regular after the hints so far
-pub regular_more : (known : List (List Literal)) (es : List Entry) (place : ℕ) (hs : List Hint) (h : Hint) → is_regular known hs ≡ true → HasPivotsFrom es (place + 1) hs → ((gs : List Hint) → ArePivotsFrom es (place + 1) gs → avoids gs (clause_at known h.clause) ≡ true) → is_regular known (hs ++ h ∷ []) ≡ true
+pub regular_more : (known : List (List Literal)) (es : List Entry) (place : ℕ) (hs : List Hint) (h : Hint) → is_regular known hs ≡ true → HasPivotsFrom es (place + 1) hs
+    → ((gs : List Hint) → ArePivotsFrom es (place + 1) gs → avoids gs (clause_at known h.clause) ≡ true) → is_regular known (hs ++ h ∷ []) ≡ true
 regular_more known es place [] h r p a = refl
 regular_more known es place (g ∷ gs) h r p a = regular_after-push known [] gs h ∙ and_from (is_regular_after known [] gs) (avoids gs (clause_at known h.clause)) r (a gs p)

@@ -1,5 +1,6 @@
 -- Conflict analysis, resolution by resolution.
-use Rattle.std.proofs.Common.{◌≡◌, ℕ, zero, suc, ◌+◌, ◌-◌, ◌<◌, ◌≤◌, Bool, true, false, not, ◌&&◌, ◌||◌, cond, List, [], ◌∷◌, ◌++◌, length, get_or, take, drop, set, eqb, leb, refl, sym, ◌∙◌, ap, subst, inl, inr, ◌⊎◌, arith, Option, Some, MatchOption}
+use Rattle.std.proofs.Common.{◌≡◌, ℕ, zero, suc, ◌+◌, ◌-◌, ◌<◌, ◌≤◌, Bool, true, false, not, ◌&&◌, ◌||◌, cond, List, [], ◌∷◌, ◌++◌, length, get_or, take, drop, set, eqb, leb, refl, sym, ◌∙◌, ap}
+use Rattle.std.proofs.Common.{subst, inl, inr, ◌⊎◌, arith, Option, Some, MatchOption}
 use Rattle.std.proofs.Math.Bool.{beq}
 use Rattle.std.specs.List.{list_all, list_any}
 use Rattle.std.proofs.lemmas.List.{get_or-take, length-take, length-drop, get_or-drop}
@@ -54,7 +55,8 @@ mentions-resolvent p a b v = list_any-append (is_on v) (without p a) (without p 
     spread true x y = refl
     spread false x y = refl
 
-    joined : mentions (without p a) v ≡ (not (eqb v p) && mentions a v) → mentions (without p b) v ≡ (not (eqb v p) && mentions b v) → (mentions (without p a) v || mentions (without p b) v) ≡ (not (eqb v p) && (mentions a v || mentions b v))
+    joined : mentions (without p a) v ≡ (not (eqb v p) && mentions a v) → mentions (without p b) v ≡ (not (eqb v p) && mentions b v) → (mentions (without p a) v || mentions (without p b) v)
+        ≡ (not (eqb v p) && (mentions a v || mentions b v))
     joined e f = rw (e, f) (spread (not (eqb v p)) (mentions a v) (mentions b v))
 
 -- two literals whose negations a set holds, of one variable, are one
@@ -63,7 +65,8 @@ falsified_same s once k l hk hl e =
     sym (negation-negation k) ∙ ap negation (once_same s (negation k) (negation l) once hk hl e) ∙ negation-negation l
 
 -- marks that agree with the variables of false literals represent them
-represents_from : (s : List Literal) → is_once s ≡ true → (r : List Literal) (seen : List Bool) → ((l : Literal) → holds r l ≡ true → holds s (negation l) ≡ true) → ((l : Literal) → holds s (negation l) ≡ true → is_seen seen l.variable ≡ mentions r l.variable) → Represents seen s r
+represents_from : (s : List Literal) → is_once s ≡ true → (r : List Literal) (seen : List Bool) → ((l : Literal) → holds r l ≡ true → holds s (negation l) ≡ true)
+    → ((l : Literal) → holds s (negation l) ≡ true → is_seen seen l.variable ≡ mentions r l.variable) → Represents seen s r
 represents_from s once r seen fals marks l = go (holds s (negation l)) refl
   where
     and-false : (b : Bool) → (b && false) ≡ false
@@ -101,7 +104,8 @@ represented_marks s r seen rep l h = go (is_seen seen l.variable) refl
         both_ways (is_seen seen l.variable) e (subst (λ (v : ℕ). is_seen seen v ≡ true) k.2 marked)))
 
 -- the marked ones of the level are all before the place
-pub place_above : (variables : ℕ) (known : List (List Literal)) (es : List Entry) (floor keep place count : ℕ) (hints : List Hint) (seen : List Bool) → IsAnalysis variables known es floor keep place count hints seen → keep < count → floor + keep + 1 ≤ place
+pub place_above : (variables : ℕ) (known : List (List Literal)) (es : List Entry) (floor keep place count : ℕ) (hints : List Hint) (seen : List Bool)
+    → IsAnalysis variables known es floor keep place count hints seen → keep < count → floor + keep + 1 ≤ place
 place_above variables known es floor keep place count hints seen a more =
     let bound = count_between seen es floor place a.none in
     let counted = a.counted in
@@ -151,7 +155,8 @@ module _ (variables : ℕ) (known : List (List Literal)) (es : List Entry) (soun
     of_reason : (l : Literal) → holds (clause_at known reason) l ≡ true → (l ≡ (entry_at es place).literal) ⊎ ((k : ℕ) × (k < place) × (k < length es) × ((entry_at es k).literal ≡ negation l))
     of_reason l h =
         let x = (entry_at es place).literal in
-        elim (or_cases (same l x) (holds (literals (take place es)) (negation l)) (all_at (λ m. same m x || holds (literals (take place es)) (negation m)) (clause_at known reason) l implies.others h)) as (λ _. (l ≡ x) ⊎ ((k : ℕ) × (k < place) × (k < length es) × ((entry_at es k).literal ≡ negation l))) [
+        elim (or_cases (same l x) (holds (literals (take place es)) (negation l)) (all_at (λ m. same m x || holds (literals (take place es)) (negation m))
+        (clause_at known reason) l implies.others h)) as (λ _. (l ≡ x) ⊎ ((k : ℕ) × (k < place) × (k < length es) × ((entry_at es k).literal ≡ negation l))) [
           | inl one ↦ inl (same-true l x one)
           | inr before ↦ inr (holds_take es place (negation l) before)
         ]
@@ -254,7 +259,8 @@ module _ (variables : ℕ) (known : List (List Literal)) (es : List Entry) (soun
         ]
 
     -- one resolution more, with the reason of a marked entry
-    pub resolving_more : (hints : List Hint) (old new : List Bool) → is_seen_entry old (entry_at es place) ≡ true → IsResolving known es hints old → HasPivotsFrom es (place + 1) hints → Resolves (variable_at es place) (clause_at known reason) old new → IsResolving known es (hints ++ record { clause = reason; pivot = variable_at es place } ∷ []) new
+    pub resolving_more : (hints : List Hint) (old new : List Bool) → is_seen_entry old (entry_at es place) ≡ true → IsResolving known es hints old → HasPivotsFrom es (place + 1) hints
+        → Resolves (variable_at es place) (clause_at known reason) old new → IsResolving known es (hints ++ record { clause = reason; pivot = variable_at es place } ∷ []) new
     resolving_more hints old new marked resolving pivots marks =
         let h : Hint = record { clause = reason; pivot = variable_at es place } in
         record {
@@ -264,13 +270,19 @@ module _ (variables : ℕ) (known : List (List Literal)) (es : List Entry) (soun
         }
 
     -- a reason that adds no literal
-    pub subsumed : (hints : List Hint) (old : List Bool) → length old ≡ variables → is_seen_entry old (entry_at es place) ≡ true → list_all (is_seen_literal old) (clause_at known reason) ≡ true → IsResolving known es hints old → HasPivotsFrom es (place + 1) hints → IsResolving known es (hints ++ record { clause = reason; pivot = variable_at es place } ∷ []) (set old (variable_at es place - 1) false)
+    pub subsumed : (hints : List Hint) (old : List Bool) → length old ≡ variables → is_seen_entry old (entry_at es place) ≡ true → list_all (is_seen_literal old) (clause_at known reason) ≡ true
+        → IsResolving known es hints old → HasPivotsFrom es (place + 1) hints → IsResolving known es (hints ++ record { clause = reason; pivot = variable_at es place } ∷ [])
+        (set old (variable_at es place - 1) false)
     subsumed hints old len marked all resolving pivots =
         let among = apart.among place inside in
         let high = among_high variables (entry_at es place).literal among in
-        resolving_more hints old (set old (variable_at es place - 1) false) marked resolving pivots (resolves_off old (variable_at es place) (clause_at known reason) (among_low variables (entry_at es place).literal among) (omega (arith, high, len)) all)
+        resolving_more hints old (set old (variable_at es place - 1) false) marked resolving pivots
+        (resolves_off old (variable_at es place) (clause_at known reason) (among_low variables (entry_at es place).literal among) (omega (arith, high, len)) all)
 
-    pub resolve_step : (floor keep count result : ℕ) (hints : List Hint) (old new : List Bool) → is_seen_entry old (entry_at es place) ≡ true → IsAnalysis variables known es floor keep (place + 1) count hints old → keep < count → Resolves (variable_at es place) (clause_at known reason) old new → result ≡ count_seen new (drop floor es) → count ≤ result + 1 → length new ≡ length old → IsAnalysis variables known es floor keep place result (hints ++ record { clause = reason; pivot = variable_at es place } ∷ []) new
+    pub resolve_step : (floor keep count result : ℕ) (hints : List Hint) (old new : List Bool) → is_seen_entry old (entry_at es place) ≡ true
+        → IsAnalysis variables known es floor keep (place + 1) count hints old → keep < count → Resolves (variable_at es place) (clause_at known reason) old new → result
+        ≡ count_seen new (drop floor es) → count ≤ result + 1 → length new ≡ length old → IsAnalysis variables known es floor keep place result
+        (hints ++ record { clause = reason; pivot = variable_at es place } ∷ []) new
     resolve_step floor keep count result hints old new marked a more marks counted fewer len = record {
       resolving = resolving_more hints old new marked a.resolving a.pivots marks;
       counted = counted;
@@ -319,7 +331,8 @@ module _ (variables : ℕ) (known : List (List Literal)) (es : List Entry) (soun
         fals : (l : Literal) → holds (clause_at known conflict) l ≡ true → holds (literals es) (negation l) ≡ true
         fals l h = all_at (λ m. holds (literals es) (negation m)) (clause_at known conflict) l false_clause.1 h
 
-    pub analysis_start : (floor keep count : ℕ) → IsLevel known (literals (take floor es)) keep → count ≡ count_seen seen (drop floor es) → length seen ≡ variables → IsAnalysis variables known es floor keep (length es) count (record { clause = conflict; pivot = 0 } ∷ []) seen
+    pub analysis_start : (floor keep count : ℕ) → IsLevel known (literals (take floor es)) keep → count ≡ count_seen seen (drop floor es) → length seen ≡ variables
+        → IsAnalysis variables known es floor keep (length es) count (record { clause = conflict; pivot = 0 } ∷ []) seen
     analysis_start floor keep count level counted len = record {
       resolving = record {
         chain = and_from (is_number known conflict) true false_clause.0 refl;
@@ -344,7 +357,8 @@ module _ (variables : ℕ) (known : List (List Literal)) (es : List Entry) (soun
             omega (arith, one, counted, lv.0)
 
 -- an entry that is not marked is passed over
-pub analysis_down : (variables : ℕ) (known : List (List Literal)) (es : List Entry) (floor keep place count : ℕ) (hints : List Hint) (seen : List Bool) → place < length es → is_seen_entry seen (entry_at es place) ≡ false → IsAnalysis variables known es floor keep (place + 1) count hints seen → IsAnalysis variables known es floor keep place count hints seen
+pub analysis_down : (variables : ℕ) (known : List (List Literal)) (es : List Entry) (floor keep place count : ℕ) (hints : List Hint) (seen : List Bool) → place < length es
+    → is_seen_entry seen (entry_at es place) ≡ false → IsAnalysis variables known es floor keep (place + 1) count hints seen → IsAnalysis variables known es floor keep place count hints seen
 analysis_down variables known es floor keep place count hints seen inside unmarked a = record {
   resolving = a.resolving;
   counted = a.counted;

@@ -39,7 +39,8 @@ module _ (variables : ℕ) (s : List Literal) (bits : List Bool) (total : IsTota
       let b = and_parts (is_closed_at s c) (is_closed s cs) closed in
       and_from (makes_true bits c) (list_all (makes_true bits) cs) (made_true c a.0 b.0) (all_true cs a.1 b.1)
 
-pub closed_satisfies : (f : Formula) (more : List (List Literal)) (s : List Literal) (bits : List Bool) → are_clauses f.variables (f.clauses ++ more) ≡ true → is_closed s (f.clauses ++ more) ≡ true → IsTotal f.variables s → length bits ≡ f.variables → ((l : Literal) → holds s l ≡ true → is_true bits l ≡ true) → satisfies bits f ≡ true
+pub closed_satisfies : (f : Formula) (more : List (List Literal)) (s : List Literal) (bits : List Bool) → are_clauses f.variables (f.clauses ++ more) ≡ true → is_closed s (f.clauses ++ more)
+    ≡ true → IsTotal f.variables s → length bits ≡ f.variables → ((l : Literal) → holds s l ≡ true → is_true bits l ≡ true) → satisfies bits f ≡ true
 closed_satisfies f more s bits clauses closed total len agree =
     let a = and_parts (are_clauses f.variables f.clauses) (are_clauses f.variables more) (sym (list_all-append (is_clause f.variables) f.clauses more) ∙ clauses) in
     let b = and_parts (is_closed s f.clauses) (is_closed s more) (sym (list_all-append (is_closed_at s) f.clauses more) ∙ closed) in

@@ -119,8 +119,8 @@ scan_two s c i d u l h f =
     let one : count_free s (x ∷ []) ≡ 1 = rw f refl in
     let whole = count_free-append s (take (i + 1) c) (drop (i + 1) c) in
     let parts : count_free s (take (i + 1) c ++ drop (i + 1) c) ≡ count_free s c = ap (count_free s) (take-append-drop (i + 1) c) in
-    let front : count_free s (take (i + 1) c) ≡ count_free s (take i c ++ x ∷ []) = ap (count_free s) more in
-    let two : 2 ≤ count_free s c = omega (arith, whole, parts, front, count, one, h.3) in
+    let prefix : count_free s (take (i + 1) c) ≡ count_free s (take i c ++ x ∷ []) = ap (count_free s) more in
+    let two : 2 ≤ count_free s c = omega (arith, whole, parts, prefix, count, one, h.3) in
     or_right (list_any (holds s) c) (leb 2 (count_free s c)) (le-leb 2 (count_free s c) two)
 
 pub scan_true : (s c : List Literal) (i : ℕ) (d : Literal) → i < length c → holds s (get_or c i d) ≡ true → is_closed_at s c ≡ true

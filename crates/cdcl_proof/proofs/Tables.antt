@@ -1,4 +1,4 @@
--- Tables: a row in the place of another one, and a watch that moves.
+-- Tables: a stored clause in the place of another one, and a watch that moves.
 -- what an index past the end reads
 use Rattle.std.proofs.Common.{◌≡◌, ◌≢◌, ℕ, zero, suc, ◌+◌, ◌*◌, ◌-◌, ◌<◌, ◌≤◌, Bool, true, false, cond, List, [], ◌∷◌, ◌++◌, length, get_or, set, swap, take, eqb, refl, sym, ◌∙◌, ap, subst, inl, inr, ◌⊎◌, arith}
 use Rattle.std.specs.List.{swap_remove}
@@ -7,12 +7,12 @@ use Rattle.std.proofs.lemmas.List.Edits.{length-swap}
 use Rattle.std.proofs.lemmas.List.Sums.{sum_by-swap_remove, sum_by_push, get_or-le-sum_by}
 use Rattle.std.proofs.lemmas.Bool.{cases_eq, eq-eqb, ne_eqb}
 use Rattle.resolution_proof.specs.declared.literal.Literal.{Literal}
-use Rattle.cdcl_proof.specs.declared.row.Watch.{Watch}
+use Rattle.cdcl_proof.specs.declared.stored_clause.Watch.{Watch}
 use Rattle.resolution_proof.specs.Literal.{holds}
-use Rattle.cdcl_proof.specs.Watching.{IsRow, AreRows, AreWatched, ArePermuted, HaveBlockers, AreShort, count_of, watch_count, row_at, list_at, watch_at, literal_at, no_watch, slot_of}
+use Rattle.cdcl_proof.specs.Watching.{IsStored, AreStored, AreWatched, ArePermuted, HaveBlockers, AreShort, count_of, watch_count, stored_clause_at, list_at, watch_at, literal_at, no_watch, slot_of}
 use Rattle.resolution_proof.proofs.Sets.{literal_ext}
 use Rattle.cdcl_proof.proofs.Resolution.{cases_le}
-use Rattle.cdcl_proof.proofs.Rows.{swap_first, swap_other, holds-swap, row_swap}
+use Rattle.cdcl_proof.proofs.StoredClauses.{swap_first, swap_other, holds-swap, stored_clause_swap}
 
 pub reads_default : {A : Type 0} (xs : List A) (i : ℕ) (d : A) → length xs ≤ i → get_or xs i d ≡ d
 reads_default [] i d h = refl
@@ -54,7 +54,7 @@ watch_count_short [] s h = refl
 watch_count_short (a ∷ []) s h = refl
 watch_count_short (a ∷ b ∷ rest) s h = absurd (omega (arith, h))
 
--- a row that is watched is one of the list of its first or second literal
+-- a stored clause that is watched is one of the list of its first or second literal
 pub watch_count_where : (ordered : List Literal) (s : ℕ) → 1 ≤ watch_count ordered s → (slot_of (literal_at ordered 0) ≡ s) ⊎ (slot_of (literal_at ordered 1) ≡ s)
 watch_count_where ordered s h =
     let long = watch_count_long ordered s h in
@@ -70,10 +70,10 @@ watch_count_where ordered s h =
       ]
     ]
 
-pub row_inside : (rows : List (List Literal)) (i : ℕ) → 1 ≤ length (row_at rows i) → i < length rows
-row_inside rows i h =
-    elim (cases_le (length rows) i) as (λ _. i < length rows) [
-      | inl out ↦ let e : length (row_at rows i) ≡ 0 = ap length (reads_default rows i [] out) in absurd (omega (arith, h, e))
+pub stored_clause_inside : (stored_clauses : List (List Literal)) (i : ℕ) → 1 ≤ length (stored_clause_at stored_clauses i) → i < length stored_clauses
+stored_clause_inside stored_clauses i h =
+    elim (cases_le (length stored_clauses) i) as (λ _. i < length stored_clauses) [
+      | inl out ↦ let e : length (stored_clause_at stored_clauses i) ≡ 0 = ap length (reads_default stored_clauses i [] out) in absurd (omega (arith, h, e))
       | inr within ↦ within
     ]
 
@@ -88,8 +88,9 @@ pub of_other : (i : ℕ) (w : Watch) → w.clause ≢ i → of_clause i w ≡ 0
 of_other i w e = rw (ne_eqb w.clause i e) refl
 
 -- a watch that stands in a list is counted there
-pub watch_is_counted : (rows : List (List Literal)) (lists : List (List Watch)) (s k : ℕ) → AreWatched rows lists → s < length lists → k < length (list_at lists s) → 1 ≤ watch_count (row_at rows (watch_at (list_at lists s) k).clause) s
-watch_is_counted rows lists s k watched ls lk =
+pub watch_is_counted : (stored_clauses : List (List Literal)) (lists : List (List Watch)) (s k : ℕ) → AreWatched stored_clauses lists → s < length lists → k < length (list_at lists s)
+    → 1 ≤ watch_count (stored_clause_at stored_clauses (watch_at (list_at lists s) k).clause) s
+watch_is_counted stored_clauses lists s k watched ls lk =
     let w = watch_at (list_at lists s) k in
     let at = get_or-le-sum_by (λ (v : Watch). cond (eqb v.clause w.clause) 1 0) (list_at lists s) k no_watch lk in
     let one : of_clause w.clause w ≡ 1 = of_itself w in
@@ -146,7 +147,8 @@ length-swap_remove xs i li =
     omega (arith, li, len, n)
 
 -- a list from which the last was taken off again is the old one
-pub push_pop : (lists : List (List Watch)) (a a2 b : ℕ) (w : Watch) (p q r d e f : List Watch) → a < length lists → a2 ≡ a → p ≡ get_or lists a d ++ w ∷ [] → q ≡ get_or (set lists a p) b e → r ≡ take (length (get_or (set (set lists a p) b q) a2 f) - 1) (get_or (set (set lists a p) b q) a2 f) → set (set (set lists a p) b q) a2 r ≡ lists
+pub push_pop : (lists : List (List Watch)) (a a2 b : ℕ) (w : Watch) (p q r d e f : List Watch) → a < length lists → a2 ≡ a → p ≡ get_or lists a d ++ w ∷ [] → q ≡ get_or (set lists a p) b e → r
+    ≡ take (length (get_or (set (set lists a p) b q) a2 f) - 1) (get_or (set (set lists a p) b q) a2 f) → set (set (set lists a p) b q) a2 r ≡ lists
 push_pop lists a a2 b w p q r d e f la same ep eq er =
     let whole : set (set lists a p) b q ≡ set lists a p = ap (set (set lists a p) b) eq ∙ set-get_or (set lists a p) b e in
     let top : get_or (set (set lists a p) b q) a2 f ≡ get_or lists a d ++ w ∷ [] = ap (λ (x : ℕ). get_or (set (set lists a p) b q) x f) same ∙ ap (λ (ls : List (List Watch)). get_or ls a f) whole ∙ get_or-set_same lists a p f la ∙ ep in
@@ -154,38 +156,38 @@ push_pop lists a a2 b w p q r d e f la same ep eq er =
     let off : r ≡ get_or lists a d = er ∙ ap (λ (xs : List Watch). take (length xs - 1) xs) top ∙ take_at (get_or lists a d) (w ∷ []) (length (get_or lists a d ++ w ∷ []) - 1) (omega (arith, len)) in
     ap (λ (x : ℕ). set (set (set lists a p) b q) x r) same ∙ ap (λ (ls : List (List Watch)). set ls a r) whole ∙ set-set lists a p r ∙ ap (set lists a) off ∙ set-get_or lists a d
 
--- a row in the place of another one of the same literals
-module _ (clauses rows : List (List Literal)) (i : ℕ) (new : List Literal) (i_in : i < length rows) where
-  pub row_new : row_at (set rows i new) i ≡ new
-  row_new = get_or-set_same rows i new [] i_in
+-- a stored clause in the place of another one of the same literals
+module _ (clauses stored_clauses : List (List Literal)) (i : ℕ) (new : List Literal) (i_in : i < length stored_clauses) where
+  pub stored_clause_new : stored_clause_at (set stored_clauses i new) i ≡ new
+  stored_clause_new = get_or-set_same stored_clauses i new [] i_in
 
-  pub row_other : (j : ℕ) → j ≢ i → row_at (set rows i new) j ≡ row_at rows j
-  row_other j e = get_or-set_other rows i j new [] e
+  pub stored_clause_other : (j : ℕ) → j ≢ i → stored_clause_at (set stored_clauses i new) j ≡ stored_clause_at stored_clauses j
+  stored_clause_other j e = get_or-set_other stored_clauses i j new [] e
 
-  pub same_rows : (P : ℕ → List Literal → Type 0) → P i new → ((j : ℕ) → P j (row_at rows j)) → (j : ℕ) → P j (row_at (set rows i new) j)
-  same_rows P here there j =
-      elim (cases_eq j i) as (λ _. P j (row_at (set rows i new) j)) [
-        | inl e ↦ subst (λ (m : ℕ). P m (row_at (set rows i new) m)) (sym e) (subst (λ (r : List Literal). P i r) (sym row_new) here)
-        | inr e ↦ subst (λ (r : List Literal). P j r) (sym (row_other j e)) (there j)
+  pub same_stored_clauses : (P : ℕ → List Literal → Type 0) → P i new → ((j : ℕ) → P j (stored_clause_at stored_clauses j)) → (j : ℕ) → P j (stored_clause_at (set stored_clauses i new) j)
+  same_stored_clauses P here there j =
+      elim (cases_eq j i) as (λ _. P j (stored_clause_at (set stored_clauses i new) j)) [
+        | inl e ↦ subst (λ (m : ℕ). P m (stored_clause_at (set stored_clauses i new) m)) (sym e) (subst (λ (r : List Literal). P i r) (sym stored_clause_new) here)
+        | inr e ↦ subst (λ (r : List Literal). P j r) (sym (stored_clause_other j e)) (there j)
       ]
 
-  pub permuted_set : ((l : Literal) → holds new l ≡ holds (row_at rows i) l) → ArePermuted rows (set rows i new)
-  permuted_set h j l = same_rows (λ m r. holds r l ≡ holds (row_at rows m) l) (h l) (λ m. refl) j
+  pub permuted_set : ((l : Literal) → holds new l ≡ holds (stored_clause_at stored_clauses i) l) → ArePermuted stored_clauses (set stored_clauses i new)
+  permuted_set h j l = same_stored_clauses (λ m r. holds r l ≡ holds (stored_clause_at stored_clauses m) l) (h l) (λ m. refl) j
 
-  pub length_set : length new ≡ length (row_at rows i) → (j : ℕ) → length (row_at (set rows i new) j) ≡ length (row_at rows j)
-  length_set h j = same_rows (λ m r. length r ≡ length (row_at rows m)) h (λ m. refl) j
+  pub length_set : length new ≡ length (stored_clause_at stored_clauses i) → (j : ℕ) → length (stored_clause_at (set stored_clauses i new) j) ≡ length (stored_clause_at stored_clauses j)
+  length_set h j = same_stored_clauses (λ m r. length r ≡ length (stored_clause_at stored_clauses m)) h (λ m. refl) j
 
-  pub rows_set : AreRows clauses rows → IsRow (row_at clauses i) new → AreRows clauses (set rows i new)
-  rows_set are here = record {
-    count = length-set rows i new ∙ are.count;
-    each = λ j lj. same_rows (λ m r. m < length clauses → IsRow (row_at clauses m) r) (λ _. here) (λ m lm. are.each m lm) j lj;
+  pub stored_clauses_set : AreStored clauses stored_clauses → IsStored (stored_clause_at clauses i) new → AreStored clauses (set stored_clauses i new)
+  stored_clauses_set are here = record {
+    count = length-set stored_clauses i new ∙ are.count;
+    each = λ j lj. same_stored_clauses (λ m r. m < length clauses → IsStored (stored_clause_at clauses m) r) (λ _. here) (λ m lm. are.each m lm) j lj;
   }
 
-  pub short_set : (short : List ℕ) → AreShort rows short → length new ≡ length (row_at rows i) → AreShort (set rows i new) short
+  pub short_set : (short : List ℕ) → AreShort stored_clauses short → length new ≡ length (stored_clause_at stored_clauses i) → AreShort (set stored_clauses i new) short
   short_set short are len = record {
-    each = λ j lj sj. are.each j (let n = length-set rows i new in omega (arith, n, lj)) (let e = length_set len j in omega (arith, e, sj));
+    each = λ j lj sj. are.each j (let n = length-set stored_clauses i new in omega (arith, n, lj)) (let e = length_set len j in omega (arith, e, sj));
     only = λ j lj.
-        let n = length-set rows i new in
+        let n = length-set stored_clauses i new in
         let o = are.only j lj in
         let e = length_set len (get_or short j 0) in
         (omega (arith, n, o.0), omega (arith, e, o.1));
@@ -197,22 +199,25 @@ moved_lists lists t v s place = set (set lists t (list_at lists t ++ v ∷ [])) 
 
 -- the watch at a place names a literal of its clause
 abbrev pub Blocks : List (List Literal) → List Watch → ℕ → Type 0
-Blocks rows xs n = holds (row_at rows (watch_at xs n).clause) (watch_at xs n).blocker ≡ true
+Blocks stored_clauses xs n = holds (stored_clause_at stored_clauses (watch_at xs n).clause) (watch_at xs n).blocker ≡ true
 
 -- what is asked of a table's lists
-pub record Keeps (clauses rows : List (List Literal)) (lists : List (List Watch)) (short : List ℕ) : Type 0 where
-  pub are_rows : AreRows clauses rows
-  pub are_watched : AreWatched rows lists
-  pub have_blockers : HaveBlockers rows lists
-  pub are_short : AreShort rows short
+pub record Keeps (clauses stored_clauses : List (List Literal)) (lists : List (List Watch)) (short : List ℕ) : Type 0 where
+  pub are_stored : AreStored clauses stored_clauses
+  pub are_watched : AreWatched stored_clauses lists
+  pub have_blockers : HaveBlockers stored_clauses lists
+  pub are_short : AreShort stored_clauses short
 
 -- a watch that moves
-module _ (rows : List (List Literal)) (lists : List (List Watch)) (watched : AreWatched rows lists) (blockers : HaveBlockers rows lists) (s place first k : ℕ) (s_in : s < length lists) (place_in : place < length (list_at lists s)) (first_in : first < 2) (k_low : 2 ≤ k) (ordered : List Literal) (w v : Watch) (is_w : watch_at (list_at lists s) place ≡ w) (is_row : row_at rows w.clause ≡ ordered) (k_in : k < length ordered) (is_slot : slot_of (literal_at ordered first) ≡ s) (t : ℕ) (is_target : slot_of (literal_at ordered k) ≡ t) (t_in : t < length lists) (apart : t ≢ s) (same_clause : v.clause ≡ w.clause) (blocks : holds ordered v.blocker ≡ true) where
+module _ (stored_clauses : List (List Literal)) (lists : List (List Watch)) (watched : AreWatched stored_clauses lists) (blockers : HaveBlockers stored_clauses lists) (s place first k : ℕ)
+    (s_in : s < length lists) (place_in : place < length (list_at lists s)) (first_in : first < 2) (k_low : 2 ≤ k) (ordered : List Literal) (w v : Watch)
+    (is_w : watch_at (list_at lists s) place ≡ w) (is_stored : stored_clause_at stored_clauses w.clause ≡ ordered) (k_in : k < length ordered) (is_slot : slot_of (literal_at ordered first) ≡ s)
+    (t : ℕ) (is_target : slot_of (literal_at ordered k) ≡ t) (t_in : t < length lists) (apart : t ≢ s) (same_clause : v.clause ≡ w.clause) (blocks : holds ordered v.blocker ≡ true) where
   one_in : first < length ordered
   one_in = omega (arith, first_in, k_low, k_in)
 
-  clause_in : w.clause < length rows
-  clause_in = row_inside rows w.clause (let e : length (row_at rows w.clause) ≡ length ordered = ap length is_row in omega (arith, e, k_in))
+  clause_in : w.clause < length stored_clauses
+  clause_in = stored_clause_inside stored_clauses w.clause (let e : length (stored_clause_at stored_clauses w.clause) ≡ length ordered = ap length is_stored in omega (arith, e, k_in))
 
   at_from : list_at (moved_lists lists t v s place) s ≡ swap_remove (list_at lists s) place no_watch
   at_from = get_or-set_same (set lists t (list_at lists t ++ v ∷ [])) s (swap_remove (list_at lists s) place no_watch) [] (let n = length-set lists t (list_at lists t ++ v ∷ []) in omega (arith, n, s_in))
@@ -254,7 +259,8 @@ module _ (rows : List (List Literal)) (lists : List (List Watch)) (watched : Are
     count_rest not_s not_t = ap (count_of j) (at_else m not_s ∙ at_rest m not_t)
 
     -- the count of a clause whose count changes by these parts
-    counted : (old new of_w of_v at_k at_first : ℕ) → count_of j (list_at lists m) ≡ old → of_clause j w ≡ of_w → of_clause j v ≡ of_v → (m ≡ s → old ≡ new + of_w) → (m ≢ s → m ≡ t → new ≡ old + of_v) → (m ≢ s → m ≢ t → new ≡ old) → count_of j the_list ≡ new
+    counted : (old new of_w of_v at_k at_first : ℕ) → count_of j (list_at lists m) ≡ old → of_clause j w ≡ of_w → of_clause j v ≡ of_v → (m ≡ s → old ≡ new + of_w)
+        → (m ≢ s → m ≡ t → new ≡ old + of_v) → (m ≢ s → m ≢ t → new ≡ old) → count_of j the_list ≡ new
     counted old new of_w of_v at_k at_first is_old is_w_count is_v_count from to rest =
         elim (cases_eq m s) as (λ _. count_of j the_list ≡ new) [
           | inl e ↦ let a = count_from e in let b = from e in omega (arith, a, b, is_old, is_w_count)
@@ -264,12 +270,14 @@ module _ (rows : List (List Literal)) (lists : List (List Watch)) (watched : Are
           ]
         ]
 
-    counts : count_of j the_list ≡ watch_count (row_at (set rows w.clause (swap ordered first k)) j) m
+    counts : count_of j the_list ≡ watch_count (stored_clause_at (set stored_clauses w.clause (swap ordered first k)) j) m
     counts =
-        elim (cases_eq j w.clause) as (λ _. count_of j the_list ≡ watch_count (row_at (set rows w.clause (swap ordered first k)) j) m) [
+        elim (cases_eq j w.clause) as (λ _. count_of j the_list ≡ watch_count (stored_clause_at (set stored_clauses w.clause (swap ordered first k)) j) m) [
           | inl here ↦
-              let want : watch_count (row_at (set rows w.clause (swap ordered first k)) j) m ≡ watch_count (swap ordered first k) m = ap (λ (r : List Literal). watch_count r m) (ap (λ (q : ℕ). row_at (set rows w.clause (swap ordered first k)) q) here ∙ get_or-set_same rows w.clause (swap ordered first k) [] clause_in) in
-              let old : count_of j (list_at lists m) ≡ watch_count ordered m = watched j m lm ∙ ap (λ (r : List Literal). watch_count r m) (ap (row_at rows) here ∙ is_row) in
+              let want : watch_count (stored_clause_at (set stored_clauses w.clause (swap ordered first k)) j) m
+              ≡ watch_count (swap ordered first k) m = ap (λ (r : List Literal). watch_count r m)
+              (ap (λ (q : ℕ). stored_clause_at (set stored_clauses w.clause (swap ordered first k)) q) here ∙ get_or-set_same stored_clauses w.clause (swap ordered first k) [] clause_in) in
+              let old : count_of j (list_at lists m) ≡ watch_count ordered m = watched j m lm ∙ ap (λ (r : List Literal). watch_count r m) (ap (stored_clause_at stored_clauses) here ∙ is_stored) in
               let wv : of_clause j v ≡ 1 = ap (λ (q : ℕ). of_clause q v) (here ∙ sym same_clause) ∙ of_itself v in
               let ww : of_clause j w ≡ 1 = ap (λ (q : ℕ). of_clause q w) here ∙ of_itself w in
               let sum = wanted_new m in
@@ -279,57 +287,60 @@ module _ (rows : List (List Literal)) (lists : List (List Watch)) (watched : Are
               (λ ne nt. let a = at_other (literal_at ordered k) m (λ h. nt (sym h ∙ is_target)) in let b = at_other (literal_at ordered first) m (λ h. ne (sym h ∙ is_slot)) in omega (arith, sum, a, b))
               ∙ sym want
           | inr there ↦
-              let want : watch_count (row_at (set rows w.clause (swap ordered first k)) j) m ≡ watch_count (row_at rows j) m = ap (λ (r : List Literal). watch_count r m) (get_or-set_other rows w.clause j (swap ordered first k) [] there) in
+              let want : watch_count (stored_clause_at (set stored_clauses w.clause (swap ordered first k)) j) m
+              ≡ watch_count (stored_clause_at stored_clauses j) m = ap (λ (r : List Literal). watch_count r m) (get_or-set_other stored_clauses w.clause j (swap ordered first k) [] there) in
               let wv : of_clause j v ≡ 0 = of_other j v (λ e. there (sym e ∙ same_clause)) in
               let ww : of_clause j w ≡ 0 = of_other j w (λ e. there (sym e)) in
-              counted (watch_count (row_at rows j) m) (watch_count (row_at rows j) m) 0 0 0 0 (watched j m lm) ww wv (λ e. omega arith) (λ ne e. omega arith) (λ ne nt. refl) ∙ sym want
+              counted (watch_count (stored_clause_at stored_clauses j) m) (watch_count (stored_clause_at stored_clauses j) m) 0 0 0 0 (watched j m lm) ww wv (λ e. omega arith) (λ ne e. omega arith) (λ ne nt. refl) ∙ sym want
         ]
 
-  permuted : ArePermuted rows (set rows w.clause (swap ordered first k))
-  permuted = permuted_set rows rows w.clause (swap ordered first k) clause_in (λ l. holds-swap ordered first k one_in k_in l ∙ ap (λ (r : List Literal). holds r l) (sym is_row))
+  permuted : ArePermuted stored_clauses (set stored_clauses w.clause (swap ordered first k))
+  permuted = permuted_set stored_clauses stored_clauses w.clause (swap ordered first k) clause_in (λ l. holds-swap ordered first k one_in k_in l ∙ ap (λ (r : List Literal). holds r l) (sym is_stored))
 
   -- a watch of the new lists is one of the old ones or the new one
-  blocked : (m n : ℕ) → m < length lists → n < length (list_at (moved_lists lists t v s place) m) → holds (row_at rows (watch_at (list_at (moved_lists lists t v s place) m) n).clause) (watch_at (list_at (moved_lists lists t v s place) m) n).blocker ≡ true
+  blocked : (m n : ℕ) → m < length lists → n < length (list_at (moved_lists lists t v s place) m)
+      → holds (stored_clause_at stored_clauses (watch_at (list_at (moved_lists lists t v s place) m) n).clause) (watch_at (list_at (moved_lists lists t v s place) m) n).blocker ≡ true
   blocked m n lm ln =
-      elim (cases_eq m s) as (λ _. Blocks rows (list_at (moved_lists lists t v s place) m) n) [
+      elim (cases_eq m s) as (λ _. Blocks stored_clauses (list_at (moved_lists lists t v s place) m) n) [
         | inl e ↦
             let is : list_at (moved_lists lists t v s place) m ≡ swap_remove (list_at lists s) place no_watch = ap (λ (q : ℕ). list_at (moved_lists lists t v s place) q) e ∙ at_from in
-            subst (λ (xs : List Watch). Blocks rows xs n) (sym is)
+            subst (λ (xs : List Watch). Blocks stored_clauses xs n) (sym is)
             (let r = swap_remove_from (list_at lists s) place n place_in (subst (λ (xs : List Watch). n < length xs) is ln) in
-            subst (λ (q : Watch). holds (row_at rows q.clause) q.blocker ≡ true) (sym r.2) (blockers s r.0 s_in r.1))
-        | inr not_s ↦ elim (cases_eq m t) as (λ _. Blocks rows (list_at (moved_lists lists t v s place) m) n) [
+            subst (λ (q : Watch). holds (stored_clause_at stored_clauses q.clause) q.blocker ≡ true) (sym r.2) (blockers s r.0 s_in r.1))
+        | inr not_s ↦ elim (cases_eq m t) as (λ _. Blocks stored_clauses (list_at (moved_lists lists t v s place) m) n) [
           | inl e ↦
               let is : list_at (moved_lists lists t v s place) m ≡ list_at lists t ++ v ∷ [] = at_else m not_s ∙ ap (λ (q : ℕ). list_at (set lists t (list_at lists t ++ v ∷ [])) q) e ∙ at_to in
-              subst (λ (xs : List Watch). Blocks rows xs n) (sym is) (pushed (subst (λ (xs : List Watch). n < length xs) is ln))
+              subst (λ (xs : List Watch). Blocks stored_clauses xs n) (sym is) (pushed (subst (λ (xs : List Watch). n < length xs) is ln))
           | inr not_t ↦
               let is : list_at (moved_lists lists t v s place) m ≡ list_at lists m = at_else m not_s ∙ at_rest m not_t in
-              subst (λ (xs : List Watch). Blocks rows xs n) (sym is) (blockers m n lm (subst (λ (xs : List Watch). n < length xs) is ln))
+              subst (λ (xs : List Watch). Blocks stored_clauses xs n) (sym is) (blockers m n lm (subst (λ (xs : List Watch). n < length xs) is ln))
         ]
       ]
     where
-      pushed : n < length (list_at lists t ++ v ∷ []) → holds (row_at rows (watch_at (list_at lists t ++ v ∷ []) n).clause) (watch_at (list_at lists t ++ v ∷ []) n).blocker ≡ true
+      pushed : n < length (list_at lists t ++ v ∷ []) → holds (stored_clause_at stored_clauses (watch_at (list_at lists t ++ v ∷ []) n).clause) (watch_at (list_at lists t ++ v ∷ []) n).blocker ≡ true
       pushed l =
           let len = length_push (list_at lists t) v in
-          elim (cases_eq n (length (list_at lists t))) as (λ _. Blocks rows (list_at lists t ++ v ∷ []) n) [
+          elim (cases_eq n (length (list_at lists t))) as (λ _. Blocks stored_clauses (list_at lists t ++ v ∷ []) n) [
             | inl last ↦
                 let is : watch_at (list_at lists t ++ v ∷ []) n ≡ v = get_or_push (list_at lists t) v no_watch n (sym last) in
-                subst (λ (q : Watch). holds (row_at rows q.clause) q.blocker ≡ true) (sym is)
-                (subst (λ (r : List Literal). holds r v.blocker ≡ true) (sym (ap (row_at rows) same_clause ∙ is_row)) blocks)
+                subst (λ (q : Watch). holds (stored_clause_at stored_clauses q.clause) q.blocker ≡ true) (sym is)
+                (subst (λ (r : List Literal). holds r v.blocker ≡ true) (sym (ap (stored_clause_at stored_clauses) same_clause ∙ is_stored)) blocks)
             | inr before ↦
                 let low : n < length (list_at lists t) = omega (arith, len, l, before) in
                 let is : watch_at (list_at lists t ++ v ∷ []) n ≡ watch_at (list_at lists t) n = get_or_append_left (list_at lists t) (v ∷ []) no_watch n low in
-                subst (λ (q : Watch). holds (row_at rows q.clause) q.blocker ≡ true) (sym is) (blockers t n t_in low)
+                subst (λ (q : Watch). holds (stored_clause_at stored_clauses q.clause) q.blocker ≡ true) (sym is) (blockers t n t_in low)
           ]
 
-  pub table_moved : (clauses : List (List Literal)) (short : List ℕ) → AreRows clauses rows → AreShort rows short → Keeps clauses (set rows w.clause (swap ordered first k)) (moved_lists lists t v s place) short
-  table_moved clauses short are_rows are_short =
+  pub table_moved : (clauses : List (List Literal)) (short : List ℕ) → AreStored clauses stored_clauses → AreShort stored_clauses short
+      → Keeps clauses (set stored_clauses w.clause (swap ordered first k)) (moved_lists lists t v s place) short
+  table_moved clauses short are_stored are_short =
       let n = length-set lists t (list_at lists t ++ v ∷ []) in
       let n2 = length-set (set lists t (list_at lists t ++ v ∷ [])) s (swap_remove (list_at lists s) place no_watch) in
-      let here : w.clause < length clauses = let c = are_rows.count in omega (arith, c, clause_in) in
-      let old : IsRow (row_at clauses w.clause) ordered = subst (λ (r : List Literal). IsRow (row_at clauses w.clause) r) is_row (are_rows.each w.clause here) in
+      let here : w.clause < length clauses = let c = are_stored.count in omega (arith, c, clause_in) in
+      let old : IsStored (stored_clause_at clauses w.clause) ordered = subst (λ (r : List Literal). IsStored (stored_clause_at clauses w.clause) r) is_stored (are_stored.each w.clause here) in
       record {
-        are_rows = rows_set clauses rows w.clause (swap ordered first k) clause_in are_rows (row_swap (row_at clauses w.clause) ordered first k one_in k_in old);
+        are_stored = stored_clauses_set clauses stored_clauses w.clause (swap ordered first k) clause_in are_stored (stored_clause_swap (stored_clause_at clauses w.clause) ordered first k one_in k_in old);
         are_watched = λ j m lm. counts j m (omega (arith, n, n2, lm));
         have_blockers = λ m q lm lq. permuted (watch_at (list_at (moved_lists lists t v s place) m) q).clause (watch_at (list_at (moved_lists lists t v s place) m) q).blocker ∙ blocked m q (omega (arith, n, n2, lm)) lq;
-        are_short = short_set clauses rows w.clause (swap ordered first k) clause_in short are_short (length-swap ordered first k ∙ ap length (sym is_row));
+        are_short = short_set clauses stored_clauses w.clause (swap ordered first k) clause_in short are_short (length-swap ordered first k ∙ ap length (sym is_stored));
       }

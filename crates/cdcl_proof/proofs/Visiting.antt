@@ -1,4 +1,4 @@
--- A visit of a watch.
+-- What a visit of a watch leaves: the stored clause is satisfied, gives a unit, is false, or is watched elsewhere.
 use Rattle.std.proofs.Common.{Global, ◌≡◌, ℕ, zero, suc, ◌+◌, ◌<◌, ◌≤◌, true, false, cond, eqb, List, [], ◌∷◌, length, get_or, set, swap, take, refl, sym, ◌∙◌, ap, subst, inl, inr, ◌⊎◌, arith}
 use Rattle.std.specs.List.{swap_remove}
 use Rattle.std.proofs.lemmas.List.{get_or_read, get_or-take}
@@ -7,7 +7,7 @@ use Rattle.std.proofs.lemmas.Bool.{cases_eq, false_from_ne_true, both_ways}
 use Rattle.std.specs.declared.vec.Vec.{Vec}
 use Rattle.resolution_proof.specs.declared.clause.Clause.{Clause}
 use Rattle.resolution_proof.specs.declared.literal.Literal.{Literal}
-use Rattle.cdcl_proof.specs.declared.row.Watch.{Watch}
+use Rattle.cdcl_proof.specs.declared.stored_clause.Watch.{Watch}
 use Rattle.cdcl_proof.specs.declared.table.Table.{Table}
 use Rattle.cdcl_proof.specs.declared.trail.Entry.{Entry}
 use Rattle.cdcl_proof.specs.declared.watcher.Watcher.{Watcher}
@@ -16,39 +16,40 @@ use Rattle.resolution_proof.specs.Clause.{is_among, is_within}
 use Rattle.cdcl_proof.specs.Trail.{literals, entry_at, no_entry}
 use Rattle.cdcl_proof.specs.Table.{IsTable}
 use Rattle.cdcl_proof.specs.Watcher.{IsProgress, IsWatching}
-use Rattle.cdcl_proof.specs.Watching.{Propagates, watch_count, count_of, AreVisited, AreCovered, IsCovered, ArePermuted, HasSameClauses, is_satisfied, row_at, list_at, watch_at, literal_at, no_watch, slot_of}
+use Rattle.cdcl_proof.specs.Watching.{Propagates, watch_count, count_of, AreVisited, AreCovered, IsCovered, ArePermuted, HasSameClauses, is_satisfied, stored_clause_at, list_at, watch_at, literal_at, no_watch, slot_of}
 use Rattle.resolution_proof.proofs.Sets.{negation-negation, all_from, among_high}
 use Rattle.cdcl_proof.proofs.Entries.{holds_entry}
 use Rattle.cdcl_proof.proofs.Resolution.{holds_take}
 use Rattle.cdcl_proof.proofs.LearntClauses.{holds_before}
-use Rattle.cdcl_proof.proofs.Rows.{holds-swap}
-use Rattle.cdcl_proof.proofs.Tables.{slot_same, of_other, at_slot, at_same, watch_count_by, watch_count_long, watch_count_where, watch_is_counted, row_inside, same_rows, permuted_set, swap_remove_before}
-use Rattle.cdcl_proof.proofs.AddedClauses.{bit_small, among_row}
-use Rattle.cdcl_proof.proofs.Covering.{propagates_then, take_holds, kept_holds, satisfied_more, satisfied_row, covered_swap}
+use Rattle.cdcl_proof.proofs.StoredClauses.{holds-swap}
+use Rattle.cdcl_proof.proofs.Tables.{slot_same, of_other, at_slot, at_same, watch_count_by, watch_count_long, watch_count_where, watch_is_counted, stored_clause_inside, same_stored_clauses, permuted_set, swap_remove_before}
+use Rattle.cdcl_proof.proofs.AddedClauses.{bit_small, among_stored_clause}
+use Rattle.cdcl_proof.proofs.Covering.{propagates_then, take_holds, kept_holds, satisfied_more, satisfied_stored_clause, covered_swap}
 
--- what is known of a watch of a list and of its row
+-- what is known of a watch of a list and of its stored clause
 pub record Visits (t : Table) (slot : ℕ) (w : Watch) (ordered : List Literal) : Type 0 where
-  pub clause_in : w.clause < length t.rows.items
-  pub is_row : row_at t.rows.items w.clause ≡ ordered
+  pub clause_in : w.clause < length t.stored_clauses.items
+  pub is_stored : stored_clause_at t.stored_clauses.items w.clause ≡ ordered
   pub long : 2 ≤ length ordered
   pub watched : (slot_of (literal_at ordered 0) ≡ slot) ⊎ (slot_of (literal_at ordered 1) ≡ slot)
   pub within : is_within t.variables ordered ≡ true
   pub blocks : holds ordered w.blocker ≡ true
 
-pub visits : (t : Table) → IsTable t → (slot place : ℕ) (w : Watch) (ordered again : List Literal) → slot < length t.lists.items → place < length (list_at t.lists.items slot) → w ≡ watch_at (list_at t.lists.items slot) place → ordered ≡ again → again ≡ get_or t.rows.items w.clause again → Visits t slot w ordered
+pub visits : (t : Table) → IsTable t → (slot place : ℕ) (w : Watch) (ordered again : List Literal) → slot < length t.lists.items → place < length (list_at t.lists.items slot) → w
+    ≡ watch_at (list_at t.lists.items slot) place → ordered ≡ again → again ≡ get_or t.stored_clauses.items w.clause again → Visits t slot w ordered
 visits t table slot place w ordered again ls lp ew er ea =
-    let is_wanted = subst (λ (v : Watch). 1 ≤ watch_count (row_at t.rows.items v.clause) slot) (sym ew) (watch_is_counted t.rows.items t.lists.items slot place table.watched ls lp) in
-    let long = watch_count_long (row_at t.rows.items w.clause) slot is_wanted in
-    let clause_in = row_inside t.rows.items w.clause (omega (arith, long)) in
-    let is_row : row_at t.rows.items w.clause ≡ ordered = sym (er ∙ get_or_read t.rows.items w.clause again clause_in ea []) in
-    let blocks = subst (λ (v : Watch). holds (row_at t.rows.items v.clause) v.blocker ≡ true) (sym ew) (table.blockers slot place ls lp) in
+    let is_wanted = subst (λ (v : Watch). 1 ≤ watch_count (stored_clause_at t.stored_clauses.items v.clause) slot) (sym ew) (watch_is_counted t.stored_clauses.items t.lists.items slot place table.watched ls lp) in
+    let long = watch_count_long (stored_clause_at t.stored_clauses.items w.clause) slot is_wanted in
+    let clause_in = stored_clause_inside t.stored_clauses.items w.clause (omega (arith, long)) in
+    let is_stored : stored_clause_at t.stored_clauses.items w.clause ≡ ordered = sym (er ∙ get_or_read t.stored_clauses.items w.clause again clause_in ea []) in
+    let blocks = subst (λ (v : Watch). holds (stored_clause_at t.stored_clauses.items v.clause) v.blocker ≡ true) (sym ew) (table.blockers slot place ls lp) in
     record {
       clause_in = clause_in;
-      is_row = is_row;
-      long = subst (λ (r : List Literal). 2 ≤ length r) is_row long;
-      watched = subst (λ (r : List Literal). (slot_of (literal_at r 0) ≡ slot) ⊎ (slot_of (literal_at r 1) ≡ slot)) is_row (watch_count_where (row_at t.rows.items w.clause) slot is_wanted);
-      within = all_from (is_among t.variables) ordered (λ l h. among_row t table w.clause l (subst (λ (r : List Literal). holds r l ≡ true) (sym is_row) h));
-      blocks = subst (λ (r : List Literal). holds r w.blocker ≡ true) is_row blocks;
+      is_stored = is_stored;
+      long = subst (λ (r : List Literal). 2 ≤ length r) is_stored long;
+      watched = subst (λ (r : List Literal). (slot_of (literal_at r 0) ≡ slot) ⊎ (slot_of (literal_at r 1) ≡ slot)) is_stored (watch_count_where (stored_clause_at t.stored_clauses.items w.clause) slot is_wanted);
+      within = all_from (is_among t.variables) ordered (λ l h. among_stored_clause t table w.clause l (subst (λ (r : List Literal). holds r l ≡ true) (sym is_stored) h));
+      blocks = subst (λ (r : List Literal). holds r w.blocker ≡ true) is_stored blocks;
     }
 
 -- the literal that a list watches is false once the negation is true
@@ -58,48 +59,57 @@ watched_false es head l lh e =
     subst (λ (x : Literal). holds (literals es) x ≡ true) (sym (ap negation same_one ∙ negation-negation (entry_at es head).literal)) (holds_entry es head lh)
 
 -- a watch moves to a literal that is not false
-module _ (rows : List (List Literal)) (i first k : ℕ) (i_in : i < length rows) (f2 : first < 2) (k2 : 2 ≤ k) (lk : k < length (row_at rows i)) where
-  permuted_swap : (l : Literal) → holds (swap (row_at rows i) first k) l ≡ holds (row_at rows i) l
-  permuted_swap l = holds-swap (row_at rows i) first k (omega (arith, f2, k2, lk)) lk l
+module _ (stored_clauses : List (List Literal)) (i first k : ℕ) (i_in : i < length stored_clauses) (f2 : first < 2) (k2 : 2 ≤ k) (lk : k < length (stored_clause_at stored_clauses i)) where
+  permuted_swap : (l : Literal) → holds (swap (stored_clause_at stored_clauses i) first k) l ≡ holds (stored_clause_at stored_clauses i) l
+  permuted_swap l = holds-swap (stored_clause_at stored_clauses i) first k (omega (arith, f2, k2, lk)) lk l
 
-  pub moved_permuted : ArePermuted rows (set rows i (swap (row_at rows i) first k))
-  moved_permuted = permuted_set rows rows i (swap (row_at rows i) first k) i_in permuted_swap
+  pub moved_permuted : ArePermuted stored_clauses (set stored_clauses i (swap (stored_clause_at stored_clauses i) first k))
+  moved_permuted = permuted_set stored_clauses stored_clauses i (swap (stored_clause_at stored_clauses i) first k) i_in permuted_swap
 
-  covered_moved : (before s : List Literal) → holds before (negation (literal_at (row_at rows i) k)) ≡ false → AreCovered before s rows → AreCovered before s (set rows i (swap (row_at rows i) first k))
-  covered_moved before s not_false c = same_rows rows rows i (swap (row_at rows i) first k) i_in (λ m r. IsCovered before s r) (covered_swap before s (row_at rows i) first k f2 k2 lk not_false (λ l h. permuted_swap l ∙ h) (c i)) c
+  covered_moved : (before s : List Literal) → holds before (negation (literal_at (stored_clause_at stored_clauses i) k)) ≡ false → AreCovered before s stored_clauses
+      → AreCovered before s (set stored_clauses i (swap (stored_clause_at stored_clauses i) first k))
+  covered_moved before s not_false c = same_stored_clauses stored_clauses stored_clauses i (swap (stored_clause_at stored_clauses i) first k) i_in (λ m r. IsCovered before s r)
+      (covered_swap before s (stored_clause_at stored_clauses i) first k f2 k2 lk not_false (λ l h. permuted_swap l ∙ h) (c i)) c
 
-  pub progress_moved : (short : List ℕ) (es : List Entry) (head : ℕ) (marks : List ℕ) (short_head base : ℕ) → holds (literals es) (negation (literal_at (row_at rows i) k)) ≡ false → IsProgress rows short es head marks short_head base → IsProgress (set rows i (swap (row_at rows i) first k)) short es head marks short_head base
+  pub progress_moved : (short : List ℕ) (es : List Entry) (head : ℕ) (marks : List ℕ) (short_head base : ℕ) → holds (literals es) (negation (literal_at (stored_clause_at stored_clauses i) k))
+      ≡ false → IsProgress stored_clauses short es head marks short_head base → IsProgress (set stored_clauses i (swap (stored_clause_at stored_clauses i) first k)) short es head marks short_head base
   progress_moved short es head marks short_head base not_false p = record {
     head_in = p.head_in;
     covered = covered_moved (literals (take head es)) (literals es) (not_before head) p.covered;
     marked = record { sorted = p.marked.sorted; below = p.marked.below; covered = λ j l. covered_moved (literals (take (get_or marks j 0) es)) (literals (take (get_or marks j 0) es)) (not_before (get_or marks j 0)) (p.marked.covered j l) };
     short_head_in = p.short_head_in;
     base_in = p.base_in;
-    short_true = λ j l. satisfied_row (literals (take base es)) (row_at rows (get_or short j 0)) (row_at (set rows i (swap (row_at rows i) first k)) (get_or short j 0)) (λ x h. moved_permuted (get_or short j 0) x ∙ h) (p.short_true j l);
+    short_true = λ j l. satisfied_stored_clause (literals (take base es)) (stored_clause_at stored_clauses (get_or short j 0))
+        (stored_clause_at (set stored_clauses i (swap (stored_clause_at stored_clauses i) first k)) (get_or short j 0)) (λ x h. moved_permuted (get_or short j 0) x ∙ h) (p.short_true j l);
   }
     where
-      not_before : (n : ℕ) → holds (literals (take n es)) (negation (literal_at (row_at rows i) k)) ≡ false
-      not_before n = false_from_ne_true (holds (literals (take n es)) (negation (literal_at (row_at rows i) k))) (λ h. both_ways (holds (literals es) (negation (literal_at (row_at rows i) k))) not_false (take_holds es n (negation (literal_at (row_at rows i) k)) h))
+      not_before : (n : ℕ) → holds (literals (take n es)) (negation (literal_at (stored_clause_at stored_clauses i) k)) ≡ false
+      not_before n = false_from_ne_true (holds (literals (take n es)) (negation (literal_at (stored_clause_at stored_clauses i) k)))
+          (λ h. both_ways (holds (literals es) (negation (literal_at (stored_clause_at stored_clauses i) k))) not_false
+          (take_holds es n (negation (literal_at (stored_clause_at stored_clauses i) k)) h))
 
 -- what was read stays satisfied
-pub visited_stays : (old new : List Entry) (rows rows2 : List (List Literal)) (list list2 : List Watch) (place : ℕ) → take (length old) new ≡ old → rows2 ≡ rows → HasSameClauses list list2 → AreVisited (literals old) rows list place → is_satisfied (literals new) (row_at rows (watch_at list place).clause) ≡ true → AreVisited (literals new) rows2 list2 (place + 1)
-visited_stays old new rows rows2 list list2 place kept er el v here k lk =
-    rw (er, el.same k) (elim (cases_eq k place) as (λ _. is_satisfied (literals new) (row_at rows (watch_at list k).clause) ≡ true) [
-      | inl e ↦ subst (λ (x : ℕ). is_satisfied (literals new) (row_at rows (watch_at list x).clause) ≡ true) (sym e) here
-      | inr ne ↦ satisfied_more (literals old) (literals new) (row_at rows (watch_at list k).clause) (λ l h. kept_holds old new l kept h) (v k (omega (arith, lk, ne)))
+pub visited_stays : (old new : List Entry) (stored_clauses rows2 : List (List Literal)) (list list2 : List Watch) (place : ℕ) → take (length old) new ≡ old → rows2 ≡ stored_clauses
+    → HasSameClauses list list2 → AreVisited (literals old) stored_clauses list place → is_satisfied (literals new) (stored_clause_at stored_clauses (watch_at list place).clause) ≡ true
+    → AreVisited (literals new) rows2 list2 (place + 1)
+visited_stays old new stored_clauses rows2 list list2 place kept er el v here k lk =
+    rw (er, el.same k) (elim (cases_eq k place) as (λ _. is_satisfied (literals new) (stored_clause_at stored_clauses (watch_at list k).clause) ≡ true) [
+      | inl e ↦ subst (λ (x : ℕ). is_satisfied (literals new) (stored_clause_at stored_clauses (watch_at list x).clause) ≡ true) (sym e) here
+      | inr ne ↦ satisfied_more (literals old) (literals new) (stored_clause_at stored_clauses (watch_at list k).clause) (λ l h. kept_holds old new l kept h) (v k (omega (arith, lk, ne)))
     ])
 
-pub visited_moved : (old new : List Entry) (rows rows2 : List (List Literal)) (list list2 : List Watch) (place : ℕ) → take (length old) new ≡ old → ArePermuted rows rows2 → list2 ≡ swap_remove list place no_watch → place < length list → AreVisited (literals old) rows list place → AreVisited (literals new) rows2 list2 place
-visited_moved old new rows rows2 list list2 place kept permuted el inside v k lk =
+pub visited_moved : (old new : List Entry) (stored_clauses rows2 : List (List Literal)) (list list2 : List Watch) (place : ℕ) → take (length old) new ≡ old → ArePermuted stored_clauses rows2
+    → list2 ≡ swap_remove list place no_watch → place < length list → AreVisited (literals old) stored_clauses list place → AreVisited (literals new) rows2 list2 place
+visited_moved old new stored_clauses rows2 list list2 place kept permuted el inside v k lk =
     let at : watch_at list2 k ≡ watch_at list k = ap (λ (x : List Watch). watch_at x k) el ∙ swap_remove_before list place k inside lk in
-    let more = satisfied_more (literals old) (literals new) (row_at rows (watch_at list k).clause) (λ l h. kept_holds old new l kept h) (v k lk) in
-    let other = satisfied_row (literals new) (row_at rows (watch_at list k).clause) (row_at rows2 (watch_at list k).clause) (λ l h. permuted (watch_at list k).clause l ∙ h) more in
-    subst (λ (x : Watch). is_satisfied (literals new) (row_at rows2 x.clause) ≡ true) (sym at) other
+    let more = satisfied_more (literals old) (literals new) (stored_clause_at stored_clauses (watch_at list k).clause) (λ l h. kept_holds old new l kept h) (v k lk) in
+    let other = satisfied_stored_clause (literals new) (stored_clause_at stored_clauses (watch_at list k).clause) (stored_clause_at rows2 (watch_at list k).clause) (λ l h. permuted (watch_at list k).clause l ∙ h) more in
+    subst (λ (x : Watch). is_satisfied (literals new) (stored_clause_at rows2 x.clause) ≡ true) (sym at) other
 
 pub entry_kept : (old new : List Entry) (k : ℕ) → take (length old) new ≡ old → k < length old → entry_at new k ≡ entry_at old k
 entry_kept old new k kept l = sym (get_or-take (length old) new k no_entry l) ∙ ap (λ (x : List Entry). entry_at x k) kept
 
--- a list has a watch for each row that is watched there
+-- a list has a watch for each stored clause that is watched there
 found_in : (i : ℕ) (ws : List Watch) → 1 ≤ count_of i ws → (k : ℕ) × (k < length ws) × ((watch_at ws k).clause ≡ i)
 found_in i [] h = absurd (omega (arith, h))
 found_in i (w ∷ ws) h =
@@ -112,19 +122,25 @@ found_in i (w ∷ ws) h =
           (suc r.0, omega (arith, r.1), r.2)
     ]
 
-pub in_list : (t : Table) → IsTable t → (i k slot : ℕ) → k < 2 → 2 ≤ length (row_at t.rows.items i) → slot_of (literal_at (row_at t.rows.items i) k) ≡ slot → slot < length t.lists.items → (n : ℕ) × (n < length (list_at t.lists.items slot)) × ((watch_at (list_at t.lists.items slot) n).clause ≡ i)
+pub in_list : (t : Table) → IsTable t → (i k slot : ℕ) → k < 2 → 2 ≤ length (stored_clause_at t.stored_clauses.items i) → slot_of (literal_at (stored_clause_at t.stored_clauses.items i) k) ≡ slot
+    → slot < length t.lists.items → (n : ℕ) × (n < length (list_at t.lists.items slot)) × ((watch_at (list_at t.lists.items slot) n).clause ≡ i)
 in_list t table i k slot k2 long is_slot low =
-    let by = watch_count_by (row_at t.rows.items i) slot long in
+    let by = watch_count_by (stored_clause_at t.stored_clauses.items i) slot long in
     let all = table.watched i slot low in
-    let one = at_same (literal_at (row_at t.rows.items i) k) slot is_slot in
-    let part : at_slot (literal_at (row_at t.rows.items i) k) slot ≤ at_slot (literal_at (row_at t.rows.items i) 0) slot + at_slot (literal_at (row_at t.rows.items i) 1) slot = elim (cases_eq k 0) as (λ _. at_slot (literal_at (row_at t.rows.items i) k) slot ≤ at_slot (literal_at (row_at t.rows.items i) 0) slot + at_slot (literal_at (row_at t.rows.items i) 1) slot) [
-      | inl z ↦ let e = ap (λ (x : ℕ). at_slot (literal_at (row_at t.rows.items i) x) slot) z in omega (arith, e)
-      | inr nz ↦ let o : k ≡ 1 = omega (arith, k2, nz) in let e = ap (λ (x : ℕ). at_slot (literal_at (row_at t.rows.items i) x) slot) o in omega (arith, e)
+    let one = at_same (literal_at (stored_clause_at t.stored_clauses.items i) k) slot is_slot in
+    let part : at_slot (literal_at (stored_clause_at t.stored_clauses.items i) k) slot ≤ at_slot (literal_at (stored_clause_at t.stored_clauses.items i) 0) slot + at_slot
+    (literal_at (stored_clause_at t.stored_clauses.items i) 1) slot = elim (cases_eq k 0) as
+    (λ _. at_slot (literal_at (stored_clause_at t.stored_clauses.items i) k) slot ≤ at_slot (literal_at (stored_clause_at t.stored_clauses.items i) 0) slot + at_slot
+    (literal_at (stored_clause_at t.stored_clauses.items i) 1) slot) [
+      | inl z ↦ let e = ap (λ (x : ℕ). at_slot (literal_at (stored_clause_at t.stored_clauses.items i) x) slot) z in omega (arith, e)
+      | inr nz ↦ let o : k ≡ 1 = omega (arith, k2, nz) in let e = ap (λ (x : ℕ). at_slot (literal_at (stored_clause_at t.stored_clauses.items i) x) slot) o in omega (arith, e)
     ] in
     found_in i (list_at t.lists.items slot) (omega (arith, by, all, one, part))
 
 -- the list of the next literal is read: it is covered
-pub progress_next : (t : Table) → IsTable t → (es : List Entry) (head slot : ℕ) (marks : List ℕ) (short_head base : ℕ) → head < length es → slot ≡ slot_of (negation (entry_at es head).literal) → slot < length t.lists.items → AreVisited (literals es) t.rows.items (list_at t.lists.items slot) (length (list_at t.lists.items slot)) → IsProgress t.rows.items t.short.items es head marks short_head base → IsProgress t.rows.items t.short.items es (head + 1) marks short_head base
+pub progress_next : (t : Table) → IsTable t → (es : List Entry) (head slot : ℕ) (marks : List ℕ) (short_head base : ℕ) → head < length es → slot ≡ slot_of (negation (entry_at es head).literal)
+    → slot < length t.lists.items → AreVisited (literals es) t.stored_clauses.items (list_at t.lists.items slot) (length (list_at t.lists.items slot))
+    → IsProgress t.stored_clauses.items t.short.items es head marks short_head base → IsProgress t.stored_clauses.items t.short.items es (head + 1) marks short_head base
 progress_next t table es head slot marks short_head base more is_slot low visited p = record {
   head_in = omega (arith, more);
   covered = covers;
@@ -134,17 +150,18 @@ progress_next t table es head slot marks short_head base more is_slot low visite
   short_true = p.short_true;
 }
   where
-    covers : AreCovered (literals (take (head + 1) es)) (literals es) t.rows.items
+    covers : AreCovered (literals (take (head + 1) es)) (literals es) t.stored_clauses.items
     covers i k k2 long h =
-        let ordered = row_at t.rows.items i in
-        let x = literal_at (row_at t.rows.items i) k in
+        let ordered = stored_clause_at t.stored_clauses.items i in
+        let x = literal_at (stored_clause_at t.stored_clauses.items i) k in
         let j = holds_take es (head + 1) (negation x) h in
-        elim (cases_eq j.0 head) as (λ _. is_satisfied (literals es) (row_at t.rows.items i) ≡ true) [
+        elim (cases_eq j.0 head) as (λ _. is_satisfied (literals es) (stored_clause_at t.stored_clauses.items i) ≡ true) [
           | inl last ↦
-              let held : (entry_at es head).literal ≡ negation (literal_at (row_at t.rows.items i) k) = ap (λ (n : ℕ). (entry_at es n).literal) (sym last) ∙ j.3 in
-              let in_slot : slot_of (literal_at (row_at t.rows.items i) k) ≡ slot = ap slot_of (sym (negation-negation (literal_at (row_at t.rows.items i) k)) ∙ ap negation (sym held)) ∙ sym is_slot in
+              let held : (entry_at es head).literal ≡ negation (literal_at (stored_clause_at t.stored_clauses.items i) k) = ap (λ (n : ℕ). (entry_at es n).literal) (sym last) ∙ j.3 in
+              let in_slot : slot_of (literal_at (stored_clause_at t.stored_clauses.items i) k)
+              ≡ slot = ap slot_of (sym (negation-negation (literal_at (stored_clause_at t.stored_clauses.items i) k)) ∙ ap negation (sym held)) ∙ sym is_slot in
               let one = in_list t table i k slot k2 long in_slot low in
-              subst (λ (n : ℕ). is_satisfied (literals es) (row_at t.rows.items n) ≡ true) one.2 (visited one.0 one.1)
+              subst (λ (n : ℕ). is_satisfied (literals es) (stored_clause_at t.stored_clauses.items n) ≡ true) one.2 (visited one.0 one.1)
           | inr before ↦
               let low_j : j.0 < head = omega (arith, before, j.1) in
               p.covered i k k2 long (subst (λ (y : Literal). holds (literals (take head es)) y ≡ true) j.3 (holds_before es head j.0 low_j j.2))
@@ -165,7 +182,8 @@ pub same_from : (old new : List Watch) → new ≡ old → HasSameClauses old ne
 same_from old new e = record { len = ap length e; same = λ k. ap (λ (x : List Watch). (watch_at x k).clause) e }
 
 -- propagation goes on
-pub propagates_on : (old : List Entry) (mid new : Watcher) → new.table.clauses ≡ mid.table.clauses → Propagates mid.table.clauses.items old mid.trail.entries → Propagates new.table.clauses.items mid.trail.entries new.trail.entries → Propagates new.table.clauses.items old new.trail.entries
+pub propagates_on : (old : List Entry) (mid new : Watcher) → new.table.clauses ≡ mid.table.clauses → Propagates mid.table.clauses.items old mid.trail.entries
+    → Propagates new.table.clauses.items mid.trail.entries new.trail.entries → Propagates new.table.clauses.items old new.trail.entries
 propagates_on old mid new same first second = propagates_then new.table.clauses.items old mid.trail.entries new.trail.entries (subst (λ (x : Vec Clause Global). Propagates x.items old mid.trail.entries) (sym same) first) second
 
 -- the list of the slot is that of the literal at the head
@@ -175,10 +193,13 @@ pub record IsAtHead (w : Watcher) (slot : ℕ) : Type 0 where
   pub low : slot < length w.table.lists.items
 
 -- it is so still once literals were added
-pub still_at_head : (mid new : Watcher) (slot : ℕ) → IsWatching mid → IsWatching new → new.trail.variables ≡ mid.trail.variables → new.head ≡ mid.head → Propagates new.table.clauses.items mid.trail.entries new.trail.entries → mid.head < length mid.trail.entries → slot ≡ slot_of (negation (entry_at mid.trail.entries mid.head).literal) → slot < length mid.table.lists.items → IsAtHead new slot
+pub still_at_head : (mid new : Watcher) (slot : ℕ) → IsWatching mid → IsWatching new → new.trail.variables ≡ mid.trail.variables → new.head ≡ mid.head
+    → Propagates new.table.clauses.items mid.trail.entries new.trail.entries → mid.head < length mid.trail.entries → slot ≡ slot_of (negation (entry_at mid.trail.entries mid.head).literal)
+    → slot < length mid.table.lists.items → IsAtHead new slot
 still_at_head mid new slot was is variables head propagates more slot_is low = record {
   more = let l = propagates.longer in omega (arith, more, l, head);
-  slot_is = slot_is ∙ ap (λ (x : Entry). slot_of (negation x.literal)) (sym (entry_kept mid.trail.entries new.trail.entries mid.head propagates.kept more)) ∙ ap (λ (n : ℕ). slot_of (negation (entry_at new.trail.entries n).literal)) (sym head);
+  slot_is = slot_is ∙ ap (λ (x : Entry). slot_of (negation x.literal)) (sym (entry_kept mid.trail.entries new.trail.entries mid.head propagates.kept more))
+      ∙ ap (λ (n : ℕ). slot_of (negation (entry_at new.trail.entries n).literal)) (sym head);
   low = let a = was.table.slots in let b = is.table.slots in let m = was.variables in let n = is.variables in omega (arith, a, b, m, n, variables, low);
 }
 
@@ -194,7 +215,8 @@ pub record IsReading (start now : Watcher) (slot : ℕ) : Type 0 where
   pub at_head : IsAtHead now slot
 
 -- it stays at one visit more
-pub reading_on : (start mid new : Watcher) (slot : ℕ) → IsReading start mid slot → IsWatching new → new.table.clauses ≡ mid.table.clauses → new.table.short ≡ mid.table.short → new.short_head ≡ mid.short_head → new.head ≡ mid.head → new.trail.variables ≡ mid.trail.variables → Propagates new.table.clauses.items mid.trail.entries new.trail.entries → IsReading start new slot
+pub reading_on : (start mid new : Watcher) (slot : ℕ) → IsReading start mid slot → IsWatching new → new.table.clauses ≡ mid.table.clauses → new.table.short ≡ mid.table.short → new.short_head
+    ≡ mid.short_head → new.head ≡ mid.head → new.trail.variables ≡ mid.trail.variables → Propagates new.table.clauses.items mid.trail.entries new.trail.entries → IsReading start new slot
 reading_on start mid new slot r watching clauses short short_head head variables propagates = record {
   watching = watching;
   clauses = clauses ∙ r.clauses;
@@ -207,7 +229,8 @@ reading_on start mid new slot r watching clauses short short_head head variables
 }
 
 -- a place below the reach of a list is one of the list
-pub inside_reach : (w : Watcher) (slot place : ℕ) (list : List Watch) (reach : ℕ) → slot < length w.table.lists.items → list ≡ get_or w.table.lists.items slot list → reach ≤ length list → place < reach → place < length (list_at w.table.lists.items slot)
+pub inside_reach : (w : Watcher) (slot place : ℕ) (list : List Watch) (reach : ℕ) → slot < length w.table.lists.items → list ≡ get_or w.table.lists.items slot list → reach ≤ length list
+    → place < reach → place < length (list_at w.table.lists.items slot)
 inside_reach w slot place list reach low is within less =
     let len = ap length (get_or_read w.table.lists.items slot list low is []) in
     omega (arith, len, within, less)

@@ -3,7 +3,7 @@
 use Rattle.std.specs.Prelude.{ℕ, Bool, true, false, ◌≡◌, ◌<◌, ◌≤◌, cond, ◌==◌, ◌+◌, ◌*◌, ◌++◌, List, [], ◌∷◌, Some, length, slice_index_or, slice_set, take, sum_by}
 use Rattle.std.specs.List.{list_any}
 use Rattle.resolution_proof.specs.declared.literal.Literal.{Literal}
-use Rattle.cdcl_proof.specs.declared.row.Watch.{Watch}
+use Rattle.cdcl_proof.specs.declared.stored_clause.Watch.{Watch}
 use Rattle.cdcl_proof.specs.declared.trail.Entry.{Entry}
 use Rattle.resolution_proof.specs.Literal.{negation, holds}
 use Rattle.resolution_proof.specs.Fresh.{is_free}
@@ -27,13 +27,13 @@ no_watch = record { clause = 0; blocker = no_literal; is_binary = false }
 abbrev pub slot_of : Literal → ℕ
 slot_of l = 2 * l.variable + cond l.positive 1 0
 
--- the literal of the row at a place
+-- the literal of the stored clause at a place
 abbrev pub literal_at : List Literal → ℕ → Literal
-literal_at row k = slice_index_or row k no_literal
+literal_at stored_clause k = slice_index_or stored_clause k no_literal
 
--- the row, the list and the watch at a place
-abbrev pub row_at : List (List Literal) → ℕ → List Literal
-row_at rows i = slice_index_or rows i []
+-- the stored clause, the list and the watch at a place
+abbrev pub stored_clause_at : List (List Literal) → ℕ → List Literal
+stored_clause_at stored_clauses i = slice_index_or stored_clauses i []
 
 abbrev pub list_at : List (List Watch) → ℕ → List Watch
 list_at lists s = slice_index_or lists s []
@@ -41,16 +41,16 @@ list_at lists s = slice_index_or lists s []
 abbrev pub watch_at : List Watch → ℕ → Watch
 watch_at ws k = slice_index_or ws k no_watch
 
--- the row has the literals of the clause, in any order, no variable twice
-pub record IsRow (clause row : List Literal) : Type 0 where
-  pub len : length row ≡ length clause
-  pub same : (l : Literal) → holds row l ≡ holds clause l
-  pub apart : (j k : ℕ) → j < length row → k < length row → (literal_at row j).variable ≡ (literal_at row k).variable → j ≡ k
+-- the stored clause has the literals of the clause, in any order, no variable twice
+pub record IsStored (clause stored_clause : List Literal) : Type 0 where
+  pub len : length stored_clause ≡ length clause
+  pub same : (l : Literal) → holds stored_clause l ≡ holds clause l
+  pub apart : (j k : ℕ) → j < length stored_clause → k < length stored_clause → (literal_at stored_clause j).variable ≡ (literal_at stored_clause k).variable → j ≡ k
 
--- there is a row for each clause
-pub record AreRows (clauses rows : List (List Literal)) : Type 0 where
-  pub count : length rows ≡ length clauses
-  pub each : (i : ℕ) → i < length clauses → IsRow (row_at clauses i) (row_at rows i)
+-- there is a stored clause for each clause
+pub record AreStored (clauses stored_clauses : List (List Literal)) : Type 0 where
+  pub count : length stored_clauses ≡ length clauses
+  pub each : (i : ℕ) → i < length clauses → IsStored (stored_clause_at clauses i) (stored_clause_at stored_clauses i)
 
 -- how often the clause of the index stands in a list
 abbrev pub count_of : ℕ → List Watch → ℕ
@@ -64,46 +64,46 @@ watch_count (a ∷ b ∷ rest) s = cond (slot_of a == s) 1 0 + cond (slot_of b =
 
 -- each clause of two literals or more stands in the lists of exactly two of its literals
 abbrev pub AreWatched : List (List Literal) → List (List Watch) → Type 0
-AreWatched rows lists = (i s : ℕ) → s < length lists → count_of i (list_at lists s) ≡ watch_count (row_at rows i) s
+AreWatched stored_clauses lists = (i s : ℕ) → s < length lists → count_of i (list_at lists s) ≡ watch_count (stored_clause_at stored_clauses i) s
 
 -- each watch names a literal of its clause
 abbrev pub HaveBlockers : List (List Literal) → List (List Watch) → Type 0
-HaveBlockers rows lists = (s k : ℕ) → s < length lists → k < length (list_at lists s) → holds (row_at rows (watch_at (list_at lists s) k).clause) (watch_at (list_at lists s) k).blocker ≡ true
+HaveBlockers stored_clauses lists = (s k : ℕ) → s < length lists → k < length (list_at lists s) → holds (stored_clause_at stored_clauses (watch_at (list_at lists s) k).clause) (watch_at (list_at lists s) k).blocker ≡ true
 
 -- the lists once a clause has come into two of them, with whether it has these two literals alone
 abbrev pub added_lists : List (List Watch) → ℕ → ℕ → ℕ → Literal → Literal → Bool → List (List Watch)
 added_lists lists a b i x y is_binary = slice_set (slice_set lists a (list_at lists a ++ record { clause = i; blocker = y; is_binary = is_binary } ∷ [])) b (list_at lists b ++ record { clause = i; blocker = x; is_binary = is_binary } ∷ [])
 
--- a literal of the row is true
+-- a literal of the stored clause is true
 abbrev pub is_satisfied : List Literal → List Literal → Bool
-is_satisfied s row = list_any (holds s) row
+is_satisfied s stored_clause = list_any (holds s) stored_clause
 
--- where the first set falsifies a watched literal, the second satisfies the row
+-- where the first set falsifies a watched literal, the second satisfies the stored clause
 abbrev pub IsCovered : List Literal → List Literal → List Literal → Type 0
-IsCovered before all row = (k : ℕ) → k < 2 → 2 ≤ length row → holds before (negation (literal_at row k)) ≡ true → is_satisfied all row ≡ true
+IsCovered before all stored_clause = (k : ℕ) → k < 2 → 2 ≤ length stored_clause → holds before (negation (literal_at stored_clause k)) ≡ true → is_satisfied all stored_clause ≡ true
 
 abbrev pub AreCovered : List Literal → List Literal → List (List Literal) → Type 0
-AreCovered before all rows = (i : ℕ) → IsCovered before all (row_at rows i)
+AreCovered before all stored_clauses = (i : ℕ) → IsCovered before all (stored_clause_at stored_clauses i)
 
 -- the clauses of fewer than two literals are in the list, and only these
-pub record AreShort (rows : List (List Literal)) (short : List ℕ) : Type 0 where
-  pub each : (i : ℕ) → i < length rows → length (row_at rows i) < 2 → (j : ℕ) × (j < length short) × (slice_index_or short j 0 ≡ i)
-  pub only : (j : ℕ) → j < length short → (slice_index_or short j 0 < length rows) × (length (row_at rows (slice_index_or short j 0)) < 2)
+pub record AreShort (stored_clauses : List (List Literal)) (short : List ℕ) : Type 0 where
+  pub each : (i : ℕ) → i < length stored_clauses → length (stored_clause_at stored_clauses i) < 2 → (j : ℕ) × (j < length short) × (slice_index_or short j 0 ≡ i)
+  pub only : (j : ℕ) → j < length short → (slice_index_or short j 0 < length stored_clauses) × (length (stored_clause_at stored_clauses (slice_index_or short j 0)) < 2)
 
 -- the watches are of the same clauses
 pub record HasSameClauses (old new : List Watch) : Type 0 where
   pub len : length new ≡ length old
   pub same : (k : ℕ) → (watch_at new k).clause ≡ (watch_at old k).clause
 
--- the rows have the same literals
+-- the stored clauses have the same literals
 abbrev pub ArePermuted : List (List Literal) → List (List Literal) → Type 0
-ArePermuted old new = (i : ℕ) (l : Literal) → holds (row_at new i) l ≡ holds (row_at old i) l
+ArePermuted old new = (i : ℕ) (l : Literal) → holds (stored_clause_at new i) l ≡ holds (stored_clause_at old i) l
 
 -- the places up to which propagation was complete, in order: nothing before such a place needs to be read again
-pub record AreMarks (rows : List (List Literal)) (entries : List Entry) (head : ℕ) (marks : List ℕ) : Type 0 where
+pub record AreMarks (stored_clauses : List (List Literal)) (entries : List Entry) (head : ℕ) (marks : List ℕ) : Type 0 where
   pub sorted : (j k : ℕ) → j ≤ k → k < length marks → slice_index_or marks j 0 ≤ slice_index_or marks k 0
   pub below : (j : ℕ) → j < length marks → slice_index_or marks j 0 ≤ head
-  pub covered : (j : ℕ) → j < length marks → AreCovered (literals (take (slice_index_or marks j 0) entries)) (literals (take (slice_index_or marks j 0) entries)) rows
+  pub covered : (j : ℕ) → j < length marks → AreCovered (literals (take (slice_index_or marks j 0) entries)) (literals (take (slice_index_or marks j 0) entries)) stored_clauses
 
 -- the entries after the old ones are each implied by a clause, which is their reason
 pub record Propagates (clauses : List (List Literal)) (old new : List Entry) : Type 0 where
@@ -114,4 +114,4 @@ pub record Propagates (clauses : List (List Literal)) (old new : List Entry) : T
 
 -- the first watches of a list are of clauses that the set satisfies
 abbrev pub AreVisited : List Literal → List (List Literal) → List Watch → ℕ → Type 0
-AreVisited s rows list place = (k : ℕ) → k < place → is_satisfied s (row_at rows (watch_at list k).clause) ≡ true
+AreVisited s stored_clauses list place = (k : ℕ) → k < place → is_satisfied s (stored_clause_at stored_clauses (watch_at list k).clause) ≡ true

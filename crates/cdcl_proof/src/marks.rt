@@ -28,14 +28,14 @@ pub(crate) fn mark_before(marks: &[usize], count: usize) -> usize
     if count > 0 { marks[count - 1] } else { 0 }
 }
 
-/// How many of the marks stand before the entry of the row's second literal or at it.
-pub(crate) fn marks_kept(trail: &Trail, marks: &[usize], row: &[PackedLiteral]) -> usize
-    requires { is_within trail.now.variables row.now ≡ true }
+/// How many of the marks stand before the entry of the stored clause's second literal or at it.
+pub(crate) fn marks_kept(trail: &Trail, marks: &[usize], stored_clause: &[PackedLiteral]) -> usize
+    requires { is_within trail.now.variables stored_clause.now ≡ true }
     ensures within { result ≤ length marks.now }
-    ensures last { 0 < result → 1 < length row.now → is_after trail.now.entries (slice_index_or marks.now (result - 1) 0) (literal_at row.now 1).variable ≡ true }
+    ensures last { 0 < result → 1 < length stored_clause.now → is_after trail.now.entries (slice_index_or marks.now (result - 1) 0) (literal_at stored_clause.now 1).variable ≡ true }
 {
-    if row.len() > 1 {
-        marks_before(trail, marks, row[1].literal().variable)
+    if stored_clause.len() > 1 {
+        marks_before(trail, marks, stored_clause[1].literal().variable)
     } else {
         marks.len()
     }

@@ -1,4 +1,4 @@
-// Literals as rows and watch lists keep them, in half the memory.
+// Literals as stored clauses and watch lists keep them, in half the memory.
 ghost use Rattle.std.specs.Prelude.{◌≡◌, ◌<◌, ◌^◌};
 ghost use Rattle.cdcl_proof.specs.Watching.{slot_of};
 

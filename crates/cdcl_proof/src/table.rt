@@ -1,25 +1,25 @@
-// Clauses with their rows and watch lists.
+// Clauses with their stored clauses and watch lists.
 ghost use Rattle.std.specs.Prelude.{ℕ, ◌≡◌, ◌≢◌, ◌<◌, ◌≤◌, ◌++◌, ◌∷◌, ◌^◌, true, [], length, swap, swap_remove, slice_set, OnOk, OnErr, IfOk};
 ghost use Rattle.resolution_proof.specs.Literal.{holds};
 ghost use Rattle.resolution_proof.specs.Clause.{is_clause};
-ghost use Rattle.cdcl_proof.specs.Watching.{literal_at, watch_at, list_at, row_at, no_watch, added_lists, HasSameClauses, IsRow, slot_of};
+ghost use Rattle.cdcl_proof.specs.Watching.{literal_at, watch_at, list_at, stored_clause_at, no_watch, added_lists, HasSameClauses, IsStored, slot_of};
 ghost use Rattle.cdcl_proof.specs.Table.{IsTable, HasAdded, IsUnchanged, IsEntered};
 
 use crate::packed::PackedLiteral;
-use crate::row::{Row, Watch, WatchList};
+use crate::stored_clause::{StoredClause, Watch, WatchList};
 use resolution_proof::clause::Clause;
 use std::alloc::{AllocError, Global};
 
 /// The most clauses that a table can have.
 const MOST: usize = 0xffff_ffff;
 
-/// Clauses, each with a row of its literals, and the lists of watches by literals. The clauses of fewer than two
+/// Clauses, each with a stored clause of its literals, and the lists of watches by literals. The clauses of fewer than two
 /// literals are in no list, but in `short`.
 #[derive(Drop)]
 pub(crate) struct Table {
     pub(crate) variables: u64,
     pub(crate) clauses: Vec<Clause>,
-    pub(crate) rows: Vec<Row>,
+    pub(crate) stored_clauses: Vec<StoredClause>,
     pub(crate) lists: Vec<WatchList>,
     pub(crate) short: Vec<usize>,
 }
@@ -36,13 +36,13 @@ impl Table {
         Ok(Table {
             variables,
             clauses: Vec::new(alloc),
-            rows: Vec::new(alloc),
+            stored_clauses: Vec::new(alloc),
             lists: empty_lists(alloc, 2 * variables as usize + 2)?,
             short: Vec::new(alloc),
         })
     }
 
-    /// Watches the literal at `k` of the row in place of the one at `first`, whose list is that of the slot.
+    /// Watches the literal at `k` of the stored clause in place of the one at `first`, whose list is that of the slot.
     pub(crate) fn move_watch(
         &mut self,
         slot: usize,
@@ -55,28 +55,28 @@ impl Table {
         requires place { place < length (list_at self.old.lists.items slot) }
         requires first { first < 2 }
         requires later { 2 ≤ k }
-        requires inside { k < length (row_at self.old.rows.items (watch_at (list_at self.old.lists.items slot) place).clause) }
-        requires watched { slot_of (literal_at (row_at self.old.rows.items (watch_at (list_at self.old.lists.items slot) place).clause) first) ≡ slot }
+        requires inside { k < length (stored_clause_at self.old.stored_clauses.items (watch_at (list_at self.old.lists.items slot) place).clause) }
+        requires watched { slot_of (literal_at (stored_clause_at self.old.stored_clauses.items (watch_at (list_at self.old.lists.items slot) place).clause) first) ≡ slot }
         ensures table { IsTable self.new }
         ensures variables { self.new.variables ≡ self.old.variables }
         ensures clauses { self.new.clauses ≡ self.old.clauses }
         ensures short { self.new.short ≡ self.old.short }
-        ensures rows { OnOk result (self.new.rows.items ≡ slice_set self.old.rows.items (watch_at (list_at self.old.lists.items slot) place).clause (swap (row_at self.old.rows.items (watch_at (list_at self.old.lists.items slot) place).clause) first k)) }
+        ensures stored_clauses { OnOk result (self.new.stored_clauses.items ≡ slice_set self.old.stored_clauses.items (watch_at (list_at self.old.lists.items slot) place).clause (swap (stored_clause_at self.old.stored_clauses.items (watch_at (list_at self.old.lists.items slot) place).clause) first k)) }
         ensures list { OnOk result (list_at self.new.lists.items slot ≡ swap_remove (list_at self.old.lists.items slot) place no_watch) }
-        ensures err { OnErr result (self.new.rows ≡ self.old.rows) }
+        ensures err { OnErr result (self.new.stored_clauses ≡ self.old.stored_clauses) }
     {
         let clause = self.lists[slot].at(place).clause;
-        let row = self.rows[clause as usize].as_slice();
-        let blocker = row[1 - first];
-        let target = row[k].slot();
+        let stored_clause = self.stored_clauses[clause as usize].as_slice();
+        let blocker = stored_clause[1 - first];
+        let target = stored_clause[k].slot();
         let watch = Watch {
             clause,
             blocker,
             is_binary: false,
         };
         shift(&mut self.lists, slot, place, target, watch)?;
-        let row = &mut self.rows[clause as usize];
-        row.swap(first, k);
+        let stored_clause = &mut self.stored_clauses[clause as usize];
+        stored_clause.swap(first, k);
         Ok(())
     }
 
@@ -85,11 +85,11 @@ impl Table {
         requires table { IsTable self.old }
         requires slot { slot < length self.old.lists.items }
         requires place { place < length (list_at self.old.lists.items slot) }
-        requires blocks { holds (row_at self.old.rows.items (watch_at (list_at self.old.lists.items slot) place).clause) blocker ≡ true }
+        requires blocks { holds (stored_clause_at self.old.stored_clauses.items (watch_at (list_at self.old.lists.items slot) place).clause) blocker ≡ true }
         ensures table { IsTable self.new }
         ensures variables { self.new.variables ≡ self.old.variables }
         ensures clauses { self.new.clauses ≡ self.old.clauses }
-        ensures rows { self.new.rows ≡ self.old.rows }
+        ensures stored_clauses { self.new.stored_clauses ≡ self.old.stored_clauses }
         ensures short { self.new.short ≡ self.old.short }
         ensures list { HasSameClauses (list_at self.old.lists.items slot) (list_at self.new.lists.items slot) }
     {
@@ -97,24 +97,33 @@ impl Table {
         list.set_blocker(place, blocker);
     }
 
-    /// Adds a clause with its row.
-    pub(crate) fn add(&mut self, clause: Clause, row: Row) -> Result<(), AllocError>
+    /// Adds a clause with its stored clause.
+    pub(crate) fn add(
+        &mut self,
+        clause: Clause,
+        stored_clause: StoredClause,
+    ) -> Result<(), AllocError>
         requires table { IsTable self.old }
         requires clause { is_clause self.old.variables clause ≡ true }
-        requires row { IsRow clause row }
+        requires stored_clause { IsStored clause stored_clause }
         ensures table { IsTable self.new }
         ensures variables { self.new.variables ≡ self.old.variables }
-        ensures ok { OnOk result (HasAdded self.old self.new clause row) }
+        ensures ok { OnOk result (HasAdded self.old self.new clause stored_clause) }
         ensures err { OnErr result (IsUnchanged self.old self.new) }
     {
-        let index = self.rows.len();
+        let index = self.stored_clauses.len();
         if index >= MOST {
             return Err(AllocError);
         }
         self.clauses.reserve(1)?;
-        self.rows.reserve(1)?;
-        enter(&mut self.lists, &mut self.short, index, row.as_slice())?;
-        self.rows.push_reserved(row);
+        self.stored_clauses.reserve(1)?;
+        enter(
+            &mut self.lists,
+            &mut self.short,
+            index,
+            stored_clause.as_slice(),
+        )?;
+        self.stored_clauses.push_reserved(stored_clause);
         self.clauses.push_reserved(clause);
         Ok(())
     }
@@ -157,20 +166,26 @@ fn enter(
     lists: &mut Vec<WatchList>,
     short: &mut Vec<usize>,
     index: usize,
-    row: &[PackedLiteral],
+    stored_clause: &[PackedLiteral],
 ) -> Result<(), AllocError>
     requires index { index < 2 ^ 32 }
-    requires slots { (k : ℕ) → k < length row.now → slot_of (literal_at row.now k) < length lists.old.items }
-    requires other { 2 ≤ length row.now → slot_of (literal_at row.now 0) ≢ slot_of (literal_at row.now 1) }
-    ensures ok { OnOk result (IsEntered lists.old.items lists.new.items short.old.items short.new.items index row.now) }
+    requires slots { (k : ℕ) → k < length stored_clause.now → slot_of (literal_at stored_clause.now k) < length lists.old.items }
+    requires other { 2 ≤ length stored_clause.now → slot_of (literal_at stored_clause.now 0) ≢ slot_of (literal_at stored_clause.now 1) }
+    ensures ok { OnOk result (IsEntered lists.old.items lists.new.items short.old.items short.new.items index stored_clause.now) }
     ensures lists { OnErr result (lists.new.items ≡ lists.old.items) }
     ensures short { OnErr result (short.new.items ≡ short.old.items) }
 {
-    if row.len() < 2 {
+    if stored_clause.len() < 2 {
         short.push(index)?;
         Ok(())
     } else {
-        attach(lists, index as u32, row[0], row[1], row.len() == 2)
+        attach(
+            lists,
+            index as u32,
+            stored_clause[0],
+            stored_clause[1],
+            stored_clause.len() == 2,
+        )
     }
 }
 

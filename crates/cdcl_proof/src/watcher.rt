@@ -12,8 +12,10 @@ ghost use Rattle.cdcl_proof.specs.Watcher.{IsWatching, IsVisit};
 use crate::marks::{mark_before, marks_kept, marks_up_to};
 use crate::packed::PackedLiteral;
 use crate::propagation::{State, state_of};
-use crate::row::{Row, Watch};
-use crate::row_state::{RowState, bring_last, read_row, watched_place};
+use crate::stored_clause::{StoredClause, Watch};
+use crate::stored_clause_state::{
+    StoredClauseState, bring_last, read_stored_clause, watched_place,
+};
 use crate::table::Table;
 use crate::trail::{Entry, Trail};
 use resolution_proof::clause::Clause;
@@ -262,7 +264,7 @@ impl Watcher {
         ensures variables { self.new.trail.variables ≡ self.old.trail.variables }
         ensures propagates { Propagates self.new.table.clauses.items self.old.trail.entries self.new.trail.entries }
         ensures conflict { IfOk result (λ o. IfSome o (IsConflict self.new.table.clauses.items (literals self.new.trail.entries))) }
-        ensures visited { only_binary ≡ false → IfOk result (λ o. IfNone o (AreVisited (literals self.new.trail.entries) self.new.table.rows.items (list_at self.new.table.lists.items slot) (length (list_at self.new.table.lists.items slot)))) }
+        ensures visited { only_binary ≡ false → IfOk result (λ o. IfNone o (AreVisited (literals self.new.trail.entries) self.new.table.stored_clauses.items (list_at self.new.table.lists.items slot) (length (list_at self.new.table.lists.items slot)))) }
     {
         let mut place = 0;
         while place < self.table.lists[slot].reach(only_binary) {
@@ -302,23 +304,23 @@ impl Watcher {
             return Ok(Visit::Stays);
         }
         let clause = watch.clause;
-        let row = self.table.rows[clause as usize].as_slice();
-        let first = watched_place(row, slot);
-        let other = row[1 - first];
-        match read_row(&self.trail, row, first) {
-            RowState::Satisfied => {
+        let stored_clause = self.table.stored_clauses[clause as usize].as_slice();
+        let first = watched_place(stored_clause, slot);
+        let other = stored_clause[1 - first];
+        match read_stored_clause(&self.trail, stored_clause, first) {
+            StoredClauseState::Satisfied => {
                 self.table.set_blocker(slot, place, other);
                 Ok(Visit::Stays)
             }
-            RowState::Open(k) => {
+            StoredClauseState::Open(k) => {
                 self.table.move_watch(slot, place, first, k)?;
                 Ok(Visit::Moved)
             }
-            RowState::Implied(literal) => {
+            StoredClauseState::Implied(literal) => {
                 self.imply(literal, u64::from(clause) + 1);
                 Ok(Visit::Stays)
             }
-            RowState::False => Ok(Visit::Conflict),
+            StoredClauseState::False => Ok(Visit::Conflict),
         }
     }
 
@@ -338,8 +340,12 @@ impl Watcher {
         ensures ok { OnOk result (self.new.table.clauses.items ≡ self.old.table.clauses.items ++ clause ∷ []) }
         ensures err { OnErr result (self.new.table.clauses.items ≡ self.old.table.clauses.items) }
     {
-        let row = Row::new(self.alloc, clause.as_slice(), self.trail.variables())?;
-        self.table.add(clause, row)?;
+        let stored_clause = StoredClause::new(
+            self.alloc,
+            clause.as_slice(),
+            self.trail.variables(),
+        )?;
+        self.table.add(clause, stored_clause)?;
         self.head = 0;
         self.marks.clear();
         Ok(())
@@ -358,14 +364,18 @@ impl Watcher {
         ensures propagates { OnOk result (Propagates self.new.table.clauses.items self.old.trail.entries self.new.trail.entries) }
         ensures longer { OnOk result (length self.new.trail.entries ≡ length self.old.trail.entries + 1) }
     {
-        let mut row = Row::new(self.alloc, clause.as_slice(), self.trail.variables())?;
-        bring_last(&mut row);
-        let literals = row.as_slice();
+        let mut stored_clause = StoredClause::new(
+            self.alloc,
+            clause.as_slice(),
+            self.trail.variables(),
+        )?;
+        bring_last(&mut stored_clause);
+        let literals = stored_clause.as_slice();
         let literal = literals[0].literal();
         let kept = marks_kept(&self.trail, &self.marks, literals);
-        self.table.add(clause, row)?;
+        self.table.add(clause, stored_clause)?;
         self.marks.truncate(kept);
-        let number = self.table.rows.len() as u64;
+        let number = self.table.stored_clauses.len() as u64;
         self.trail.add(Entry {
             literal,
             reason: Some(number),

@@ -34,6 +34,7 @@ fn one_step(
 
 /// The step of a log over (1 or 2), (1 or not 2), and whether the log replays.
 struct Case {
+    name: &'static str,
     clause: &'static [i64],
     /// The number and the pivot of the second hint.
     second: u64,
@@ -42,57 +43,57 @@ struct Case {
 }
 
 const CASES: [Case; 8] = [
-    // the log as it is
     Case {
+        name: "the log as it is",
         clause: &[1],
         second: 2,
         pivot: 2,
         replays: true,
     },
-    // a literal flipped
     Case {
+        name: "a literal flipped",
         clause: &[-1],
         second: 2,
         pivot: 2,
         replays: false,
     },
-    // a literal more
     Case {
+        name: "a literal more",
         clause: &[1, 2],
         second: 2,
         pivot: 2,
         replays: false,
     },
-    // a literal less
     Case {
+        name: "a literal less",
         clause: &[],
         second: 2,
         pivot: 2,
         replays: false,
     },
-    // another pivot
     Case {
+        name: "another pivot",
         clause: &[1],
         second: 2,
         pivot: 1,
         replays: false,
     },
-    // the same clause twice
     Case {
+        name: "the same clause twice",
         clause: &[1],
         second: 1,
         pivot: 2,
         replays: false,
     },
-    // the step itself
     Case {
+        name: "the step itself",
         clause: &[1],
         second: 3,
         pivot: 2,
         replays: false,
     },
-    // no clause
     Case {
+        name: "no clause",
         clause: &[1],
         second: 0,
         pivot: 2,
@@ -100,11 +101,15 @@ const CASES: [Case; 8] = [
     },
 ];
 
-/// The first case that does otherwise, by its position.
-fn first_other(alloc: Global, rt: &impl Abort, cases: &[Case]) -> Result<Option<usize>, Fail> {
-    for (at, case) in cases.iter().enumerate() {
+/// The name of the first case that does otherwise.
+fn first_other(
+    alloc: Global,
+    rt: &impl Abort,
+    cases: &[Case],
+) -> Result<Option<&'static str>, Fail> {
+    for case in cases {
         if one_step(alloc, rt, case.clause, case.second, case.pivot)? != case.replays {
-            return Ok(Some(at));
+            return Ok(Some(case.name));
         }
     }
     Ok(None)

@@ -45,6 +45,7 @@ fn verdict_on(alloc: Global, cnf: &Cnf, budget: u64) -> Result<Verdict, AllocErr
 
 /// A formula, how much may be learnt, and the verdict.
 struct Case {
+    name: &'static str,
     variables: u64,
     clauses: &'static [&'static [i64]],
     budget: u64,
@@ -53,73 +54,84 @@ struct Case {
 
 const CASES: [Case; 12] = [
     Case {
+        name: "no variables and no clauses",
         variables: 0,
         clauses: &[],
         budget: 1,
         verdict: Satisfied,
     },
     Case {
+        name: "the empty clause",
         variables: 0,
         clauses: &[&[]],
         budget: 1,
         verdict: Refuted,
     },
     Case {
+        name: "three variables without clauses",
         variables: 3,
         clauses: &[],
         budget: 1,
         verdict: Satisfied,
     },
     Case {
+        name: "a literal and its complement",
         variables: 1,
         clauses: &[&[1], &[-1]],
         budget: 1,
         verdict: Refuted,
     },
     Case {
+        name: "all four clauses over two variables",
         variables: 2,
         clauses: &[&[1, 2], &[1, -2], &[-1, 2], &[-1, -2]],
         budget: 9,
         verdict: Refuted,
     },
     Case {
+        name: "three clauses over two variables",
         variables: 2,
         clauses: &[&[1, 2], &[1, -2], &[-1, 2]],
         budget: 9,
         verdict: Satisfied,
     },
-    // decided with nothing learnt
     Case {
+        name: "two variables without clauses, with nothing learnt",
         variables: 2,
         clauses: &[],
         budget: 1,
         verdict: Satisfied,
     },
     Case {
+        name: "three literals, with nothing learnt",
         variables: 3,
         clauses: &[&[1], &[-2], &[3]],
         budget: 1,
         verdict: Satisfied,
     },
     Case {
+        name: "one clause twice, with nothing learnt",
         variables: 2,
         clauses: &[&[1, 2], &[1, 2]],
         budget: 1,
         verdict: Satisfied,
     },
     Case {
+        name: "two literals twice, with nothing learnt",
         variables: 1,
         clauses: &[&[1], &[1], &[-1], &[-1]],
         budget: 1,
         verdict: Refuted,
     },
     Case {
+        name: "three literals and their complements, with nothing learnt",
         variables: 3,
         clauses: &[&[1], &[2], &[3], &[-1], &[-2], &[-3]],
         budget: 1,
         verdict: Refuted,
     },
     Case {
+        name: "a clause and the complements of its literals, with nothing learnt",
         variables: 3,
         clauses: &[&[1, 2, 3], &[-1], &[-2], &[-3]],
         budget: 1,
@@ -127,12 +139,16 @@ const CASES: [Case; 12] = [
     },
 ];
 
-/// The first case with another verdict, by its position.
-fn first_other(alloc: Global, rt: &impl Abort, cases: &[Case]) -> Result<Option<usize>, Fail> {
-    for (at, case) in cases.iter().enumerate() {
+/// The name of the first case with another verdict.
+fn first_other(
+    alloc: Global,
+    rt: &impl Abort,
+    cases: &[Case],
+) -> Result<Option<&'static str>, Fail> {
+    for case in cases {
         let cnf = formula(alloc, rt, case.variables, case.clauses)?;
         if verdict_on(alloc, &cnf, case.budget)? != case.verdict {
-            return Ok(Some(at));
+            return Ok(Some(case.name));
         }
     }
     Ok(None)

@@ -61,14 +61,15 @@ use Call::{Add, Assume, BackTo, FailAt, Propagate};
 
 /// Calls in a row over a formula.
 struct Run {
+    name: &'static str,
     variables: u64,
     clauses: &'static [&'static [i64]],
     calls: &'static [Call],
 }
 
 const RUNS: [Run; 3] = [
-    // a chain of implications is followed to the false clause at its end, and back
     Run {
+        name: "a chain of implications is followed to the false clause at its end, and back",
         variables: 5,
         clauses: &[&[-1, 2], &[-2, 3], &[-3, -1, 4], &[-4, -2, -1]],
         calls: &[
@@ -83,8 +84,8 @@ const RUNS: [Run; 3] = [
             Propagate,
         ],
     },
-    // a clause that is added while its literals are false is found
     Run {
+        name: "a clause that is added while its literals are false is found",
         variables: 3,
         clauses: &[&[-1, 2]],
         calls: &[
@@ -100,8 +101,8 @@ const RUNS: [Run; 3] = [
             FailAt(4),
         ],
     },
-    // of two false clauses the binary one is found first
     Run {
+        name: "of two false clauses the binary one is found first",
         variables: 3,
         clauses: &[&[-1, 2, 3], &[-1, 2]],
         calls: &[Assume(-2), Assume(-3), Assume(1), FailAt(2)],
@@ -141,7 +142,7 @@ fn first_other(alloc: Global, rt: &impl Abort, run: &Run) -> Result<Option<usize
 #[test]
 fn literals_are_watched(rt: HostRuntime) -> Result<(), Fail> {
     for run in &RUNS {
-        assert_eq!(rt; first_other(rt.alloc(), &rt, run)?, None);
+        assert_eq!(rt; first_other(rt.alloc(), &rt, run)?, None, "{}", run.name);
     }
     Ok(())
 }

@@ -1,3 +1,4 @@
+// a sum of two inputs of 8 bits
 module {
   hw.module @Add8(in %a : i8, in %b : i8, out c : i8) {
     %0 = comb.add %a, %b : i8

@@ -1,10 +1,11 @@
-// ----- a register that its reset sets to 9
+// a register that its reset sets to 9
 hw.module @T(in %clk : !seq.clock, in %rst : i1, in %d : i8, out q : i8) {
   %z = hw.constant 9 : i8
   %r = seq.firreg %d clock %clk reset async %rst, %z : i8
   hw.output %r : i8
 }
-// ----- in an instance, its reset joined to a module's own input
+// -----
+// a register in an instance, its reset joined to a module's own input
 hw.module private @Reg(in %clk : !seq.clock, in %rst : i1, in %d : i8, out q : i8) {
   %z = hw.constant 9 : i8
   %r = seq.firreg %d clock %clk reset async %rst, %z : i8
@@ -14,7 +15,8 @@ hw.module @Top(in %clk : !seq.clock, in %stop : i1, in %d : i8, out q : i8) {
   %u.q = hw.instance "u" @Reg(clk: %clk: !seq.clock, rst: %stop: i1, d: %d: i8) -> (q: i8)
   hw.output %u.q : i8
 }
-// ----- the reset is also read as a value
+// -----
+// a reset that is also read as a value
 hw.module @T(in %clk : !seq.clock, in %rst : i1, in %en : i1, in %d : i8, out q : i8, out p : i1) {
   %z = hw.constant 9 : i8
   %r = seq.firreg %d clock %clk reset async %rst, %z : i8

@@ -1,4 +1,4 @@
-// -----
+// a register that its reset sets to 9
 module {
   hw.module @T(in %clk : !seq.clock, in %rst : i1, in %d : i8, out q : i8) {
     %c9_i8 = hw.constant 9 : i8
@@ -7,6 +7,7 @@ module {
   }
 }
 // -----
+// a register in an instance, its reset joined to a module's own input
 module {
   hw.module private @Reg(in %clk : !seq.clock, in %rst : i1, in %d : i8, out q : i8) {
     %c9_i8 = hw.constant 9 : i8
@@ -19,6 +20,7 @@ module {
   }
 }
 // -----
+// a reset that is also read as a value
 module {
   hw.module @T(in %clk : !seq.clock, in %rst : i1, in %en : i1, in %d : i8, out q : i8, out p : i1) {
     %c9_i8 = hw.constant 9 : i8

@@ -1,3 +1,4 @@
+// 16 bits to an array, of which an element is taken, and to a struct
 module {
   hw.module @B(in %x : i16, out h : i8, out s : !hw.struct<p: i8, q: i8>) {
     %true = hw.constant true

@@ -1,2 +1,3 @@
+// a text without modules
 module {
 }

@@ -1,1 +1,2 @@
+// a module without ports and operations
 hw.module @M() {}

@@ -1,3 +1,4 @@
+// a module without ports and operations
 module {
   hw.module @M() {
     hw.output

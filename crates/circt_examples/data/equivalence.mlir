@@ -1,3 +1,4 @@
+// two pairs of modules for lec: p and q agree, r and s differ where a is 5
 hw.module @p(in %a : i16, in %b : i16, in %c : i16, out o : i16) {
   %0 = comb.and %a, %b : i16
   %1 = comb.and %a, %c : i16

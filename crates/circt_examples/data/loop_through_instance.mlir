@@ -1,3 +1,4 @@
+// an instance whose output is its input, through a register
 hw.module private @D(in %clk : !seq.clock, in %d : i1, out q : i1) {
   %r = seq.compreg %d, %clk : i1
   hw.output %r : i1

@@ -1,9 +1,10 @@
-// ----- the whole of a bit
+// an extract of the only bit
 hw.module @T(in %x : i1, out c : i1) {
   %0 = comb.extract %x from 0 : (i1) -> i1
   hw.output %0 : i1
 }
-// ----- a part of a sum
+// -----
+// an extract of a part of a sum
 hw.module @T(in %a : i8, in %b : i8, out c : i4) {
   %0 = comb.add %a, %b : i8
   %1 = comb.extract %0 from 0 : (i8) -> i4

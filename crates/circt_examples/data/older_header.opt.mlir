@@ -1,3 +1,4 @@
+// a module with an older header
 module {
   hw.module @O(in %a : i8, in %b : i8, out c : i8) {
     %0 = comb.add %a, %b : i8

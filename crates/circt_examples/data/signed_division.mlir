@@ -1,3 +1,4 @@
+// a signed quotient by -3, shifted by a value
 hw.module @T(in %a : i8, in %b : i8, out o : i8) {
   %k = hw.constant -3 : i8
   %0 = comb.divs %a, %k : i8

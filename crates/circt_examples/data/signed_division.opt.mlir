@@ -1,3 +1,4 @@
+// a signed quotient by -3, shifted by a value
 module {
   hw.module @T(in %a : i8, in %b : i8, out o : i8) {
     %c-3_i8 = hw.constant -3 : i8

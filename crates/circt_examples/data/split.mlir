@@ -1,3 +1,5 @@
+// a module without ports
 hw.module @A() {}
 // -----
+// the same module in another piece of the file
 hw.module @A() {}

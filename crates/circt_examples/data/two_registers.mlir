@@ -1,3 +1,4 @@
+// two instances of a register with enable and reset, one after the other
 hw.module private @Reg(in %clk : !seq.clock, in %rst : i1, in %en : i1, in %d : i8, out q : i8) {
   %z = hw.constant 9 : i8
   %r = seq.compreg.ce %d, %clk, %en reset %rst, %z : i8

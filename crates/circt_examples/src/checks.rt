@@ -1,5 +1,5 @@
 //! Whether the cases of an example give what is expected.
-use crate::cases::{cases, commands};
+use crate::cases::{Case, are_labelled_alike, cases, commands};
 use crate::runs::{Ended, run};
 use crate::steps::{design_runs, run_of, verilog_runs};
 use crate::verdicts::do_differ;
@@ -89,27 +89,58 @@ pub fn check_example(
         println!(rt; "{name}: there is no such example")?;
         return Ok(false);
     };
-    let sources = cases(alloc, example.as_str())?;
+    let Some(sources) = cases(alloc, example.as_str())? else {
+        println!(rt; "{name}.mlir: a label is missing or stands twice")?;
+        return Ok(false);
+    };
     let mut is_well = false;
     for expectation in &EXPECTATIONS {
-        let ending = expectation.ending;
-        if let Some(text) = text_of(alloc, files, name, ending)? {
-            let wanted = cases(alloc, text.as_str())?;
+        if let Some(text) = text_of(alloc, files, name, expectation.ending)? {
             let lines = commands(
                 alloc,
                 example.as_str(),
                 expectation.begin,
                 expectation.command,
             )?;
-            let met = count_met(rt, alloc, expectation, &lines, &sources, &wanted)?;
-            println!(rt; "{name}{ending}: {met} of {} cases", sources.len())?;
-            if met != sources.len() || met != wanted.len() {
+            if !is_as_expected(
+                rt,
+                alloc,
+                expectation,
+                name,
+                &lines,
+                &sources,
+                text.as_str(),
+            )? {
                 return Ok(false);
             }
             is_well = true;
         }
     }
     Ok(is_well)
+}
+
+// Whether the text of an expectation has a case of each label, in order, and each case gives by the command of each line what is
+// expected. How many do is said.
+fn is_as_expected(
+    rt: &(impl Print + Threads + Sync),
+    alloc: Global,
+    expectation: &Expectation,
+    name: &str,
+    lines: &[String],
+    sources: &[Case],
+    text: &str,
+) -> anyhow::Result<bool> {
+    let ending = expectation.ending;
+    let wanted = match cases(alloc, text)? {
+        Some(wanted) if are_labelled_alike(sources, wanted.as_slice()) => wanted,
+        _ => {
+            println!(rt; "{name}{ending}: its labels are not those of {name}.mlir, in order")?;
+            return Ok(false);
+        }
+    };
+    let met = count_met(rt, alloc, expectation, lines, sources, &wanted)?;
+    println!(rt; "{name}{ending}: {met} of {} cases", sources.len())?;
+    Ok(met == sources.len())
 }
 
 // The text of an example's file of this ending, where it can be read.
@@ -133,40 +164,43 @@ fn count_met(
     alloc: Global,
     expectation: &Expectation,
     lines: &[String],
-    sources: &[String],
-    wanted: &[String],
+    sources: &[Case],
+    wanted: &[Case],
 ) -> anyhow::Result<usize> {
     let mut met = 0usize;
-    for (source, text) in sources.iter().zip(wanted) {
+    for (source, expected) in sources.iter().zip(wanted) {
         if is_met(
             rt,
             alloc,
             expectation,
             lines,
-            source.as_str(),
-            text.as_str(),
+            source,
+            expected.text.as_str(),
         )? {
             met = met.saturating_add(1);
+        } else {
+            println!(rt; "not as expected: {}", source.label)?;
         }
     }
     Ok(met)
 }
 
-// Whether the command of each line gives of a text what is expected, and where that is said of it, `opt` of that the same
+// Whether the command of each line gives of a case what is expected, and where that is said of it, `opt` of that the same
 // again.
 fn is_met(
     rt: &(impl Print + Threads + Sync),
     alloc: Global,
     expectation: &Expectation,
     lines: &[String],
-    source: &str,
+    source: &Case,
     wanted: &str,
 ) -> anyhow::Result<bool> {
+    let text = source.text.as_str();
     let expected = expectation.expected;
     let mut is_met = expected != Expected::StableOutput
         || is_given(rt, alloc, expected, "opt", wanted, wanted)?;
     for line in lines {
-        is_met &= is_given(rt, alloc, expected, line.as_str(), source, wanted)?;
+        is_met &= is_given(rt, alloc, expected, line.as_str(), text, wanted)?;
     }
     Ok(is_met)
 }

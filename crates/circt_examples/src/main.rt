@@ -1,12 +1,11 @@
 //! Runs the program on example files, and says how many cases of each give what is expected.
 //!
-//! Each word is the name of an example. `NAME.mlir` has its cases: each is one text, and where there
-//! are several, a line that begins with `// -----` stands before each. A file beside it has what is
-//! expected of each case, in the same order: `NAME.opt.mlir` what `opt` prints, which `opt` prints
-//! again unchanged, `NAME.v` what `translate --export-verilog` prints, `NAME.opt.txt` and
-//! `NAME.v.txt` the error messages of these commands, `NAME.lec.txt` the verdict of `lec` on modules `p` and `q` of the case, and
-//! `NAME.steps.txt` the steps that a module of the texts that are printed takes. Lines `// RUN: circt WORDS` before the first case
-//! name the commands, with their options, that are to give it.
+//! Each word is the name of an example. `NAME.mlir` has its cases: a line `// -----` stands between two, and the first line of each is
+//! its label, `// LABEL`. Lines `// RUN: circt WORDS` before the first case name the commands, with their options, that are run on the
+//! text after the label. A file beside it has what is expected of the case of each label, in the same order: `NAME.opt.mlir` what `opt`
+//! prints, which `opt` prints again unchanged, `NAME.v` what `translate --export-verilog` prints, `NAME.opt.txt` and `NAME.v.txt` the error
+//! messages of these commands, `NAME.lec.txt` the verdict of `lec` on modules `p` and `q` of the case, and `NAME.steps.txt` the steps
+//! that a module of the texts that are printed takes.
 #![tactic(auto)]
 
 mod cases;

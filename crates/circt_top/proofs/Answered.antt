@@ -1,11 +1,12 @@
 -- What is known of the told inputs from what was read of them: at most one byte more than a text may have.
-use Rattle.std.proofs.Common.{◌≡◌, ℕ, ◌-◌, ◌<◌, ◌≤◌, inl, inr, min, Bool, true, false, cond, nat_lt, List, [], ◌∷◌, length, take, Some, None, Result, Ok, Err, refl, sym, ◌∙◌, ap, subst, arith, length-take, take_all, option_map, lt-ltb, ltb-true, ltb-false}
+use Rattle.std.proofs.Common.{◌≡◌, ℕ, ◌-◌, ◌<◌, ◌≤◌, inl, inr, min, Bool, true, false, cond, nat_lt, List, [], ◌∷◌, length, take, Some, None, Result, Ok, Err, refl, sym, ◌∙◌, ap, subst, arith}
+use Rattle.std.proofs.Common.{length-take, take_all, option_map, lt-ltb, ltb-true, ltb-false}
 use Rattle.std.proofs.lemmas.List.{length-map}
 use Rattle.wiring.specs.Wiring.{In}
 use Rattle.hw_model.specs.Types.{Name}
 use Rattle.hw_model.specs.Design.{Design}
 use Rattle.io_edge.specs.Reading.{Reads}
-use Rattle.diag.specs.Place.{start_place}
+use Rattle.diag.specs.Location.{start_location}
 use Rattle.diag.specs.declared.refusal.OpName.TheVariants as op
 use Rattle.diag.specs.declared.cause.Cause.TheVariants.{TooLong}
 use Rattle.diag.specs.declared.refusal.Refusal.{Refusal}
@@ -26,24 +27,24 @@ use Rattle.circt_top.specs.Comparing.IsRefusedPair.{first as of_first, last as o
 use Rattle.circt_top.specs.Outcome.{Verdict, Answer, IsAnswer}
 use Rattle.circt_top.specs.Outcome.Verdict.{given, different, unknown}
 use Rattle.circt_top.specs.Outcome.Answer.{prints, refuses}
-use Rattle.circt_top.specs.Inputs.{Told, read_limit, told_at, AreContents, IsMissing, IsOneMissing, AreReads, fronts}
+use Rattle.circt_top.specs.Inputs.{Told, read_limit, told_at, AreContents, IsMissing, IsOneMissing, AreReads, prefixes}
 use Rattle.circt_top.specs.Answer.{IsMadeOf, IsRefusalOf}
 
-front_read : (name : Name) (told : Told) (source bytes : List ℕ) → Reads told name read_limit (Ok source) → told_at name told ≡ Some bytes → source ≡ take read_limit bytes
-front_read name None source bytes read h = cc
-front_read name (Some files) source bytes read h =
+prefix_read : (name : Name) (told : Told) (source bytes : List ℕ) → Reads told name read_limit (Ok source) → told_at name told ≡ Some bytes → source ≡ take read_limit bytes
+prefix_read name None source bytes read h = cc
+prefix_read name (Some files) source bytes read h =
     let e : Some (take read_limit bytes) ≡ Some source = ap (option_map (take read_limit)) (sym h) ∙ read files refl in cc
 
--- what was read of told files are fronts of their contents
-pub fronts_read : (told : Told) (names : List Name) (sources contents : List (List ℕ)) → AreReads told names sources → AreContents told names contents → sources ≡ fronts contents
-fronts_read told [] [] [] read h = refl
-fronts_read told [] [] (bytes ∷ contents) read h = absurd h
-fronts_read told [] (source ∷ sources) contents read h = absurd read
-fronts_read told (name ∷ names) [] contents read h = absurd read
-fronts_read told (name ∷ names) (source ∷ sources) [] read h = absurd h
-fronts_read told (name ∷ names) (source ∷ sources) (bytes ∷ contents) read h =
-    let first : source ≡ take read_limit bytes = front_read name told source bytes read.0 h.0 in
-    let rest : sources ≡ fronts contents = fronts_read told names sources contents read.1 h.1 in
+-- what was read of told files are prefixes of their contents
+pub prefixes_read : (told : Told) (names : List Name) (sources contents : List (List ℕ)) → AreReads told names sources → AreContents told names contents → sources ≡ prefixes contents
+prefixes_read told [] [] [] read h = refl
+prefixes_read told [] [] (bytes ∷ contents) read h = absurd h
+prefixes_read told [] (source ∷ sources) contents read h = absurd read
+prefixes_read told (name ∷ names) [] contents read h = absurd read
+prefixes_read told (name ∷ names) (source ∷ sources) [] read h = absurd h
+prefixes_read told (name ∷ names) (source ∷ sources) (bytes ∷ contents) read h =
+    let first : source ≡ take read_limit bytes = prefix_read name told source bytes read.0 h.0 in
+    let rest : sources ≡ prefixes contents = prefixes_read told names sources contents read.1 h.1 in
     rw (first, rest) refl
 
 -- no file that is missing is read
@@ -61,23 +62,23 @@ missing_among told (first ∷ names) (source ∷ sources) read name (inr there) 
 pub none_missing : (told : Told) (names : List Name) (sources : List (List ℕ)) → AreReads told names sources → IsOneMissing told names → ⊥
 none_missing told names sources read missing = missing_among told names sources read missing.0 missing.1 missing.2
 
--- a short front is the whole
+-- a short prefix is the whole
 whole_read : (bytes source : List ℕ) → source ≡ take read_limit bytes → length source ≤ text_limit → source ≡ bytes
-whole_read bytes source front short =
+whole_read bytes source prefix short =
     let l : length (take read_limit bytes) ≡ min read_limit (length bytes) = length-take read_limit bytes in
-    let e : length source ≡ length (take read_limit bytes) = ap length front in
+    let e : length source ≡ length (take read_limit bytes) = ap length prefix in
     let few : length bytes ≤ read_limit = omega arith in
-    front ∙ take_all read_limit bytes few
+    prefix ∙ take_all read_limit bytes few
 
--- a long front is of a long text
+-- a long prefix is of a long text
 long_read : (bytes source : List ℕ) → source ≡ take read_limit bytes → text_limit < length source → text_limit < length bytes
-long_read bytes source front long =
+long_read bytes source prefix long =
     let l : length (take read_limit bytes) ≡ min read_limit (length bytes) = length-take read_limit bytes in
-    let e : length source ≡ length (take read_limit bytes) = ap length front in
+    let e : length source ≡ length (take read_limit bytes) = ap length prefix in
     omega arith
 
 abbrev refused_first : Result Design Refusal
-refused_first = Err (refusal start_place op.File TooLong)
+refused_first = Err (refusal start_location op.File TooLong)
 
 -- all texts that are too long are refused alike
 too_long : (bytes source : List ℕ) → text_limit < length bytes → text_limit < length source → read source ≡ read bytes
@@ -85,12 +86,12 @@ too_long bytes source long also =
     ap (λ b. cond b refused_first (design_read (file_text (stream_of source)))) (lt-ltb text_limit (length source) also)
     ∙ sym (ap (λ b. cond b refused_first (design_read (file_text (stream_of bytes)))) (lt-ltb text_limit (length bytes) long))
 
--- what is read of a front is read of the whole
+-- what is read of a prefix is read of the whole
 pub read_whole : (bytes source : List ℕ) → source ≡ take read_limit bytes → read source ≡ read bytes
-read_whole bytes source front = go (nat_lt text_limit (length source)) refl where
+read_whole bytes source prefix = go (nat_lt text_limit (length source)) refl where
   go : (b : Bool) → nat_lt text_limit (length source) ≡ b → read source ≡ read bytes
-  go true e = let long : text_limit < length source = ltb-true text_limit (length source) e in too_long bytes source (long_read bytes source front long) long
-  go false e = ap read (whole_read bytes source front (ltb-false text_limit (length source) e))
+  go true e = let long : text_limit < length source = ltb-true text_limit (length source) e in too_long bytes source (long_read bytes source prefix long) long
+  go false e = ap read (whole_read bytes source prefix (ltb-false text_limit (length source) e))
 
 accepted_whole : (bytes source : List ℕ) (d : Design) → read source ≡ read bytes → Accepted source d → Accepted bytes d
 accepted_whole bytes source d same a = record { says = sym same ∙ a.says; accepted = a.accepted }
@@ -117,35 +118,35 @@ reprint_whole passes bytes source text same is = record {
 translation_whole : (passes : List Pass) (bytes source text : List ℕ) → read source ≡ read bytes → IsTranslation passes source text → IsTranslation passes bytes text
 translation_whole passes bytes source text same is = record { design = is.design; accepted = accepted_whole bytes source is.design same is.accepted; translated = is.translated }
 
--- pieces of a front that is not too long are those of the whole
+-- pieces of a prefix that is not too long are those of the whole
 pieces_whole : (passes : List Pass) (bytes source text : List ℕ) → source ≡ take read_limit bytes → IsReprintOfPieces passes source text → IsReprintOfPieces passes bytes text
-pieces_whole passes bytes source text front is = subst (λ s. IsReprintOfPieces passes s text) (whole_read bytes source front is.short) is
+pieces_whole passes bytes source text prefix is = subst (λ s. IsReprintOfPieces passes s text) (whole_read bytes source prefix is.short) is
 
 refused_pieces_whole : (bytes source : List ℕ) (r : Refusal) → source ≡ take read_limit bytes → IsRefusedInPieces source r → IsRefusedInPieces bytes r
-refused_pieces_whole bytes source r front (inl is) = inl (long_read bytes source front is.0, is.1)
-refused_pieces_whole bytes source r front (inr is) = subst (λ s. IsRefusedInPieces s r) (whole_read bytes source front is.0) (inr is)
+refused_pieces_whole bytes source r prefix (inl is) = inl (long_read bytes source prefix is.0, is.1)
+refused_pieces_whole bytes source r prefix (inr is) = subst (λ s. IsRefusedInPieces s r) (whole_read bytes source prefix is.0) (inr is)
 
 -- ---- comparisons
 
-first_front : (contents : List (List ℕ)) → first_input (fronts contents) ≡ take read_limit (first_input contents)
-first_front [] = refl
-first_front (bytes ∷ contents) = refl
+first_prefix : (contents : List (List ℕ)) → first_input (prefixes contents) ≡ take read_limit (first_input contents)
+first_prefix [] = refl
+first_prefix (bytes ∷ contents) = refl
 
-last_front : (contents : List (List ℕ)) → last_input (fronts contents) ≡ take read_limit (last_input contents)
-last_front [] = refl
-last_front (bytes ∷ []) = refl
-last_front (bytes ∷ more ∷ contents) = last_front (more ∷ contents)
+last_prefix : (contents : List (List ℕ)) → last_input (prefixes contents) ≡ take read_limit (last_input contents)
+last_prefix [] = refl
+last_prefix (bytes ∷ []) = refl
+last_prefix (bytes ∷ more ∷ contents) = last_prefix (more ∷ contents)
 
-module _ (contents sources : List (List ℕ)) (are : sources ≡ fronts contents) where
-  inputs_front : first_input sources ≡ take read_limit (first_input contents)
-  inputs_front = ap first_input are ∙ first_front contents
+module _ (contents sources : List (List ℕ)) (are : sources ≡ prefixes contents) where
+  inputs_prefix : first_input sources ≡ take read_limit (first_input contents)
+  inputs_prefix = ap first_input are ∙ first_prefix contents
 
   -- what is read of the first input and of the last one
   first_read : read (first_input sources) ≡ read (first_input contents)
-  first_read = read_whole (first_input contents) (first_input sources) inputs_front
+  first_read = read_whole (first_input contents) (first_input sources) inputs_prefix
 
   last_read : read (last_input sources) ≡ read (last_input contents)
-  last_read = read_whole (last_input contents) (last_input sources) (ap last_input are ∙ last_front contents)
+  last_read = read_whole (last_input contents) (last_input sources) (ap last_input are ∙ last_prefix contents)
 
   -- there are as many
   as_many : last_number sources ≡ last_number contents
@@ -186,12 +187,12 @@ module _ (contents sources : List (List ℕ)) (are : sources ≡ fronts contents
 
   -- ---- answers
 
-  -- what is answered for fronts is answered for the whole
+  -- what is answered for prefixes is answered for the whole
   answer_whole : (work : Work) (x : Answer) → IsAnswer work sources x → IsAnswer work contents x
   answer_whole (mlir passes) (prints given text) is = reprint_whole passes (first_input contents) (first_input sources) text first_read is
   answer_whole (mlir passes) (refuses r) is = refused_in_again 0 (first_input contents) (first_input sources) r first_read is
-  answer_whole (mlir_pieces passes) (prints given text) is = pieces_whole passes (first_input contents) (first_input sources) text inputs_front is
-  answer_whole (mlir_pieces passes) (refuses r) is = refused_pieces_whole (first_input contents) (first_input sources) r inputs_front is
+  answer_whole (mlir_pieces passes) (prints given text) is = pieces_whole passes (first_input contents) (first_input sources) text inputs_prefix is
+  answer_whole (mlir_pieces passes) (refuses r) is = refused_pieces_whole (first_input contents) (first_input sources) r inputs_prefix is
   answer_whole (verilog passes) (prints given text) is = translation_whole passes (first_input contents) (first_input sources) text first_read is
   answer_whole (verilog passes) (refuses r) is = refused_in_again 0 (first_input contents) (first_input sources) r first_read is
   answer_whole (generated_summary seed count) (prints given text) is = is
@@ -207,10 +208,10 @@ module _ (contents sources : List (List ℕ)) (are : sources ≡ fronts contents
 
 -- what is refused of what was read is refused of the told files
 pub refused_whole : (c : Command) (told : Told) (sources : List (List ℕ)) (r : Refusal) → AreReads told c.inputs sources → IsAnswer c.work sources (refuses r) → IsRefusalOf c told r
-refused_whole c told sources r read is = λ contents h. answer_whole contents sources (fronts_read told c.inputs sources contents read h) c.work (refuses r) is
+refused_whole c told sources r read is = λ contents h. answer_whole contents sources (prefixes_read told c.inputs sources contents read h) c.work (refuses r) is
 
 -- what is made of what was read is made of the told files
 pub made_whole : (c : Command) (told : Told) (sources : List (List ℕ)) (verdict : Verdict) (text : List ℕ) → AreReads told c.inputs sources → IsAnswer c.work sources (prints verdict text)
     → IsMadeOf c told verdict text
 made_whole c told sources verdict text read is =
-    λ contents h. answer_whole contents sources (fronts_read told c.inputs sources contents read h) c.work (prints verdict text) is
+    λ contents h. answer_whole contents sources (prefixes_read told c.inputs sources contents read h) c.work (prints verdict text) is

@@ -12,7 +12,7 @@ use Rattle.pass_pipeline.specs.declared.pass.Pass.{Pass}
 use Rattle.circt_top.specs.Pieces.{Piece, pieces_of}
 use Rattle.circt_top.specs.PieceReprint.{AreReprints, IsFirstRefused, IsRefusedInPieces, AreAccepted, IsAcceptedInPieces}
 use Rattle.hw_model.specs.Types.{Name}
-use Rattle.lec_tool.specs.Comparison.{AreComparable}
+use Rattle.lec_tool.specs.Comparable.{AreComparable}
 use Rattle.lec_tool.specs.Comparisons.{IsComparisonRefusal}
 use Rattle.lec_tool.specs.Verdicts.{IsAffordable}
 use Rattle.lec_tool.proofs.Unrefused.{compared_unrefused}

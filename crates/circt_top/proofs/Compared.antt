@@ -14,12 +14,12 @@ use Rattle.circt_top.specs.Comparing.IsRefusedPair.{first as of_first, last as o
 use Rattle.circt_top.specs.Conclusions.{IsFound, IsEither}
 use Rattle.circt_top.specs.Outcome.{IsAnswer, verdict_of, Gives, GivesText}
 use Rattle.circt_top.specs.Outcome.Answer.{prints}
-use Rattle.circt_top.specs.Outcomes.{IsTaken, fail_in_file}
-use Rattle.circt_top.specs.declared.outcome.Made.{Made}
-use Rattle.circt_top.specs.declared.outcome.Finding.{Finding}
-use Rattle.circt_top.specs.declared.outcome.Finding.TheVariants.{Given, Different, Unknown}
-use Rattle.circt_top.specs.declared.outcome.OutcomeFail.{OutcomeFail}
-use Rattle.circt_top.specs.declared.outcome.OutcomeFail.TheVariants.{Refused, NoMemory}
+use Rattle.circt_top.specs.OutcomeParts.{IsTaken, fail_in_file}
+use Rattle.circt_top.specs.declared.made.Made.{Made}
+use Rattle.circt_top.specs.declared.made.Finding.{Finding}
+use Rattle.circt_top.specs.declared.made.Finding.TheVariants.{Given, Different, Unknown}
+use Rattle.circt_top.specs.declared.made.OutcomeFail.{OutcomeFail}
+use Rattle.circt_top.specs.declared.made.OutcomeFail.TheVariants.{Refused, NoMemory}
 
 -- the last of fewer than two inputs is the first one
 pub last_of_one : (contents : List (List ℕ)) → length contents < 2 → last_input contents ≡ first_input contents

@@ -1,5 +1,5 @@
 -- From a run of a command to a run for its words; and the ends that are left where nothing failed.
-use Rattle.std.proofs.Common.{◌≡◌, ℕ, List, [], Option, Some, None, Ok, sym, ◌∙◌, ap, subst}
+use Rattle.std.proofs.Common.{◌≡◌, ℕ, Bool, List, [], Option, Some, None, Ok, sym, ◌∙◌, ap, subst}
 use Rattle.hw_model.specs.Types.{Name}
 use Rattle.diag.specs.declared.refusal.Refusal.{Refusal}
 use Rattle.command_line.specs.Line.{Command}
@@ -25,20 +25,20 @@ pub for_command : (words : List Name) (p : Command) (P : Command → Type 0) →
 for_command words p P h x = λ q k. subst P (same_command words h k) x
 
 -- an end before any file is read is reported
-pub stopped_ends : {S : Type 0} (told : S → Option (List ℕ)) (faults : S → ℕ) (words : List Name) (IsUnread : Name → Type 0) (files : Told) (end : End) (before after : S) → IsStop end
-    → ((s : Subject) → Reports told faults before after (line_of s end)) → ReportsEnd told faults words IsUnread files end before after
-stopped_ends told faults words IsUnread files (answered verdict) before after stop reports = absurd stop
-stopped_ends told faults words IsUnread files (refused r) before after stop reports = absurd stop
-stopped_ends told faults words IsUnread files read_fault before after stop reports = absurd stop
-stopped_ends told faults words IsUnread files write_fault before after stop reports = absurd stop
-stopped_ends told faults words IsUnread files (usage kind) before after stop reports = record { subject = nameless; named = λ c h. tt; reports = reports nameless }
-stopped_ends told faults words IsUnread files no_memory before after stop reports = record { subject = nameless; named = λ c h. tt; reports = reports nameless }
+pub stopped_ends : {S : Type 0} (puts : S → List ℕ → Bool → S → Type 0) (told : S → Option (List ℕ)) (faults : S → ℕ) (words : List Name) (IsUnread : List Name → Name → Type 0) (files : Told) (end : End) (before after : S) → IsStop end
+    → ((s : Subject) → Reports puts told faults before after (line_of s end)) → ReportsEnd puts told faults words IsUnread files end before after
+stopped_ends puts told faults words IsUnread files (answered verdict) before after stop reports = absurd stop
+stopped_ends puts told faults words IsUnread files (refused r) before after stop reports = absurd stop
+stopped_ends puts told faults words IsUnread files read_fault before after stop reports = absurd stop
+stopped_ends puts told faults words IsUnread files write_fault before after stop reports = absurd stop
+stopped_ends puts told faults words IsUnread files (usage kind) before after stop reports = record { subject = nameless; named = λ c h. tt; reports = reports nameless }
+stopped_ends puts told faults words IsUnread files no_memory before after stop reports = record { subject = nameless; named = λ c h. tt; reports = reports nameless }
 
 -- the end of a run of a command is reported
-pub run_ends : {S : Type 0} (told : S → Option (List ℕ)) (faults : S → ℕ) (words : List Name) (IsUnread : Name → Type 0) (files : Told) (end : End) (before after : S) (p : Command)
-    → line words ≡ Ok p → (s : Subject) × IsSubject IsUnread files end p s × Reports told faults before after (line_of s end)
-    → ReportsEnd told faults words IsUnread files end before after
-run_ends told faults words IsUnread files end before after p h x =
+pub run_ends : {S : Type 0} (puts : S → List ℕ → Bool → S → Type 0) (told : S → Option (List ℕ)) (faults : S → ℕ) (words : List Name) (IsUnread : List Name → Name → Type 0) (files : Told) (end : End) (before after : S) (p : Command)
+    → line words ≡ Ok p → (s : Subject) × IsSubject IsUnread files end p s × Reports puts told faults before after (line_of s end)
+    → ReportsEnd puts told faults words IsUnread files end before after
+run_ends puts told faults words IsUnread files end before after p h x =
     record { subject = x.0; named = for_command words p (λ c. IsSubject IsUnread files end c x.0) h x.1; reports = x.2 }
 
 -- facts that hold of the command hold of the words
@@ -82,12 +82,12 @@ module _ (words : List Name) (p : Command) (told : Told) (R W : Type 0) (D F : (
 
   pub refusing : (end : End) → IsUsage end (fault_of words) → OnReadFault end R → OnAnswered end (λ verdict. (text : List ℕ) × D text × IsMadeOf p told verdict text)
       → OnWriteFault end ((verdict : Verdict) × (text : List ℕ) × F text × IsMadeOf p told verdict text) → ¬ IsAnswered p.work contents → ¬ R → IsRefusedOrNoMemory end
-  refusing (usage kind) wrong read done front outside no_read = usage_gone kind wrong
-  refusing (answered verdict) wrong read done front outside no_read = outside (made_answered p.work contents verdict done.0 (done.2 contents are))
-  refusing (refused r) wrong read done front outside no_read = tt
-  refusing read_fault wrong read done front outside no_read = no_read read
-  refusing write_fault wrong read done front outside no_read = outside (made_answered p.work contents front.0 front.1 (front.3 contents are))
-  refusing no_memory wrong read done front outside no_read = tt
+  refusing (usage kind) wrong read done prefix outside no_read = usage_gone kind wrong
+  refusing (answered verdict) wrong read done prefix outside no_read = outside (made_answered p.work contents verdict done.0 (done.2 contents are))
+  refusing (refused r) wrong read done prefix outside no_read = tt
+  refusing read_fault wrong read done prefix outside no_read = no_read read
+  refusing write_fault wrong read done prefix outside no_read = outside (made_answered p.work contents prefix.0 prefix.1 (prefix.3 contents are))
+  refusing no_memory wrong read done prefix outside no_read = tt
 
 -- the words say one command, so what holds of it holds of this
 pub one_command : (words : List Name) (p q : Command) (P : Command → Type 0) → line words ≡ Ok p → line words ≡ Ok q → P q → P p

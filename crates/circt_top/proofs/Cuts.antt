@@ -68,18 +68,18 @@ separator_carried before piece line ps =
     ap (λ p. p ∷ map (following (before ++ piece)) (map (following line) ps)) (same_piece (append-nil before) (append-nil piece))
     ∙ ap (λ l. piece_after before piece ∷ l) (after_twice (before ++ piece) line ps ∙ begun_nothing ((before ++ piece) ++ line) ps)
 
--- ---- a text cut as far as a place
+-- ---- a text cut as far as a location
 
 -- the pieces so far, and those of the rest, the first of which has begun at `start`
 abbrev pub IsCutTo : List ℕ → ℕ → ℕ → List Piece → Type 0
 IsCutTo source start at pieces = pieces ++ carried (take start source) (slice_range source start at) (pieces_of_lines (lines_of (drop at source))) ≡ pieces_of source
 
-front_to : (source : List ℕ) (start at : ℕ) → start ≤ at → take at source ≡ take start source ++ slice_range source start at
-front_to source start at h =
+prefix_to : (source : List ℕ) (start at : ℕ) → start ≤ at → take at source ≡ take start source ++ slice_range source start at
+prefix_to source start at h =
     let e : at ≡ start + (at - start) = omega (arith, h) in
     ap (λ n. take n source) e ∙ take-add start (at - start) source
 
--- the line at a place
+-- the line at a location
 abbrev line_from : List ℕ → ℕ → List ℕ
 line_from source at = slice_range source at (at + line_size (drop at source))
 
@@ -130,14 +130,14 @@ cut_separator source start at pieces p h lt separates before bytes cut =
     let step : pieces_of_lines (lines_of (drop at source)) ≡ empty_piece ∷ map (following (line_from source at)) rest =
     ap pieces_of_lines (lines_from source at lt)
     ∙ ap (λ b. cond b (empty_piece ∷ map (following (line_from source at)) rest) (begun_with (line_from source at) rest)) separates in
-    let front : take (at + n) source ≡ (take start source ++ slice_range source start at) ++ line_from source at =
-    take-add at n source ∙ ap (λ l. l ++ take n (drop at source)) (front_to source start at h)
+    let prefix : take (at + n) source ≡ (take start source ++ slice_range source start at) ++ line_from source at =
+    take-add at n source ∙ ap (λ l. l ++ take n (drop at source)) (prefix_to source start at h)
     ∙ ap (λ l. (take start source ++ slice_range source start at) ++ l) (sym (line_is source at n)) in
     let none : slice_range source (at + n) (at + n) ≡ [] = let e : (at + n) - (at + n) ≡ 0 = omega arith in ap (λ k. take k (drop (at + n) source)) e in
     append_assoc pieces (p ∷ []) (carried (take (at + n) source) (slice_range source (at + n) (at + n)) rest)
     ∙ ap (λ l. pieces ++ l)
     (ap (λ l. p ∷ carried (take (at + n) source) l rest) none
-    ∙ ap (λ l. p ∷ carried l [] rest) front
+    ∙ ap (λ l. p ∷ carried l [] rest) prefix
     ∙ ap (λ q. q ∷ carried ((take start source ++ slice_range source start at) ++ line_from source at) [] rest) (same_piece before bytes)
     ∙ sym (separator_carried (take start source) (slice_range source start at) (line_from source at) rest)
     ∙ ap (carried (take start source) (slice_range source start at)) (sym step))

@@ -44,6 +44,11 @@ pub unread_refuses : (P : Refusal → Type 0) (unread : Unread) → OnRefused (u
 unread_refuses P (Fault name) = tt
 unread_refuses P NoMemory = tt
 
+-- nothing is answered where an input was not read
+pub unread_answers : (P : Verdict → Type 0) (unread : Unread) → OnAnswered (unread_end unread) P
+unread_answers P (Fault name) = tt
+unread_answers P NoMemory = tt
+
 -- a run of which an input was not read ends so
 pub unread_ends : (unread : Unread) → IsReadFaultOrNoMemory (unread_end unread)
 unread_ends (Fault name) = tt

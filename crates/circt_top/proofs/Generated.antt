@@ -6,8 +6,7 @@ use Rattle.generator.specs.Generated.{generated}
 use Rattle.pass_pipeline.specs.declared.pass.Pass.{Pass}
 use Rattle.circt_top.specs.Generation.{generation_passes, IsGenerated, IsSummary}
 use Rattle.circt_top.specs.Summary.{Counts, Summary, counts_of, summary_of, summary_text}
-use Rattle.circt_top.specs.Translates.{IsTranslatedFrom}
-use Rattle.circt_top.specs.Translation.{IsTranslated}
+use Rattle.circt_top.specs.Translation.{IsTranslatedFrom, IsTranslated}
 
 module _ (seed count : ℕ) (passes : List Pass) (d : Design) (are : passes ≡ generation_passes) (is : d ≡ generated seed count) where
   -- its translation is the answer

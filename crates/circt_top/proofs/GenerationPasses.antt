@@ -3,7 +3,7 @@ use Rattle.std.proofs.Common.{◌≡◌, ℕ, List, [], ◌∷◌, Ok, Err, refl
 use Rattle.pass_pipeline.specs.Passes.{pass_name, runs_on}
 use Rattle.pass_pipeline.specs.Pipelines.{passes, passes_after, Reads}
 use Rattle.pass_pipeline.specs.Steps.{step_over, root, opening, first_item, item, pass_item, separator, closed}
-use Rattle.pass_pipeline.specs.Symbols.{symbol_in}
+use Rattle.pass_pipeline.specs.Tokens.{token_in}
 use Rattle.pass_pipeline.specs.declared.pass.Pass.{Pass}
 use Rattle.pass_pipeline.specs.declared.pass.Pass.TheVariants.{Canonicalize, Cse, HwFlattenModules}
 use Rattle.pass_pipeline.specs.declared.pipeline.PipelineError.{PipelineError}
@@ -18,7 +18,7 @@ abbrev text : List ℕ
 text = codes "builtin.module(canonicalize,cse,hw-flatten-modules,canonicalize,cse)"
 
 pipeline_read : passes offered text ≡ Ok generation_passes
-unfolding passes passes_after pass_name runs_on step_over root opening first_item item pass_item separator closed symbol_in
+unfolding passes passes_after pass_name runs_on step_over root opening first_item item pass_item separator closed token_in
 pipeline_read = refl
 
 -- nothing else is read of it

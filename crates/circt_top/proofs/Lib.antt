@@ -1,5 +1,6 @@
 pub mod Answered
 pub mod Read
+pub mod ReadOrder
 pub mod Completed
 mod Reported
 mod Ends
@@ -7,8 +8,9 @@ mod Subjects
 pub mod Answers
 pub mod Within
 mod Partners
-pub mod Outcomes
+pub mod OutcomeParts
 pub mod Cuts
+mod CutAgain
 pub mod PieceTexts
 pub mod GenerationPasses
 pub mod Generated

@@ -22,12 +22,12 @@ partners passes d e accepted after = λ m here exposed.
     let remains : IsKept passes d m.symbol = public_kept passes d e after (has_pass is_flatten passes) (has_pass is_symbol_dce passes) m.symbol public in
     let there : In m.symbol (symbols e) = those_stay (IsKept passes d) m.symbol (symbols d) (symbols e) after.order (In-map (λ (x : Module). x.symbol) m d here) remains in
     let still = symbol_found e m.symbol there in
-    let place = found_symbol e m.symbol still.0 still.1 in
+    let location = found_symbol e m.symbol still.0 still.1 in
     let kept = after.modules m.symbol m still.0 found still.1 in
     record {
       partner = still.0;
-      there = In-slice_get still.0 e place.0 place.1;
-      symbol = place.2;
+      there = In-slice_get still.0 e location.0 location.1;
+      symbol = location.2;
       exposed = kept.mark ∙ exposed;
       ports = kept.ports;
       behaves = after.same m.symbol public;

@@ -2,7 +2,7 @@
 use Rattle.std.proofs.Common.{◌≡◌, ℕ, zero, suc, ◌+◌, take, drop, get_or, arith, ◌<◌, ◌≤◌, inl, inr, List, [], ◌∷◌, ◌++◌, length, map, Result, Ok, Err, refl, sym, ◌∙◌, ap, subst, append_assoc}
 use Rattle.std.proofs.lemmas.List.{append-nil, take_all}
 use Rattle.std.specs.Prelude.{codes}
-use Rattle.diag.specs.Place.{start_place}
+use Rattle.diag.specs.Location.{start_location}
 use Rattle.diag.specs.declared.refusal.OpName.TheVariants as op
 use Rattle.diag.specs.declared.cause.Cause.TheVariants.{TooLong}
 use Rattle.diag.specs.declared.refusal.Refusal.{Refusal}
@@ -11,14 +11,17 @@ use Rattle.mlir_syntax.specs.Stream.{refusal}
 use Rattle.mlir_reader.specs.Reading.{text_limit}
 use Rattle.pass_pipeline.specs.declared.pass.Pass.{Pass}
 use Rattle.circt_top.specs.Accepting.{first_input}
-use Rattle.circt_top.specs.Pieces.{Piece, pieces_of, joined, joined_after}
+use Rattle.mlir_printer.specs.Lines.{HasLines}
+use Rattle.mlir_printer.proofs.lines.TextLines.{text_has_lines}
+use Rattle.circt_top.specs.Pieces.{Piece, lines_of, pieces_of, joined, joined_after}
+use Rattle.circt_top.proofs.CutAgain.{HaveLines, cut_again, some_piece}
 use Rattle.circt_top.proofs.Read.{names_more}
 use Rattle.circt_top.specs.PieceReprint.{AreReprints, ArePrinted, IsPieceRefused, IsFirstRefused}
 use Rattle.circt_top.specs.Reprint.{IsReprint}
-use Rattle.circt_top.specs.Outcomes.{IsFailOfPiece, GivesPieces}
+use Rattle.circt_top.specs.OutcomeParts.{IsFailOfPiece, GivesPieces}
 use Rattle.circt_top.specs.Outcome.{GivesText}
-use Rattle.circt_top.specs.declared.outcome.OutcomeFail.{OutcomeFail}
-use Rattle.circt_top.specs.declared.outcome.OutcomeFail.TheVariants.{Refused, NoMemory}
+use Rattle.circt_top.specs.declared.made.OutcomeFail.{OutcomeFail}
+use Rattle.circt_top.specs.declared.made.OutcomeFail.TheVariants.{Refused, NoMemory}
 
 -- ---- one text more
 
@@ -117,14 +120,31 @@ module _ {A : Type 0} (f : A → Piece) (passes : List Pass) (xs : List A) (firs
       let e : length xs ≡ length (first ∷ others) = ap length is in
       subst (λ l. ArePrinted passes (map f l) text) (take_all (suc i) xs (omega (arith, e, past))) h
 
+-- ---- cut again
+
+-- printed texts are whole lines that are no separators
+have_lines : (passes : List Pass) (ps : List Piece) (texts : List (List ℕ)) → AreReprints passes ps texts → HaveLines texts
+have_lines passes [] [] h = tt
+have_lines passes [] (text ∷ texts) h = absurd h
+have_lines passes (p ∷ ps) [] h = tt
+have_lines passes (p ∷ ps) (text ∷ texts) h = (subst HasLines (sym h.0.laid_out) (text_has_lines h.0.made), have_lines passes ps texts h.1)
+
+printed_again : (passes : List Pass) (ps : List Piece) (text : List ℕ) → (first : Piece) × (others : List Piece) × (ps ≡ first ∷ others) → (h : ArePrinted passes ps text)
+    → map (λ (p : Piece). p.bytes) (pieces_of text) ≡ h.texts
+printed_again passes ps text some h = go h.texts h.each h.is_joined where
+  go : (texts : List (List ℕ)) → AreReprints passes ps texts → text ≡ joined texts → map (λ (p : Piece). p.bytes) (pieces_of text) ≡ texts
+  go [] each is = absurd (subst (λ qs. AreReprints passes qs []) some.2 each)
+  go (t ∷ ts) each is = ap (λ z. map (λ (p : Piece). p.bytes) (pieces_of z)) is ∙ cut_again t ts (have_lines passes ps (t ∷ ts) each)
+
 -- ---- the whole text
 
-pub long_gives : (passes : List Pass) (contents : List (List ℕ)) (r : Refusal) → text_limit < length (first_input contents) → r ≡ refusal start_place op.File TooLong
+pub long_gives : (passes : List Pass) (contents : List (List ℕ)) (r : Refusal) → text_limit < length (first_input contents) → r ≡ refusal start_location op.File TooLong
     → GivesText (mlir_pieces passes) contents (Err (Refused r))
 long_gives passes contents r long is = inl (long, is)
 
 pub pieces_give : (passes : List Pass) (contents : List (List ℕ)) (r : Result (List ℕ) OutcomeFail) → length (first_input contents) ≤ text_limit → GivesPieces passes (pieces_of (first_input contents)) r
     → GivesText (mlir_pieces passes) contents r
-pieces_give passes contents (Ok text) short h = record { short = short; printed = h }
+pieces_give passes contents (Ok text) short h =
+    record { short = short; printed = h; cut_again = printed_again passes (pieces_of (first_input contents)) text (some_piece (lines_of (first_input contents))) h }
 pieces_give passes contents (Err (Refused r)) short h = inr (short, h)
 pieces_give passes contents (Err NoMemory) short h = tt

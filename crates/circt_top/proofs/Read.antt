@@ -48,5 +48,5 @@ pub named_at : {A : Type 0} (f : A → Name) (xs : List A) (i : ℕ) (x : A) →
 named_at f xs i x within is = subst (λ y. In (f y) (map f xs)) (sym is) (named_in f xs i x within)
 
 -- counts that never fall
-pub kept_more : (before between after : ℕ) → before ≤ between → between ≤ after → before ≤ after
-kept_more before between after first second = omega (arith, first, second)
+pub still_at_least : (before between after : ℕ) → before ≤ between → between ≤ after → before ≤ after
+still_at_least before between after first second = omega (arith, first, second)

@@ -18,9 +18,9 @@ length_drop xs zero = omega arith
 length_drop [] (suc n) = omega arith
 length_drop (x ∷ xs) (suc n) = let e : suc (length xs) - suc n ≡ length xs - n = omega arith in length_drop xs n ∙ sym e
 
-front_within : {A : Type 0} (xs : List A) (at len : ℕ) →
+prefix_within : {A : Type 0} (xs : List A) (at len : ℕ) →
     take (min len (length xs - min at (length xs))) (drop (min at (length xs)) xs) ≡ take len (drop at xs)
-front_within xs at len =
+prefix_within xs at len =
     let size : length (drop (min at (length xs)) xs) ≡ length xs - min at (length xs) = length_drop xs (min at (length xs)) in
     ap (λ n. take (min len n) (drop (min at (length xs)) xs)) (sym size)
     ∙ (take_past (drop (min at (length xs)) xs) len ∙ ap (take len) (drop_past xs at))
@@ -30,4 +30,4 @@ pub range_within : {A : Type 0} (xs : List A) (at len : ℕ) →
 range_within xs at len =
     let a : min at (length xs) + min len (length xs - min at (length xs)) - min at (length xs) ≡ min len (length xs - min at (length xs)) = omega arith in
     let b : at + len - at ≡ len = omega arith in
-    ap (λ n. take n (drop (min at (length xs)) xs)) a ∙ (front_within xs at len ∙ ap (λ n. take n (drop at xs)) (sym b))
+    ap (λ n. take n (drop (min at (length xs)) xs)) a ∙ (prefix_within xs at len ∙ ap (λ n. take n (drop at xs)) (sym b))

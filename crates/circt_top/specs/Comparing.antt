@@ -5,8 +5,8 @@ use Rattle.resolution_proof.specs.declared.log.Step.{Step}
 use Rattle.diag.specs.declared.refusal.Refusal.{Refusal}
 use Rattle.hw_model.specs.Types.{Name}
 use Rattle.hw_model.specs.Design.{Design}
-use Rattle.verilog_expr.specs.Building.{literal_of}
-use Rattle.verilog_expr.specs.Text.{expr_text}
+use Rattle.verilog_model.specs.Digits.{literal_of}
+use Rattle.verilog_model.specs.Text.{expr_text}
 use Rattle.lec_tool.specs.Comparisons.{IsComparisonRefusal}
 use Rattle.lec_tool.specs.Verdicts.{DoAgree, DoDiffer, IsUndecided}
 use Rattle.lec_tool.specs.LeafNames.{AreLeafNames}

@@ -9,11 +9,11 @@ use Rattle.command_line.specs.declared.comparison.Comparison.{Comparison}
 use Rattle.lec_tool.specs.Verdicts.{DoAgree, DoDiffer, IsUndecided}
 use Rattle.lec_tool.specs.LeafNames.{AreLeafNames}
 use Rattle.circt_top.specs.Comparing.{in_pair, difference_text}
-use Rattle.circt_top.specs.declared.outcome.Made.{Made}
-use Rattle.circt_top.specs.declared.outcome.Finding.{Finding}
-use Rattle.circt_top.specs.declared.outcome.Finding.TheVariants.{Given, Different, Unknown}
-use Rattle.circt_top.specs.declared.outcome.OutcomeFail.{OutcomeFail}
-use Rattle.circt_top.specs.declared.outcome.OutcomeFail.TheVariants.{Refused, NoMemory}
+use Rattle.circt_top.specs.declared.made.Made.{Made}
+use Rattle.circt_top.specs.declared.made.Finding.{Finding}
+use Rattle.circt_top.specs.declared.made.Finding.TheVariants.{Given, Different, Unknown}
+use Rattle.circt_top.specs.declared.made.OutcomeFail.{OutcomeFail}
+use Rattle.circt_top.specs.declared.made.OutcomeFail.TheVariants.{Refused, NoMemory}
 
 module _ (left right : Name) (limit : ℕ) (d e : Design) where
   -- what was found, with its text

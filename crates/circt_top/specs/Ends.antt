@@ -47,6 +47,10 @@ abbrev pub OnWriteFault : End → Type 0 → Type 0
 OnWriteFault write_fault P = P
 OnWriteFault _ P = Unit {0}
 
+abbrev pub OnOutOfMemory : End → Type 0 → Type 0
+OnOutOfMemory no_memory P = P
+OnOutOfMemory _ P = Unit {0}
+
 -- a fact for the ends before anything is written
 abbrev pub Unwritten : End → Type 0 → Type 0
 Unwritten (answered verdict) P = Unit {0}

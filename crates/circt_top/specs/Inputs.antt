@@ -56,12 +56,12 @@ AreReads told [] (source ∷ sources) = ⊥
 AreReads told (name ∷ names) [] = ⊥
 
 -- how much is read of contents
-abbrev pub fronts : List (List ℕ) → List (List ℕ)
-fronts contents = map (take read_limit) contents
+abbrev pub prefixes : List (List ℕ) → List (List ℕ)
+prefixes contents = map (take read_limit) contents
 
 -- sources are what is read of the told contents
 abbrev pub AreReadOf : Told → List Name → List (List ℕ) → Type 0
-AreReadOf told names sources = (contents : List (List ℕ)) → AreContents told names contents → sources ≡ fronts contents
+AreReadOf told names sources = (contents : List (List ℕ)) → AreContents told names contents → sources ≡ prefixes contents
 
 module _ {F : Type 0} (reads : F → Name → ℕ → Result (List ℕ) FileFail → F → Type 0) (files : F → Told) where
   -- one read of the file of each name, in order, gave these sources and changed no file

@@ -1,5 +1,6 @@
 pub mod Answer
 pub mod Inputs
+pub mod ReadOrder
 pub mod Ends
 pub mod Codes
 pub mod Translation
@@ -14,9 +15,8 @@ pub mod Reprint
 pub mod Pieces
 pub mod PieceReprint
 pub mod PieceViews
-pub mod Outcomes
+pub mod OutcomeParts
 pub mod Views
 pub mod Summary
 pub mod SummaryViews
 pub mod Generation
-pub mod Translates

@@ -11,11 +11,11 @@ use Rattle.circt_top.specs.PieceReprint.{IsReprintOfPieces, IsRefusedInPieces, I
 use Rattle.circt_top.specs.Translation.{IsTranslation}
 use Rattle.circt_top.specs.Generation.{IsGenerated, IsSummary}
 use Rattle.circt_top.specs.Comparing.{IsSame, IsDifference, IsGivenUp, IsRefusedPair, CanBeCompared}
-use Rattle.circt_top.specs.declared.outcome.Made.{Made}
-use Rattle.circt_top.specs.declared.outcome.Finding.{Finding}
-use Rattle.circt_top.specs.declared.outcome.Finding.TheVariants.{Given, Different, Unknown}
-use Rattle.circt_top.specs.declared.outcome.OutcomeFail.{OutcomeFail}
-use Rattle.circt_top.specs.declared.outcome.OutcomeFail.TheVariants.{Refused, NoMemory}
+use Rattle.circt_top.specs.declared.made.Made.{Made}
+use Rattle.circt_top.specs.declared.made.Finding.{Finding}
+use Rattle.circt_top.specs.declared.made.Finding.TheVariants.{Given, Different, Unknown}
+use Rattle.circt_top.specs.declared.made.OutcomeFail.{OutcomeFail}
+use Rattle.circt_top.specs.declared.made.OutcomeFail.TheVariants.{Refused, NoMemory}
 
 -- what a text that is printed says of what was asked: it is given, where nothing was asked but the text itself, or it says that modules
 -- are the same; or they differ where they are given these words; or it is unknown whether they do, so many clauses being learnt

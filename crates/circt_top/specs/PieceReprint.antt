@@ -1,6 +1,6 @@
 -- What `opt --split-input-file` does with a text: each piece of it is a text of its own.
-use Rattle.std.specs.Prelude.{◌≡◌, ℕ, ◌<◌, ◌≤◌, ◌⊎◌, List, [], ◌∷◌, length}
-use Rattle.diag.specs.Place.{start_place}
+use Rattle.std.specs.Prelude.{◌≡◌, ℕ, ◌<◌, ◌≤◌, ◌⊎◌, List, [], ◌∷◌, map, length}
+use Rattle.diag.specs.Location.{start_location}
 use Rattle.diag.specs.declared.refusal.OpName.TheVariants as op
 use Rattle.diag.specs.declared.cause.Cause.TheVariants.{TooLong}
 use Rattle.diag.specs.declared.refusal.Refusal.{Refusal}
@@ -28,6 +28,8 @@ pub record ArePrinted (passes : List Pass) (ps : List Piece) (text : List ℕ) :
 pub record IsReprintOfPieces (passes : List Pass) (bytes text : List ℕ) : Type 0 where
   pub short : length bytes ≤ text_limit
   pub printed : ArePrinted passes (pieces_of bytes) text
+  -- and the text, cut at its separators, is those of the pieces again
+  pub cut_again : map (λ (p : Piece). p.bytes) (pieces_of text) ≡ printed.texts
 
 -- the piece is refused so, by the lines and bytes of the whole text
 pub record IsPieceRefused (p : Piece) (r : Refusal) : Type 0 where
@@ -43,7 +45,7 @@ IsFirstRefused (p ∷ ps) r = IsPieceRefused p r ⊎ (IsAcceptedText p.bytes × 
 -- the first refusal of a text in pieces: that it is too long, or else that of its pieces
 abbrev pub IsRefusedInPieces : List ℕ → Refusal → Type 0
 IsRefusedInPieces bytes r =
-    ((text_limit < length bytes) × (r ≡ refusal start_place op.File TooLong)) ⊎ ((length bytes ≤ text_limit) × IsFirstRefused (pieces_of bytes) r)
+    ((text_limit < length bytes) × (r ≡ refusal start_location op.File TooLong)) ⊎ ((length bytes ≤ text_limit) × IsFirstRefused (pieces_of bytes) r)
 
 -- each piece is accepted
 abbrev pub AreAccepted : List Piece → Type 0

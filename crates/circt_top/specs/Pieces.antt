@@ -1,7 +1,7 @@
 -- A text cut into pieces at its lines that are `// -----`, and texts joined by such lines.
 use Rattle.std.specs.Prelude.{ℕ, suc, ◌+◌, ◌-◌, ◌^◌, ◌==◌, ◌&&◌, ◌||◌, min, Bool, cond, nat_eq, List, [], ◌∷◌, ◌++◌, map, length, drop, codes}
 use Rattle.std.specs.List.{starts_with, list_all}
-use Rattle.diag.specs.declared.refusal.Place.{Place}
+use Rattle.diag.specs.declared.refusal.Location.{Location}
 use Rattle.diag.specs.declared.refusal.OpName.{OpName}
 use Rattle.diag.specs.declared.refusal.OpName.TheVariants as op
 use Rattle.diag.specs.declared.refusal.Refusal.{Refusal}
@@ -67,9 +67,9 @@ pieces_of bytes = pieces_of_lines (lines_of bytes)
 
 -- ---- refusals
 
--- a place in a piece, by the lines of the whole text
-abbrev pub place_in_whole : Piece → Place → Place
-place_in_whole p place = record { line = min (place.line + line_count p.before) (2 ^ 32 - 1); col = place.col }
+-- a location in a piece, by the lines of the whole text
+abbrev pub location_in_whole : Piece → Location → Location
+location_in_whole p location = record { line = min (location.line + line_count p.before) (2 ^ 32 - 1); col = location.col }
 
 -- the operation of a refusal, whose name may stand in the piece, by the bytes of the whole text
 abbrev pub op_in_whole : Piece → OpName → OpName
@@ -79,7 +79,7 @@ op_in_whole p (op.Other at len) = op.Other (min (at + length p.before) (2 ^ 64 -
 
 -- a refusal of a piece, as one of the whole text
 abbrev pub in_whole : Piece → Refusal → Refusal
-in_whole p r = record { file = 0; place = place_in_whole p r.place; op = op_in_whole p r.op; cause = r.cause }
+in_whole p r = record { file = 0; location = location_in_whole p r.location; op = op_in_whole p r.op; cause = r.cause }
 
 -- ---- texts
 

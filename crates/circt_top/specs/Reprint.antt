@@ -13,7 +13,7 @@ use Rattle.pass_manager.specs.Results.{IsResult}
 use Rattle.circt_top.specs.Accepting.{Accepted}
 use Rattle.circt_top.specs.Partners.{HasPartners}
 
--- the text says the design again: by the grammar it spells one that differs in nothing but places, of which nothing is refused, and each
+-- the text says the design again: by the grammar it spells one that differs in nothing but locations, of which nothing is refused, and each
 -- module of which does the same; and that one is read of it, where it is not too long to be read
 pub record IsSaidAgain (d : Design) (text : List ℕ) : Type 0 where
   pub again : Design

@@ -24,6 +24,11 @@ pub record IsTranslated (passes : List Pass) (design : Design) (text : List ℕ)
   -- and it is laid out so
   pub laid_out : text ≡ verilog_text made
 
+-- the text is the Verilog of what passes make of the design, and this is what they make
+pub record IsTranslatedFrom (passes : List Pass) (design made : Design) (text : List ℕ) : Type 0 where
+  pub translated : IsTranslated passes design text
+  pub made_is : translated.made ≡ made
+
 -- the text is the Verilog of the input, as those make its design: the input is accepted
 pub record IsTranslation (passes : List Pass) (bytes text : List ℕ) : Type 0 where
   pub design : Design

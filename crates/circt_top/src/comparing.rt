@@ -7,7 +7,8 @@ ghost use Rattle.circt_top.specs.Comparing.{last_input, in_pair, value_lines, di
 ghost use Rattle.circt_top.specs.Outcome.{Gives};
 ghost use Rattle.circt_top.specs.Conclusions.{IsConcluded};
 
-use crate::outcome::{Finding, Made, OutcomeFail, accept, first_input};
+use crate::accepting::accept;
+use crate::made::{Finding, Made, OutcomeFail, first_input};
 use bits_core::Bits;
 use command_line::comparison::Comparison;
 use diag::refusal::Refusal;
@@ -17,7 +18,7 @@ use lec_tool::names::leaf_names;
 use lec_tool::verdict::{Verdict, lec};
 use op_verifier::Verified;
 use std::alloc::{AllocError, Global};
-use verilog_expr::push_literal;
+use verilog_model::push_literal;
 
 /// The verdict on the module of a name of the first input, and of that of another name of the last one. More than 2^32 inputs
 /// want more memory than there is.

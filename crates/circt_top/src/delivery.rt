@@ -1,6 +1,8 @@
 //! Where a text goes.
-ghost use Rattle.std.specs.Prelude.{◌≡◌, option_map, Some};
-ghost use Rattle.circt_top.specs.Answer.{Delivers, DeliversFront};
+ghost use Rattle.std.specs.Prelude.{◌≡◌, option_map, Some, Err};
+ghost use Rattle.io_edge.specs.declared.file_access.FileFail.TheVariants as fail;
+ghost use Rattle.circt_top.specs.Answer.{Delivers, DeliversPrefix};
+ghost use Rattle.circt_top.specs.ReadOrder.{WritesOnce};
 ghost use Rattle.circt_top.specs.Delivery.{OnDelivered, OnFault, OnNoMemory, HasOutputFault};
 
 use io_edge::file_access::{FileFail, Files};
@@ -27,9 +29,10 @@ pub fn deliver<F: Files, O: Sink>(
     out: &mut O,
 ) -> Delivery
     ensures whole { OnDelivered result (Delivers F.writes F.files O.puts O.told (option_map (λ s. s.now) output.entry) files.old files.new out.old out.new text.now) }
-    ensures front { OnFault result (DeliversFront F.writes F.files O.puts O.told (option_map (λ s. s.now) output.entry) files.old files.new out.old out.new text.now) }
+    ensures prefix { OnFault result (DeliversPrefix F.writes F.files O.puts O.told (option_map (λ s. s.now) output.entry) files.old files.new out.old out.new text.now) }
     ensures fault { OnFault result (HasOutputFault (option_map (λ s. s.now) output.entry) (O.faults out.old) (O.faults out.new) (F.write_faults files.old) (F.write_faults files.new)) }
     ensures nothing { OnNoMemory result ((out.new ≡ out.old) × (F.files files.new ≡ F.files files.old)) }
+    ensures unwritten { OnNoMemory result (WritesOnce F.writes (option_map (λ s. s.now) output.entry) (Err fail.NoMemory) files.old files.new) }
     ensures reads { F.read_faults files.new ≡ F.read_faults files.old }
 {
     match output {

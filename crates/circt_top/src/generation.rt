@@ -6,8 +6,9 @@ ghost use Rattle.generator.specs.Generated.{generated};
 ghost use Rattle.circt_top.specs.Generation.{generation_passes};
 ghost use Rattle.circt_top.specs.Outcome.{GivesText};
 
-use crate::outcome::{Means, OutcomeFail, export_made, exported_result, translate};
+use crate::made::OutcomeFail;
 use crate::summary::{Summary, counts_of, summary_text};
+use crate::translation::{Means, export_made, exported_result, translate};
 use command_line::recipe::Recipe;
 use design_counts::public_register_count;
 use generator::generate;

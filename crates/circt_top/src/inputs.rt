@@ -4,6 +4,7 @@ ghost use Rattle.wiring.specs.Wiring.{In};
 ghost use Rattle.io_edge.specs.Faults.{HasRisen};
 ghost use Rattle.io_edge.specs.Reading.{Reads, HasNamedCause};
 ghost use Rattle.circt_top.specs.Inputs.{read_limit, HasRead, AreReads, OnFault};
+ghost use Rattle.circt_top.specs.ReadOrder.{StopsFor, Misses};
 
 use io_edge::byte_text::Text;
 use io_edge::file_access::{FileFail, Files};
@@ -31,6 +32,7 @@ pub(crate) fn read_inputs<'a, F: Files>(
     ensures read { IfOk result (λ v. HasRead F.reads F.files files.old (map string_bytes names.entry.now) v.items files.new) }
     ensures told { IfOk result (λ v. AreReads (F.files files.old) (map string_bytes names.entry.now) v.items) }
     ensures fault { IfErr result (λ u. OnFault u (λ name. In name (map string_bytes names.entry.now) × HasRisen (F.read_faults files.old name) (F.read_faults files.new name))) }
+    ensures stops { IfErr result (λ u. StopsFor F.reads F.files u files.old (map string_bytes names.entry.now) files.new) }
     ensures unchanged { F.files files.new ≡ F.files files.old }
     ensures writes { F.write_faults files.new ≡ F.write_faults files.old }
 {
@@ -53,6 +55,7 @@ fn read_one<F: Files>(
     sources: &mut Vec<Text>,
 ) -> Result<(), FileFail>
     ensures read { OnOk result ((source : List ℕ) × (sources.new.items ≡ sources.old.items ++ source ∷ []) × F.reads files.old name.now read_limit (Ok source) files.new × Reads (F.files files.old) name.now read_limit (Ok source)) }
+    ensures misses { IfErr result (λ fail. Misses F.reads F.files files.old name.now fail files.new) }
     ensures cause { HasNamedCause name.now (F.read_faults files.old) (F.read_faults files.new) result }
     ensures unchanged { F.files files.new ≡ F.files files.old }
     ensures writes { F.write_faults files.new ≡ F.write_faults files.old }

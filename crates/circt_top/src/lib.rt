@@ -3,16 +3,19 @@
 //! [`run::run_circt`] is the whole program over any files and sinks.
 #![tactic(auto)]
 
+mod accepting;
 mod comparing;
 mod delivery;
 mod generation;
 mod inputs;
+mod made;
 mod outcome;
 mod pieces;
 mod report;
 pub mod run;
 pub mod status;
 mod summary;
+mod translation;
 
 pub use pass_manager::gate::{Gate, Open};
 pub use report::stop;

@@ -1,10 +1,10 @@
 //! A text cut into pieces at its lines that are `// -----`.
 ghost use Rattle.std.specs.Prelude.{◌≡◌, ◌<◌, ◌≤◌, IfOk, map, take, drop, ◌+◌, length, slice_range};
-ghost use Rattle.circt_top.specs.Pieces.{pieces_of, line_size, line_count, is_blank, is_separator, place_in_whole, op_in_whole, in_whole};
+ghost use Rattle.circt_top.specs.Pieces.{pieces_of, line_size, line_count, is_blank, is_separator, location_in_whole, op_in_whole, in_whole};
 ghost use Rattle.std.specs.List.{list_all};
 ghost use Rattle.circt_top.specs.PieceViews.{piece_of};
 
-use diag::refusal::{OpName, Place, Refusal};
+use diag::refusal::{Location, OpName, Refusal};
 use std::alloc::{AllocError, Global};
 
 /// What a line that parts two pieces begins with.
@@ -136,20 +136,20 @@ impl Piece<'_> {
     {
         Refusal {
             file: 0,
-            place: self.place_in_whole(refusal.place),
+            location: self.location_in_whole(refusal.location),
             op: self.op_in_whole(refusal.op),
             cause: refusal.cause,
         }
     }
 
-    /// A place in this piece, by the lines of the whole text.
-    fn place_in_whole(&self, place: Place) -> Place
-        ensures { result ≡ place_in_whole (piece_of self.now) place }
+    /// A location in this piece, by the lines of the whole text.
+    fn location_in_whole(&self, location: Location) -> Location
+        ensures { result ≡ location_in_whole (piece_of self.now) location }
     {
-        let line = (place.line as usize).saturating_add(line_count(self.before));
-        Place {
+        let line = (location.line as usize).saturating_add(line_count(self.before));
+        Location {
             line: line.min(u32::MAX as usize) as u32,
-            col: place.col,
+            col: location.col,
         }
     }
 

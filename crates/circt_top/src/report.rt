@@ -1,10 +1,12 @@
 //! The error message.
-ghost use Rattle.std.specs.Prelude.{◌≡◌, Err, Ok, OnOk, OnErr, option_map};
-ghost use Rattle.io_edge.specs.Bytes.{Appends, AppendsFront};
+ghost use Rattle.std.specs.Prelude.{◌≡◌, [], ◌∷◌, Err, Ok, OnOk, OnErr, is_ok, option_map};
+ghost use Rattle.io_edge.specs.Bytes.{Appends, AppendsPrefix};
 ghost use Rattle.io_edge.specs.Faults.{HasCause};
+ghost use Rattle.io_edge.specs.Pieces.{Sends};
+ghost use Rattle.diag.specs.Puts.{GoesOut};
 ghost use Rattle.diag.specs.Line.{IsWithin, operation_of};
-ghost use Rattle.circt_top.specs.Ends.{end_of, IsStop};
-ghost use Rattle.circt_top.specs.Answer.{line_of, usage_line, usage_end, shown_output, Reports};
+ghost use Rattle.circt_top.specs.Ends.{end_of, IsStop, OnOutOfMemory};
+ghost use Rattle.circt_top.specs.Answer.{line_of, usage_line, usage_end, shown_output, memory_line, Reports, IsToldAtOnce};
 ghost use Rattle.circt_top.specs.Views.{subject_of};
 
 use crate::status::Status;
@@ -19,7 +21,7 @@ use itoa::Buffer;
 pub(crate) struct Subject<'a> {
     /// The name of an input.
     pub(crate) input: &'a str,
-    /// What is read of that input. An operation that is not listed stands in it; of a place outside it nothing is shown.
+    /// What is read of that input. An operation that is not listed stands in it; of a location outside it nothing is shown.
     pub(crate) source: &'a [u8],
     /// The name of the output file; none is standard output.
     pub(crate) output: Option<&'a str>,
@@ -28,7 +30,8 @@ pub(crate) struct Subject<'a> {
 /// Sends the error message, if anything is wrong. A fault of the sink is let go. It takes no
 /// memory.
 pub(crate) fn report<E: Sink>(err: &mut E, subject: &Subject<'_>, status: &Status)
-    ensures { Reports E.told E.faults err.old err.new (line_of (subject_of subject.now) (end_of status.now)) }
+    ensures report { Reports E.puts E.told E.faults err.old err.new (line_of (subject_of subject.now) (end_of status.now)) }
+    ensures at_once { IsToldAtOnce E.puts (end_of status.now) err.old err.new }
 {
     let _ = put_line(err, subject, status);
 }
@@ -37,7 +40,8 @@ pub(crate) fn report<E: Sink>(err: &mut E, subject: &Subject<'_>, status: &Statu
 pub fn stop<E: Sink>(err: &mut E, status: Status) -> Status
     requires { IsStop (end_of status) }
     ensures status { result ≡ status }
-    ensures report { (subject : _) → Reports E.told E.faults err.old err.new (line_of subject (end_of status)) }
+    ensures report { (subject : _) → Reports E.puts E.told E.faults err.old err.new (line_of subject (end_of status)) }
+    ensures at_once { IsToldAtOnce E.puts (end_of status) err.old err.new }
 {
     let subject = Subject {
         input: "-",
@@ -51,8 +55,10 @@ pub fn stop<E: Sink>(err: &mut E, status: Status) -> Status
 // The line, up to the first fault of the sink.
 fn put_line<E: Sink>(err: &mut E, subject: &Subject<'_>, status: &Status) -> Result<(), Failed>
     ensures ok { OnOk result (Appends (E.told err.old) (E.told err.new) (line_of (subject_of subject.now) (end_of status.now))) }
-    ensures err { OnErr result (AppendsFront (E.told err.old) (E.told err.new) (line_of (subject_of subject.now) (end_of status.now))) }
+    ensures err { OnErr result (AppendsPrefix (E.told err.old) (E.told err.new) (line_of (subject_of subject.now) (end_of status.now))) }
     ensures cause { HasCause (E.faults err.old) (E.faults err.new) result }
+    ensures puts { GoesOut E.puts err.old (line_of (subject_of subject.now) (end_of status.now)) (is_ok result) err.new }
+    ensures at_once { OnOutOfMemory (end_of status.now) (Sends E.puts err.old (memory_line ∷ []) (is_ok result) err.new) }
 {
     match status {
         Status::Done | Status::Different(_) | Status::Unknown(_) => put_all(err, b""),
@@ -79,8 +85,9 @@ fn put_line<E: Sink>(err: &mut E, subject: &Subject<'_>, status: &Status) -> Res
 // The line on wrong words, up to the first fault of the sink.
 fn put_usage<E: Sink>(err: &mut E, kind: UsageKind) -> Result<(), Failed>
     ensures ok { OnOk result (Appends (E.told err.old) (E.told err.new) (usage_line kind)) }
-    ensures err { OnErr result (AppendsFront (E.told err.old) (E.told err.new) (usage_line kind)) }
+    ensures err { OnErr result (AppendsPrefix (E.told err.old) (E.told err.new) (usage_line kind)) }
     ensures cause { HasCause (E.faults err.old) (E.faults err.new) result }
+    ensures puts { GoesOut E.puts err.old (usage_line kind) (is_ok result) err.new }
 {
     match put_all(err, b"circt: usage: ") {
         Ok(()) => {}
@@ -96,8 +103,9 @@ fn put_usage<E: Sink>(err: &mut E, kind: UsageKind) -> Result<(), Failed>
 // The end of a line on wrong words, up to the first fault of the sink.
 fn put_usage_end<E: Sink>(err: &mut E, offset: Option<u64>) -> Result<(), Failed>
     ensures ok { OnOk result (Appends (E.told err.old) (E.told err.new) (usage_end offset)) }
-    ensures err { OnErr result (AppendsFront (E.told err.old) (E.told err.new) (usage_end offset)) }
+    ensures err { OnErr result (AppendsPrefix (E.told err.old) (E.told err.new) (usage_end offset)) }
     ensures cause { HasCause (E.faults err.old) (E.faults err.new) result }
+    ensures puts { GoesOut E.puts err.old (usage_end offset) (is_ok result) err.new }
 {
     match offset {
         Some(at) => {

@@ -1,23 +1,25 @@
 //! The top call.
 ghost use Rattle.std.specs.Prelude.{◌≡◌, ℕ, List, Some, None, Ok, Err, map, string_bytes, option_map};
-ghost use Rattle.io_edge.specs.Faults.{HasRisen};
 ghost use Rattle.command_line.specs.Invocations.{command_of, Says};
 ghost use Rattle.circt_top.specs.Words.{line, fault_of, ForCommand};
 ghost use Rattle.circt_top.specs.Inputs.{AreContents, IsOneMissing, IsOneRisen, ReadsThen, OnFault, unread_end, name_at, bytes_at};
+ghost use Rattle.circt_top.specs.ReadOrder.{IsFirstUnread, WritesAt, ReadsAt, ReadsFor};
 ghost use Rattle.circt_top.specs.Outcome.{Verdict, IsAnswer, IsAnswered, verdict_of};
 ghost use Rattle.circt_top.specs.Outcome.Answer.{prints, refuses};
 ghost use Rattle.circt_top.specs.Delivery.{HasOutputFault};
 ghost use Rattle.circt_top.specs.Ends.End.{answered};
 ghost use Rattle.circt_top.specs.Ends.{end_of, usage_of, OnAnswered, OnRefused, OnReadFault, OnWriteFault, Unwritten, IsUsage, IsAnsweredOrNoMemory, IsReadFaultOrNoMemory, IsRefusedOrNoMemory, IsWorked};
-ghost use Rattle.circt_top.specs.Answer.{IsMadeOf, IsRefusalOf, Delivers, DeliversFront, line_of, Reports, ReportsEnd, IsSubject};
+ghost use Rattle.circt_top.specs.Answer.{IsMadeOf, IsRefusalOf, Delivers, DeliversPrefix, line_of, Reports, ReportsEnd, IsSubject, IsToldAtOnce};
 ghost use Rattle.circt_top.specs.Answer as answer;
 ghost use Rattle.circt_top.specs.Views.{subject_of};
 
 use crate::delivery::{Delivery, deliver};
 use crate::inputs::{Unread, read_inputs};
-use crate::outcome::{Finding, Means, OutcomeFail, outcome};
+use crate::made::{Finding, OutcomeFail};
+use crate::outcome::outcome;
 use crate::report::{Subject, report, stop};
 use crate::status::Status;
+use crate::translation::Means;
 use command_line::invocation::{Invocation, LineFail, read_words};
 use io_edge::byte_text::Text;
 use io_edge::file_access::Files;
@@ -67,9 +69,9 @@ pub fn run_circt<R: Threads + Sync, F: Files, O: Sink, E: Sink, G: Gate + Sync>(
     ensures read_fault { OnReadFault (end_of result) (ForCommand (map string_bytes words.now) (λ c. IsOneRisen (F.read_faults files.old) (F.read_faults files.new) c.inputs)) }
     ensures write_fault { OnWriteFault (end_of result) (ForCommand (map string_bytes words.now) (λ c. HasOutputFault c.output (O.faults out.old) (O.faults out.new) (F.write_faults files.old) (F.write_faults files.new))) }
     ensures unwritten { Unwritten (end_of result) ((out.new ≡ out.old) × (F.files files.new ≡ F.files files.old)) }
-    ensures read_once { OnRefused (end_of result) (λ r. ForCommand (map string_bytes words.now) (λ c. ReadsThen F.reads F.files files.old c.inputs (λ opened. files.new ≡ opened))) }
+    ensures read_once { ReadsFor F.reads F.files F.writes (map string_bytes words.now) (end_of result) files.old files.new }
     ensures done { OnAnswered (end_of result) (λ verdict. ForCommand (map string_bytes words.now) (λ c. (text : List ℕ) × ReadsThen F.reads F.files files.old c.inputs (λ opened. Delivers F.writes F.files O.puts O.told c.output opened files.new out.old out.new text) × IsMadeOf c (F.files files.old) verdict text)) }
-    ensures front { OnWriteFault (end_of result) (ForCommand (map string_bytes words.now) (λ c. (verdict : Verdict) × (text : List ℕ) × ReadsThen F.reads F.files files.old c.inputs (λ opened. DeliversFront F.writes F.files O.puts O.told c.output opened files.new out.old out.new text) × IsMadeOf c (F.files files.old) verdict text)) }
+    ensures prefix { OnWriteFault (end_of result) (ForCommand (map string_bytes words.now) (λ c. (verdict : Verdict) × (text : List ℕ) × ReadsThen F.reads F.files files.old c.inputs (λ opened. DeliversPrefix F.writes F.files O.puts O.told c.output opened files.new out.old out.new text) × IsMadeOf c (F.files files.old) verdict text)) }
     ensures complete { (c : _) → line (map string_bytes words.now) ≡ Ok c → (contents : List (List ℕ)) → AreContents (F.files files.old) c.inputs contents → IsAnswered c.work contents
         → ¬ IsOneRisen (F.read_faults files.old) (F.read_faults files.new) c.inputs
         → ¬ HasOutputFault c.output (O.faults out.old) (O.faults out.new) (F.write_faults files.old) (F.write_faults files.new)
@@ -78,7 +80,9 @@ pub fn run_circt<R: Threads + Sync, F: Files, O: Sink, E: Sink, G: Gate + Sync>(
         → ¬ IsOneRisen (F.read_faults files.old) (F.read_faults files.new) c.inputs
         → IsRefusedOrNoMemory (end_of result) }
     ensures missing { (c : _) → line (map string_bytes words.now) ≡ Ok c → IsOneMissing (F.files files.old) c.inputs → IsReadFaultOrNoMemory (end_of result) }
-    ensures report { ReportsEnd E.told E.faults (map string_bytes words.now) (λ name. HasRisen (F.read_faults files.old name) (F.read_faults files.new name)) (F.files files.old) (end_of result) err.old err.new }
+    ensures report { ReportsEnd E.puts E.told E.faults (map string_bytes words.now) (IsFirstUnread F.reads F.files F.read_faults files.old files.new) (F.files files.old) (end_of result) err.old err.new }
+    ensures silent { OnAnswered (end_of result) (λ verdict. err.new ≡ err.old) }
+    ensures at_once { IsToldAtOnce E.puts (end_of result) err.old err.new }
 {
     match read_command(alloc, words) {
         Ok(invocation) => run_on(rt, alloc, &invocation, files, out, err, gate),
@@ -108,12 +112,14 @@ fn run_on<R: Threads + Sync, F: Files, O: Sink, E: Sink, G: Gate + Sync>(
     ensures read_fault { OnReadFault (end_of result) (IsOneRisen (F.read_faults files.old) (F.read_faults files.new) (command_of invocation.now).inputs) }
     ensures write_fault { OnWriteFault (end_of result) (HasOutputFault (command_of invocation.now).output (O.faults out.old) (O.faults out.new) (F.write_faults files.old) (F.write_faults files.new)) }
     ensures unwritten { Unwritten (end_of result) ((out.new ≡ out.old) × (F.files files.new ≡ F.files files.old)) }
-    ensures read_once { OnRefused (end_of result) (λ r. ReadsThen F.reads F.files files.old (command_of invocation.now).inputs (λ opened. files.new ≡ opened)) }
+    ensures read_once { ReadsAt F.reads F.files F.writes (end_of result) (command_of invocation.now) files.old files.new }
     ensures done { OnAnswered (end_of result) (λ verdict. (text : List ℕ) × ReadsThen F.reads F.files files.old (command_of invocation.now).inputs (λ opened. Delivers F.writes F.files O.puts O.told (command_of invocation.now).output opened files.new out.old out.new text) × IsMadeOf (command_of invocation.now) (F.files files.old) verdict text) }
-    ensures front { OnWriteFault (end_of result) ((verdict : Verdict) × (text : List ℕ) × ReadsThen F.reads F.files files.old (command_of invocation.now).inputs (λ opened. DeliversFront F.writes F.files O.puts O.told (command_of invocation.now).output opened files.new out.old out.new text) × IsMadeOf (command_of invocation.now) (F.files files.old) verdict text) }
+    ensures prefix { OnWriteFault (end_of result) ((verdict : Verdict) × (text : List ℕ) × ReadsThen F.reads F.files files.old (command_of invocation.now).inputs (λ opened. DeliversPrefix F.writes F.files O.puts O.told (command_of invocation.now).output opened files.new out.old out.new text) × IsMadeOf (command_of invocation.now) (F.files files.old) verdict text) }
     ensures missing { IsOneMissing (F.files files.old) (command_of invocation.now).inputs → IsReadFaultOrNoMemory (end_of result) }
     ensures no_usage { usage_of (end_of result) ≡ None }
-    ensures report { (s : answer.Subject) × IsSubject (λ name. HasRisen (F.read_faults files.old name) (F.read_faults files.new name)) (F.files files.old) (end_of result) (command_of invocation.now) s × Reports E.told E.faults err.old err.new (line_of s (end_of result)) }
+    ensures report { (s : answer.Subject) × IsSubject (IsFirstUnread F.reads F.files F.read_faults files.old files.new) (F.files files.old) (end_of result) (command_of invocation.now) s × Reports E.puts E.told E.faults err.old err.new (line_of s (end_of result)) }
+    ensures silent { OnAnswered (end_of result) (λ verdict. err.new ≡ err.old) }
+    ensures at_once { IsToldAtOnce E.puts (end_of result) err.old err.new }
 {
     let sources = match read_inputs(alloc, invocation.inputs.as_slice(), files) {
         Ok(sources) => sources,
@@ -131,7 +137,8 @@ fn run_on<R: Threads + Sync, F: Files, O: Sink, E: Sink, G: Gate + Sync>(
 // The end of a run of which an input was not read, with its line.
 fn report_unread<E: Sink>(err: &mut E, unread: Unread<'_>) -> Status
     ensures status { end_of result ≡ unread_end unread.entry }
-    ensures report { (s : answer.Subject) × OnFault unread.entry (λ name. s.input ≡ name) × Reports E.told E.faults err.old err.new (line_of s (unread_end unread.entry)) }
+    ensures report { (s : answer.Subject) × OnFault unread.entry (λ name. s.input ≡ name) × Reports E.puts E.told E.faults err.old err.new (line_of s (unread_end unread.entry)) }
+    ensures at_once { IsToldAtOnce E.puts (unread_end unread.entry) err.old err.new }
 {
     match unread {
         Unread::Fault(name) => {
@@ -215,9 +222,9 @@ fn answer<R: Threads + Sync, F: Files, O: Sink, G: Gate + Sync>(
     ensures refused { OnRefused (end_of result) (λ r. IsAnswer (command_of invocation.now).work sources.now (refuses r)) }
     ensures write_fault { OnWriteFault (end_of result) (HasOutputFault (command_of invocation.now).output (O.faults out.old) (O.faults out.new) (F.write_faults files.old) (F.write_faults files.new)) }
     ensures unwritten { Unwritten (end_of result) ((out.new ≡ out.old) × (F.files files.new ≡ F.files files.old)) }
-    ensures untouched { OnRefused (end_of result) (λ r. files.new ≡ files.old) }
+    ensures written { WritesAt F.writes (end_of result) (command_of invocation.now).output files.old files.new }
     ensures done { OnAnswered (end_of result) (λ verdict. (text : List ℕ) × Delivers F.writes F.files O.puts O.told (command_of invocation.now).output files.old files.new out.old out.new text × IsAnswer (command_of invocation.now).work sources.now (prints verdict text)) }
-    ensures front { OnWriteFault (end_of result) ((verdict : Verdict) × (text : List ℕ) × DeliversFront F.writes F.files O.puts O.told (command_of invocation.now).output files.old files.new out.old out.new text × IsAnswer (command_of invocation.now).work sources.now (prints verdict text)) }
+    ensures prefix { OnWriteFault (end_of result) ((verdict : Verdict) × (text : List ℕ) × DeliversPrefix F.writes F.files O.puts O.told (command_of invocation.now).output files.old files.new out.old out.new text × IsAnswer (command_of invocation.now).work sources.now (prints verdict text)) }
     ensures reads { F.read_faults files.new ≡ F.read_faults files.old }
     ensures kinds { IsWorked (end_of result) }
 {

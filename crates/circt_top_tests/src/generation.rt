@@ -7,7 +7,7 @@ use std::test::Fail;
 use std::thread::Threads;
 
 /// What the summary of 200 modules of the seed 7 begins with. The numbers were computed apart.
-const FRONT: &str = "modules 200
+const PREFIX: &str = "modules 200
 operations 1599
 public modules 100
 registers 773
@@ -178,24 +178,24 @@ fn verilog_length(rt: &(impl Threads + Sync + AllocGlobal)) -> Result<usize, All
 // Whether the summary of 200 modules is as it should be, with the length of the Verilog.
 fn is_summed_up(rt: &(impl Threads + Sync + AllocGlobal)) -> Result<bool, AllocError> {
     let bytes = verilog_length(rt)?;
-    let wanted = format!(in rt.alloc(); "{FRONT}{bytes}\n")?;
+    let wanted = format!(in rt.alloc(); "{PREFIX}{bytes}\n")?;
     puts(rt, "gen 7 200", wanted.as_bytes())
 }
 
-// Whether just this front of a text is put on an output of which the second put fails.
-fn is_front(
+// Whether just this prefix of a text is put on an output of which the second put fails.
+fn is_prefix(
     rt: &(impl Threads + Sync + AllocGlobal),
     line: &str,
-    front: Option<&[u8]>,
+    prefix: Option<&[u8]>,
 ) -> Result<bool, AllocError> {
     let run = run_long(rt, line, "", &[1])?;
-    Ok(run.code == 6 && front == Some(run.out.contents()))
+    Ok(run.code == 6 && prefix == Some(run.out.contents()))
 }
 
 // Whether of a long text just the first piece goes out, where the second one fails.
 fn is_cut(rt: &(impl Threads + Sync + AllocGlobal)) -> Result<bool, AllocError> {
     match long_output(rt, "gen 7 200 --verilog")? {
-        Some(whole) => is_front(rt, "gen 7 200 --verilog", whole.contents().get(..4096)),
+        Some(whole) => is_prefix(rt, "gen 7 200 --verilog", whole.contents().get(..4096)),
         None => Ok(false),
     }
 }
@@ -219,7 +219,7 @@ fn workers_change_no_verilog(rt: HostRuntime) -> Result<(), Fail> {
 }
 
 #[test]
-fn a_front_goes_out_where_the_output_fails(rt: HostRuntime) -> Result<(), Fail> {
+fn a_prefix_goes_out_where_the_output_fails(rt: HostRuntime) -> Result<(), Fail> {
     assert!(rt; is_cut(&rt)?);
     Ok(())
 }

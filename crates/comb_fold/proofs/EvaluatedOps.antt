@@ -1,12 +1,11 @@
 -- Operations of which all operands are constants: their words, and that they are such as their kind takes.
-use Rattle.std.proofs.Common.{◌≡◌, ℕ, ◌+◌, ◌%◌, ◌≤◌, Bool, true, false, cond, List, [], ◌∷◌, length, map, Option, Some, None, slice_get, refl, sym, ap, ap₂, subst, ◌∙◌, arith}
+use Rattle.std.proofs.Common.{◌≡◌, ℕ, ◌+◌, ◌%◌, ◌≤◌, Bool, true, false, cond, List, [], ◌∷◌, length, map, Option, Some, None, slice_get, refl, sym, ap, ap₂, subst, ◌∙◌, arith, option_map}
 use Rattle.std.specs.Prelude.{is_some}
 use Rattle.std.proofs.Math.Nat.{mul-mod_left}
 use Rattle.std.proofs.lemmas.List.{length-map}
-use Rattle.wiring.specs.Options.{omap}
 use Rattle.wiring.specs.Lists.{total}
 use Rattle.wiring.proofs.Members.{In-map, All-from_members}
-use Rattle.wiring.proofs.Options.{bind_some, omap_some}
+use Rattle.wiring.proofs.Options.{and_then_some, option_map_some}
 use Rattle.bits_core.specs.Word.{Word, number}
 use Rattle.hw_model.specs.Types.{HwType, width}
 use Rattle.hw_model.specs.Types.HwType.{int}
@@ -17,9 +16,9 @@ use Rattle.hw_model.specs.IntegerKinds.{OfOne, OfTwo, TakesWords}
 use Rattle.hw_model.specs.Sound.{Fits, type_in}
 use Rattle.hw_model.specs.Value.{op_value}
 use Rattle.ir_store.specs.ResultTypes.{result_type as type_of_result}
-use Rattle.canonical_form.specs.ResultTypes.{type_or_none}
+use Rattle.stored_form.specs.ResultTypes.{type_or_none}
 use Rattle.ir_store.specs.declared.body.Body.{Body}
-use Rattle.accepted_edits.specs.Keeps.{IsFit}
+use Rattle.acceptance_laws.specs.Keeps.{IsFit}
 use Rattle.fold_laws.specs.Constants.{constant_at}
 use Rattle.fold_laws.specs.Evaluated.{is_comb, constants_at, value_of_constants, fold_evaluated}
 use Rattle.fold_laws.proofs.Evaluated.{evaluated_makes}
@@ -32,7 +31,7 @@ use Rattle.comb_fold.specs.Evaluable.{bits_of_type, IsEvaluable, IsEvaluableSite
 use Rattle.body_edits.specs.Sites.{kind_at, first_type_of}
 use Rattle.body_edits.specs.Views.{body_ops, value_ref, op_seen}
 use Rattle.body_edits.proofs.FitOps.{within_limits}
-use Rattle.body_edits.proofs.NumberOps.{row_found}
+use Rattle.body_edits.proofs.NumberOps.{pattern_found}
 
 -- ---- words of constants
 
@@ -45,8 +44,8 @@ constants_typed : (os : List Op) (type_of : Ref → Option HwType) → ((r : Ref
     → (rs : List Ref) (ws : List Word) → constants_at os rs ≡ Some ws → map type_of rs ≡ map type_of_word ws
 constants_typed os type_of typed [] ws is = let none : [] ≡ ws = cc in ap (map type_of_word) none
 constants_typed os type_of typed (r ∷ rs) ws is =
-    let word = bind_some (constant_at os r) (λ (w : Word). omap (λ (vs : List Word). w ∷ vs) (constants_at os rs)) is in
-    let rest = omap_some (λ (vs : List Word). word.0 ∷ vs) (constants_at os rs) word.2 in
+    let word = and_then_some (constant_at os r) (λ (w : Word). option_map (λ (vs : List Word). w ∷ vs) (constants_at os rs)) is in
+    let rest = option_map_some (λ (vs : List Word). word.0 ∷ vs) (constants_at os rs) word.2 in
     ap₂ (λ t ts. t ∷ ts) (typed r word.0 word.1) (constants_typed os type_of typed rs rest.0 rest.1) ∙ ap (map type_of_word) rest.2
 
 -- ---- words that a kind takes
@@ -101,10 +100,10 @@ evaluated_is : (os : List Op) (kind : Kind) (ts : List HwType) (t : HwType) (rs 
     → (is_comb kind ≡ true) × ((ws : List Word) × (constants_at os rs ≡ Some ws))
 evaluated_is os kind ts t rs n is = go (is_comb kind) refl is
   where
-    go : (b : Bool) → is_comb kind ≡ b → cond b (omap (λ (ws : List Word). number (op_value kind ts t 0 ws)) (constants_at os rs)) None ≡ Some n
+    go : (b : Bool) → is_comb kind ≡ b → cond b (option_map (λ (ws : List Word). number (op_value kind ts t 0 ws)) (constants_at os rs)) None ≡ Some n
         → (is_comb kind ≡ true) × ((ws : List Word) × (constants_at os rs ≡ Some ws))
     go true comb h =
-        let words = omap_some (λ (ws : List Word). number (op_value kind ts t 0 ws)) (constants_at os rs) h in
+        let words = option_map_some (λ (ws : List Word). number (op_value kind ts t 0 ws)) (constants_at os rs) h in
         (comb, (words.0, words.1))
     go false comb h = cc
 
@@ -140,12 +139,12 @@ in_design d fit k md at i o there t n typed is =
 fit_evaluable : (b : Body) → IsOfFit b → (i : ℕ) (o : Op) → slice_get (body_ops b) i ≡ Some o → is_some (fold_evaluated (body_ops b) i) ≡ true
     → IsEvaluable (body_ops b) o.kind o.operands (result_type o 0)
 fit_evaluable b of i o there matches =
-    let found = row_found value_of_constants (body_ops b) i o there matches in
+    let found = pattern_found value_of_constants (body_ops b) i o there matches in
     subst (λ os. IsEvaluable os o.kind o.operands (result_type o 0)) of.is_body
     (in_design of.design of.fit of.number of.owner of.there i o (ap (λ os. slice_get os i) of.is_body ∙ there) found.type found.number found.typed
     (ap (λ os. value_of_constants os o.kind o.types found.type o.operands) of.is_body ∙ found.gives))
 
--- the operation of a body at which the row matches
+-- the operation of a body at which the pattern matches
 pub site_evaluable : (b : Body) (s : Site) → IsOfFit b → s.body.now ≡ b → (i : ℕ) → slice_get (body_ops b) i ≡ Some (op_seen b s.op)
     → is_some (fold_evaluated (body_ops b) i) ≡ true → IsEvaluableSite s
 site_evaluable b s of same i there matches =

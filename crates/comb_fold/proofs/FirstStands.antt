@@ -1,6 +1,5 @@
--- The first of several rows by which a value stands for the result is one such row, by the kind of the operation.
-use Rattle.std.proofs.Common.{◌≡◌, ℕ, List, [], ◌∷◌, Option, Some, None, slice_get, refl, sym, ◌∙◌, ◌⊎◌, inl, inr}
-use Rattle.wiring.specs.Options.{bind, omap}
+-- The first of several patterns by which a value stands for the result is one such pattern, by the kind of the operation.
+use Rattle.std.proofs.Common.{◌≡◌, ℕ, List, [], ◌∷◌, Option, Some, None, slice_get, refl, sym, ◌∙◌, ◌⊎◌, inl, inr, option_and_then, option_map}
 use Rattle.hw_model.specs.Types.{HwType}
 use Rattle.hw_model.specs.Kinds.{Kind}
 use Rattle.hw_model.specs.Kinds.ArrayOp.{array_get}
@@ -8,7 +7,7 @@ use Rattle.hw_model.specs.Kinds.StructOp.{struct_extract}
 use Rattle.hw_model.specs.Kinds.Kind.{concat, replicate, bitcast, on_array, on_struct}
 use Rattle.hw_model.specs.Design.{Ref, Op}
 use Rattle.ir_store.specs.declared.body.Body.{Body}
-use Rattle.fold_laws.specs.Edits.{Edit, Row}
+use Rattle.fold_laws.specs.Edits.{Edit, FoldPattern}
 use Rattle.fold_laws.specs.Edits.Edit.{erased}
 use Rattle.fold_laws.specs.Parts.{struct_part, array_part}
 use Rattle.fold_laws.specs.Standing.{by_stand, trivial_concat, trivial_replicate, trivial_bitcast}
@@ -18,13 +17,13 @@ use Rattle.fold_laws.proofs.Parts.{struct_part_law}
 use Rattle.fold_laws.proofs.WholeValues.{trivial_concat_stands, trivial_replicate_stands, trivial_bitcast_stands}
 use Rattle.comb_fold.specs.Choices.{trivial, made_part}
 use Rattle.body_edits.specs.Folded.{IsFolded}
-use Rattle.comb_fold.specs.Rows.{StandsInFit}
+use Rattle.comb_fold.specs.Patterns.{StandsInFit}
 use Rattle.body_edits.specs.Views.{body_ops}
-use Rattle.comb_fold.proofs.FitRows.{stands_in_fit, maker_operand_in_fit}
+use Rattle.comb_fold.proofs.FitPatterns.{stands_in_fit, maker_operand_in_fit}
 
--- what a row makes of a body another one does that is the same
-pub same_folded : (row other : Row) → ((os : List Op) (i : ℕ) → row os i ≡ other os i) → (b b' : Body) (i : ℕ) → IsFolded row b b' i → IsFolded other b b' i
-same_folded row other same b b' i folded = record {
+-- what a pattern makes of a body another one does that is the same
+pub same_folded : (pattern other : FoldPattern) → ((os : List Op) (i : ℕ) → pattern os i ≡ other os i) → (b b' : Body) (i : ℕ) → IsFolded pattern b b' i → IsFolded other b b' i
+same_folded pattern other same b b' i folded = record {
   edits = folded.edits;
   matches = sym (same (body_ops b) i) ∙ folded.matches;
   form = folded.form;
@@ -40,7 +39,7 @@ or_none (Some es) = refl
 
 -- the edits by which a value stands for the result
 abbrev edits_of : ℕ → Option Ref → Option (List Edit)
-edits_of i x = omap (λ (y : Ref). erased i y ∷ []) x
+edits_of i x = option_map (λ (y : Ref). erased i y ∷ []) x
 
 -- ---- concat, replicate, bitcast
 
@@ -51,13 +50,13 @@ trivial_at os i replicate ts rs = or_none _
 trivial_at os i bitcast ts rs = or_none _
 trivial_at os i _ ts rs = refl
 
-pub trivial_row : (os : List Op) (i : ℕ) → by_stand trivial os i ≡ fold_trivial os i
-trivial_row os i = go (slice_get os i)
+pub trivial_pattern : (os : List Op) (i : ℕ) → by_stand trivial os i ≡ fold_trivial os i
+trivial_pattern os i = go (slice_get os i)
   where
-    go : (x : Option Op) → bind x (λ (o : Op). edits_of i (trivial os o.kind o.types o.operands))
-        ≡ or_edits (bind x (λ (o : Op). edits_of i (trivial_concat os o.kind o.types o.operands)))
-        (or_edits (bind x (λ (o : Op). edits_of i (trivial_replicate os o.kind o.types o.operands)))
-        (or_edits (bind x (λ (o : Op). edits_of i (trivial_bitcast os o.kind o.types o.operands))) None))
+    go : (x : Option Op) → option_and_then (λ (o : Op). edits_of i (trivial os o.kind o.types o.operands)) x
+        ≡ or_edits (option_and_then (λ (o : Op). edits_of i (trivial_concat os o.kind o.types o.operands)) x)
+        (or_edits (option_and_then (λ (o : Op). edits_of i (trivial_replicate os o.kind o.types o.operands)) x)
+        (or_edits (option_and_then (λ (o : Op). edits_of i (trivial_bitcast os o.kind o.types o.operands)) x) None))
     go None = refl
     go (Some o) = trivial_at os i o.kind o.types o.operands
 
@@ -86,11 +85,11 @@ made_at os i (on_struct (struct_extract name)) ts rs = or_none _
 made_at os i (on_array array_get) ts rs = or_none _
 made_at os i _ ts rs = refl
 
-pub made_part_row : (os : List Op) (i : ℕ) → by_stand made_part os i ≡ fold_made_part os i
-made_part_row os i = go (slice_get os i)
+pub made_part_pattern : (os : List Op) (i : ℕ) → by_stand made_part os i ≡ fold_made_part os i
+made_part_pattern os i = go (slice_get os i)
   where
-    go : (x : Option Op) → bind x (λ (o : Op). edits_of i (made_part os o.kind o.types o.operands))
-        ≡ or_edits (bind x (λ (o : Op). edits_of i (struct_part os o.kind o.types o.operands))) (or_edits (bind x (λ (o : Op). edits_of i (array_part os o.kind o.types o.operands))) None)
+    go : (x : Option Op) → option_and_then (λ (o : Op). edits_of i (made_part os o.kind o.types o.operands)) x
+        ≡ or_edits (option_and_then (λ (o : Op). edits_of i (struct_part os o.kind o.types o.operands)) x) (or_edits (option_and_then (λ (o : Op). edits_of i (array_part os o.kind o.types o.operands)) x) None)
     go None = refl
     go (Some o) = made_at os i o.kind o.types o.operands
 

@@ -12,12 +12,12 @@ use Rattle.body_edits.specs.Replaced.{plain_op, IsNumberOp}
 use Rattle.body_edits.specs.Views.{body_ops}
 
 pub has_joined : (b b' : Body) (i first second : ℕ) (two : Two) (n : ℕ) (o : Op) (t : HwType) (new : NewOp) → slice_get (body_ops b) i ≡ Some o → result_type o 0 ≡ Some t
-    → IsNumberOp n t o.place new → first ≡ two.first → second ≡ two.second → IsPutIn b b' i first second (plain_op (new_parts new)) → HasJoined b b' i two n
+    → IsNumberOp n t o.location new → first ≡ two.first → second ≡ two.second → IsPutIn b b' i first second (plain_op (new_parts new)) → HasJoined b b' i two n
 has_joined b b' i first second two n o t new there typed made at then put = record {
   op = o;
   there = there;
   type = t;
   typed = typed;
-  put = subst (λ j. IsPutIn b b' i j two.second (number_op n t o.place)) at
-      (subst (λ j. IsPutIn b b' i first j (number_op n t o.place)) then (subst (IsPutIn b b' i first second) made.is put));
+  put = subst (λ j. IsPutIn b b' i j two.second (number_op n t o.location)) at
+      (subst (λ j. IsPutIn b b' i first j (number_op n t o.location)) then (subst (IsPutIn b b' i first second) made.is put));
 }

@@ -6,7 +6,7 @@ use Rattle.wiring.specs.Wiring.{In}
 use Rattle.wiring.proofs.Members.{In-slice_get}
 use Rattle.hw_model.specs.Design.{Op}
 use Rattle.hw_model.specs.Design.Ref.{undefined}
-use Rattle.hw_edits.specs.Laws.{erase_op}
+use Rattle.edit_laws.specs.Laws.{erase_op}
 use Rattle.ir_store.specs.declared.body.Body.{Body}
 use Rattle.ir_store.specs.declared.operation.OpId.{OpId}
 use Rattle.ir_store.specs.Bodies.{ids_of, ops_of}
@@ -18,10 +18,10 @@ use Rattle.fold_laws.proofs.NestedUses.{named_once, uses-set, uses_of_two, unuse
 use Rattle.comb_fold.specs.Merges.{TakesBoth, IsJoined}
 use Rattle.body_edits.specs.Replaced.{IsNamed, HasNamed, IsReplaced}
 use Rattle.body_edits.specs.Views.{HasOp, body_ops, position_in}
-use Rattle.comb_fold.proofs.NestedRow.{within_ids}
+use Rattle.comb_fold.proofs.NestedPattern.{within_ids}
 use Rattle.body_edits.proofs.Positions.{position_there}
 use Rattle.body_edits.proofs.TakenIn.{id_there, gone_seen, gone_ids}
-use Rattle.body_edits.proofs.UnusedRow.{body_unused}
+use Rattle.body_edits.proofs.UnusedPattern.{body_unused}
 
 -- its operands are operands of the body
 pub takes_named : (os : List Op) (i j : ℕ) (o : Op) → TakesBoth os i j o → HasNamed os o

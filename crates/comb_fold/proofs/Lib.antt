@@ -1,13 +1,13 @@
 -- Lemmas.
-pub mod FitRows
-pub mod StandingRows
-pub mod RowsInFit
+pub mod FitPatterns
+pub mod StandingPatterns
+pub mod PatternsInFit
 pub mod FirstStands
-pub mod NestedRow
+pub mod NestedPattern
 pub mod PutJoined
-pub mod JoinedRow
+pub mod JoinedPattern
 pub mod HasJoined
 pub mod EvaluatedOps
 pub mod JoinedOps
-pub mod JoinRows
+pub mod JoinPatterns
 pub mod FitExtracts

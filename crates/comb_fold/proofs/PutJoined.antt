@@ -4,7 +4,7 @@ use Rattle.std.specs.Prelude.{All, Contains, insert, remove, IfSome}
 use Rattle.std.proofs.lemmas.List.{length-map}
 use Rattle.hw_model.specs.Design.{Op}
 use Rattle.hw_model.specs.Design.Ref.{result}
-use Rattle.hw_edits.specs.Laws.{up_ref, insert_op}
+use Rattle.edit_laws.specs.Laws.{up_ref, insert_op}
 use Rattle.ir_store.specs.declared.body.Body.{Body}
 use Rattle.ir_store.specs.declared.operation.NewOp.{NewOp}
 use Rattle.ir_store.specs.declared.operation.OpId.{OpId}

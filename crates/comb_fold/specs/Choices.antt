@@ -1,4 +1,4 @@
--- Values that stand for results by the first of several rows (CIRCT, Comb and HW dialects: folds of their operations).
+-- Values that stand for results by the first of several patterns (CIRCT, Comb and HW dialects: folds of their operations).
 use Rattle.std.specs.Prelude.{None}
 use Rattle.hw_model.specs.Kinds.ArrayOp.{array_get}
 use Rattle.hw_model.specs.Kinds.StructOp.{struct_extract}

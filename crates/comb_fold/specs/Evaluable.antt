@@ -27,6 +27,6 @@ pub record IsEvaluable (os : List Op) (kind : Kind) (rs : List Ref) (type : Opti
   pub constants : constants_at os rs ≡ Some words
   pub suits : TakesWords kind width words
 
--- so is the operation of a body that rows read
+-- so is the operation of a body that patterns read
 abbrev pub IsEvaluableSite : Site → Type 0
 IsEvaluableSite s = IsEvaluable (ops_at s) (kind_at s) (refs_at s) (first_type_of s)

@@ -1,7 +1,6 @@
 -- Two constants among the operands of an operation, and one in their place (CIRCT, Comb dialect: canonicalization of its
 -- operations).
-use Rattle.std.specs.Prelude.{◌≡◌, ℕ, suc, ◌+◌, Bool, List, map, length, drop, set, slice_set, insert, remove, position, option_map, Option, None, Some, Contains, slice_get}
-use Rattle.wiring.specs.Options.{bind}
+use Rattle.std.specs.Prelude.{◌≡◌, ℕ, suc, ◌+◌, Bool, List, map, length, drop, set, slice_set, insert, remove, position, option_map, Option, None, Some, Contains, slice_get, option_and_then}
 use Rattle.wiring.specs.Wiring.{In}
 use Rattle.bits_core.specs.Word.{Word}
 use Rattle.hw_model.specs.Types.{HwType}
@@ -9,7 +8,7 @@ use Rattle.hw_model.specs.Kinds.{Kind}
 use Rattle.hw_model.specs.Kinds.Kind.{variadic}
 use Rattle.hw_model.specs.Design.{Ref, Op, result_type}
 use Rattle.hw_model.specs.Design.Ref.{result}
-use Rattle.hw_edits.specs.Laws.{up_ref, insert_op}
+use Rattle.edit_laws.specs.Laws.{up_ref, insert_op}
 use Rattle.ir_store.specs.declared.body.Body.{Body}
 use Rattle.ir_store.specs.Bodies.{ids_of}
 use Rattle.fold_laws.specs.Constants.{constant_at}
@@ -20,7 +19,7 @@ use Rattle.body_edits.specs.Views.{body_ops}
 
 -- the positions of the first two elements that meet a test
 abbrev pub first_two : {A : Type 0} → (A → Bool) → List A → Option Two
-first_two test xs = bind (position test xs) (λ i. option_map (λ k. record { first = i; second = i + 1 + k }) (position test (drop (i + 1) xs)))
+first_two test xs = option_and_then (λ i. option_map (λ k. record { first = i; second = i + 1 + k }) (position test (drop (i + 1) xs))) (position test xs)
 
 -- those among the operands of an operation of any number of them
 abbrev pub two_of_kind : {A : Type 0} → Kind → (A → Bool) → List A → Option Two
@@ -55,4 +54,4 @@ pub record HasJoined (before after : Body) (i : ℕ) (two : Two) (n : ℕ) : Typ
   pub there : slice_get (body_ops before) i ≡ Some op
   pub type : HwType
   pub typed : result_type op 0 ≡ Some type
-  pub put : IsPutIn before after i two.first two.second (number_op n type op.place)
+  pub put : IsPutIn before after i two.first two.second (number_op n type op.location)

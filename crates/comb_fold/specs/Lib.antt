@@ -1,5 +1,5 @@
 pub mod Choices
-pub mod Rows
+pub mod Patterns
 pub mod Evaluable
 pub mod Joins
 pub mod Merges

@@ -1,40 +1,40 @@
-//! Lists of rows that are tried one after the other.
+//! Lists of patterns that are tried one after the other.
 
 use crate::pattern::Pattern;
 use ir_store::body::Body;
 use ir_store::operation::OpId;
 use std::alloc::{AllocError, Global};
 
-/// A list of rows of the table of folds.
-pub trait Rows {
+/// A list of patterns of the table of folds.
+pub trait Patterns {
     ghost use Rattle.std.specs.Prelude.{◌≡◌, List, is_some, IfOk, OnErr};
     ghost use Rattle.ir_store.specs.Bodies.{ops_of};
-    ghost use Rattle.fold_laws.specs.Edits.{Row};
-    ghost use Rattle.fold_laws.specs.Table.{first_row};
+    ghost use Rattle.fold_laws.specs.Edits.{FoldPattern};
+    ghost use Rattle.fold_laws.specs.Table.{first_pattern};
     ghost use Rattle.body_edits.specs.FitBodies.{IsOfFit};
     ghost use Rattle.body_edits.specs.Folded.{Tries};
     ghost use Rattle.body_edits.specs.Views.{HasOp, body_ops, position_in};
 
-    // The rows, the first to be tried first.
-    ghost tried: { List Row };
+    // The patterns, the first to be tried first.
+    ghost tried: { List FoldPattern };
 
-    /// Whether a row of the list matches at an operation. It takes no memory.
+    /// Whether a pattern of the list matches at an operation. It takes no memory.
     fn matches(body: &Body, op: OpId) -> bool
         requires fit { IsOfFit body.now }
         requires live { HasOp body.now op }
-        ensures { result ≡ is_some (first_row tried (body_ops body.now) (position_in body.now op)) };
+        ensures { result ≡ is_some (first_pattern tried (body_ops body.now) (position_in body.now op)) };
 
-    /// Changes a body at an operation as the first row of the list says that matches there, and says whether one does. On an
+    /// Changes a body at an operation as the first pattern of the list says that matches there, and says whether one does. On an
     /// error, which comes where memory that is needed is refused, the operations stay.
     fn attempt(alloc: Global, body: &mut Body, op: OpId) -> Result<bool, AllocError>
         requires fit { IsOfFit body.old }
         requires live { HasOp body.old op }
-        ensures tries { IfOk result (Tries (first_row tried) body.old body.new (position_in body.old op)) }
+        ensures tries { IfOk result (Tries (first_pattern tried) body.old body.new (position_in body.old op)) }
         ensures kept { OnErr result (ops_of body.new ≡ ops_of body.old) };
 }
 
-/// No row, of which none matches.
-impl Rows for () {
+/// No pattern, of which none matches.
+impl Patterns for () {
     ghost use Rattle.std.specs.Prelude.{[]};
 
     ghost tried = { [] };
@@ -48,8 +48,8 @@ impl Rows for () {
     }
 }
 
-/// A row, and the others that are tried where it does not match.
-impl<P: Pattern, R: Rows> Rows for (P, R) {
+/// A pattern, and the others that are tried where it does not match.
+impl<P: Pattern, R: Patterns> Patterns for (P, R) {
     ghost use Rattle.std.specs.Prelude.{◌∷◌};
 
     ghost tried = { P.change ∷ R.tried };

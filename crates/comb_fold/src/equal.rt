@@ -1,7 +1,7 @@
-//! The row of two equal operands of `comb.xor`.
+//! The pattern of two equal operands of `comb.xor`.
 
 use crate::numbered::XorSelf;
-use crate::operand_rows::XorPair;
+use crate::operand_patterns::XorPair;
 use crate::pattern::Pattern;
 use ir_store::body::Body;
 use ir_store::operation::OpId;

@@ -1,4 +1,4 @@
-//! The row by which an operation of constants becomes the constant of its value.
+//! The pattern by which an operation of constants becomes the constant of its value.
 ghost use Rattle.std.specs.Prelude.{◌≡◌, ◌&&◌, true, Some, is_some, slice_get, option_map, IfOk};
 ghost use Rattle.hw_model.specs.Types.{HwType};
 ghost use Rattle.hw_model.specs.KindViews.{kind_of};

@@ -1,4 +1,4 @@
-//! The row by which an operation of any number of operands has one constant in the place of two (CIRCT, Comb dialect:
+//! The pattern by which an operation of any number of operands has one constant in the place of two (CIRCT, Comb dialect:
 //! canonicalization of its operations).
 ghost use Rattle.std.specs.Prelude.{◌≡◌, ◌<◌, [], true, Some, is_some, position, OnOk, OnErr};
 ghost use Rattle.ir_store.specs.Bodies.{ops_of};
@@ -133,7 +133,7 @@ fn join(alloc: Global, body: &mut Body, op: OpId, two: Two, number: u128) -> Res
     let found = body.op(op);
     match first_type(found.results) {
         Some(ty) => {
-            let constant = number_op(alloc, number, ty, found.place)?;
+            let constant = number_op(alloc, number, ty, found.location)?;
             put_joined(body, op, first, second, constant)
         }
         None => unreachable!(),

@@ -1,10 +1,10 @@
-//! Rows by which an operation that always gives one number becomes a constant.
+//! Patterns by which an operation that always gives one number becomes a constant.
 ghost use Rattle.std.specs.Prelude.{◌≡◌, true, is_some, OnOk, OnErr};
 ghost use Rattle.bits_core.specs.Word.{bit};
 ghost use Rattle.hw_model.specs.KindViews.{predicate_of};
 ghost use Rattle.ir_store.specs.Bodies.{ops_of};
 ghost use Rattle.fold_laws.specs.Numbers.{by_number, holds_of_equals, sub_self, xor_self, shift_out, rest_by_one, icmp_self, fold_sub_self, fold_xor_self, fold_shift_out, fold_mod_one, fold_icmp_self};
-ghost use Rattle.fold_laws.proofs.NumberRows.{sub_self_makes, xor_self_makes, shift_out_makes, rest_by_one_makes, icmp_self_makes};
+ghost use Rattle.fold_laws.proofs.NumberPatterns.{sub_self_makes, xor_self_makes, shift_out_makes, rest_by_one_makes, icmp_self_makes};
 ghost use Rattle.body_edits.specs.FitBodies.{IsOfFit};
 ghost use Rattle.body_edits.specs.Folded.{IsFolded};
 ghost use Rattle.body_edits.specs.Views.{HasOp, body_ops, position_in};
@@ -38,7 +38,7 @@ pub trait Numbered {
     ghost makes: { IsNumbering numbering };
 }
 
-/// Whether the row by which an operation becomes the constant of its number matches.
+/// Whether the pattern by which an operation becomes the constant of its number matches.
 fn has_number<N: Numbered>(body: &Body, op: OpId) -> bool
     requires fit { IsOfFit body.now }
     requires live { HasOp body.now op }

@@ -1,4 +1,4 @@
-//! Rows by which a part of what was made of parts is that part (CIRCT, Comb and HW dialects: folds of their operations).
+//! Patterns by which a part of what was made of parts is that part (CIRCT, Comb and HW dialects: folds of their operations).
 ghost use Rattle.fold_laws.specs.Parts.{extract_part, fold_extract_part};
 ghost use Rattle.fold_laws.specs.Table.{fold_made_part};
 ghost use Rattle.comb_fold.specs.Choices.{made_part};
@@ -32,7 +32,7 @@ impl Pattern for F29 {
         has_value::<F29>(body, op)
     }
 
-    #[tactic(auto, using(crate::proofs::RowsInFit::extract_part_in_fit))]
+    #[tactic(auto, using(crate::proofs::PatternsInFit::extract_part_in_fit))]
     fn apply(_alloc: Global, body: &mut Body, op: OpId) -> Result<(), AllocError> {
         stand_chosen::<F29>(body, op);
         Ok(())

@@ -1,4 +1,4 @@
-//! Rows by which a value stands for the only result of an operation, which goes (CIRCT, Comb and HW dialects: folds of their
+//! Patterns by which a value stands for the only result of an operation, which goes (CIRCT, Comb and HW dialects: folds of their
 //! operations).
 ghost use Rattle.std.specs.Prelude.{◌≡◌, true, is_some, option_map};
 ghost use Rattle.fold_laws.specs.Standing.{Stand, by_stand, single_operand, absorbing_and, absorbing_or, absorbing_mul, sub_zero, shift_zero, div_one, mux_constant, mux_same, mux_bool, full_extract, fold_single_operand, fold_and_zero, fold_or_ones, fold_mul_zero, fold_sub_zero, fold_shift_zero, fold_div_one, fold_mux_constant, fold_mux_same, fold_mux_bool, fold_full_extract};
@@ -6,7 +6,7 @@ ghost use Rattle.fold_laws.specs.Table.{fold_trivial};
 ghost use Rattle.comb_fold.specs.Choices.{trivial};
 ghost use Rattle.body_edits.specs.FitBodies.{IsOfFit};
 ghost use Rattle.body_edits.specs.Folded.{IsFolded};
-ghost use Rattle.comb_fold.specs.Rows.{StandsInFit};
+ghost use Rattle.comb_fold.specs.Patterns.{StandsInFit};
 ghost use Rattle.body_edits.specs.Sites.{ref_at, stand_of, IsReadableSite};
 ghost use Rattle.body_edits.specs.Views.{HasOp, body_ops, position_in};
 
@@ -74,7 +74,7 @@ impl Pattern for F3 {
         has_value::<F3>(body, op)
     }
 
-    #[tactic(auto, using(crate::proofs::RowsInFit::single_operand_in_fit))]
+    #[tactic(auto, using(crate::proofs::PatternsInFit::single_operand_in_fit))]
     fn apply(_alloc: Global, body: &mut Body, op: OpId) -> Result<(), AllocError> {
         stand_chosen::<F3>(body, op);
         Ok(())
@@ -102,7 +102,7 @@ impl Pattern for F9 {
         has_value::<F9>(body, op)
     }
 
-    #[tactic(auto, using(crate::proofs::RowsInFit::absorbing_and_in_fit))]
+    #[tactic(auto, using(crate::proofs::PatternsInFit::absorbing_and_in_fit))]
     fn apply(_alloc: Global, body: &mut Body, op: OpId) -> Result<(), AllocError> {
         stand_chosen::<F9>(body, op);
         Ok(())
@@ -130,7 +130,7 @@ impl Pattern for F10 {
         has_value::<F10>(body, op)
     }
 
-    #[tactic(auto, using(crate::proofs::RowsInFit::absorbing_or_in_fit))]
+    #[tactic(auto, using(crate::proofs::PatternsInFit::absorbing_or_in_fit))]
     fn apply(_alloc: Global, body: &mut Body, op: OpId) -> Result<(), AllocError> {
         stand_chosen::<F10>(body, op);
         Ok(())
@@ -158,7 +158,7 @@ impl Pattern for F11 {
         has_value::<F11>(body, op)
     }
 
-    #[tactic(auto, using(crate::proofs::RowsInFit::absorbing_mul_in_fit))]
+    #[tactic(auto, using(crate::proofs::PatternsInFit::absorbing_mul_in_fit))]
     fn apply(_alloc: Global, body: &mut Body, op: OpId) -> Result<(), AllocError> {
         stand_chosen::<F11>(body, op);
         Ok(())
@@ -186,7 +186,7 @@ impl Pattern for F17 {
         has_value::<F17>(body, op)
     }
 
-    #[tactic(auto, using(crate::proofs::RowsInFit::sub_zero_in_fit))]
+    #[tactic(auto, using(crate::proofs::PatternsInFit::sub_zero_in_fit))]
     fn apply(_alloc: Global, body: &mut Body, op: OpId) -> Result<(), AllocError> {
         stand_chosen::<F17>(body, op);
         Ok(())
@@ -214,7 +214,7 @@ impl Pattern for F19 {
         has_value::<F19>(body, op)
     }
 
-    #[tactic(auto, using(crate::proofs::RowsInFit::shift_zero_in_fit))]
+    #[tactic(auto, using(crate::proofs::PatternsInFit::shift_zero_in_fit))]
     fn apply(_alloc: Global, body: &mut Body, op: OpId) -> Result<(), AllocError> {
         stand_chosen::<F19>(body, op);
         Ok(())
@@ -242,7 +242,7 @@ impl Pattern for F21 {
         has_value::<F21>(body, op)
     }
 
-    #[tactic(auto, using(crate::proofs::RowsInFit::div_one_in_fit))]
+    #[tactic(auto, using(crate::proofs::PatternsInFit::div_one_in_fit))]
     fn apply(_alloc: Global, body: &mut Body, op: OpId) -> Result<(), AllocError> {
         stand_chosen::<F21>(body, op);
         Ok(())
@@ -270,7 +270,7 @@ impl Pattern for F24 {
         has_value::<F24>(body, op)
     }
 
-    #[tactic(auto, using(crate::proofs::RowsInFit::mux_constant_in_fit))]
+    #[tactic(auto, using(crate::proofs::PatternsInFit::mux_constant_in_fit))]
     fn apply(_alloc: Global, body: &mut Body, op: OpId) -> Result<(), AllocError> {
         stand_chosen::<F24>(body, op);
         Ok(())
@@ -298,7 +298,7 @@ impl Pattern for F25 {
         has_value::<F25>(body, op)
     }
 
-    #[tactic(auto, using(crate::proofs::RowsInFit::mux_same_in_fit))]
+    #[tactic(auto, using(crate::proofs::PatternsInFit::mux_same_in_fit))]
     fn apply(_alloc: Global, body: &mut Body, op: OpId) -> Result<(), AllocError> {
         stand_chosen::<F25>(body, op);
         Ok(())
@@ -326,7 +326,7 @@ impl Pattern for F26 {
         has_value::<F26>(body, op)
     }
 
-    #[tactic(auto, using(crate::proofs::RowsInFit::mux_bool_in_fit))]
+    #[tactic(auto, using(crate::proofs::PatternsInFit::mux_bool_in_fit))]
     fn apply(_alloc: Global, body: &mut Body, op: OpId) -> Result<(), AllocError> {
         stand_chosen::<F26>(body, op);
         Ok(())
@@ -354,7 +354,7 @@ impl Pattern for F27 {
         has_value::<F27>(body, op)
     }
 
-    #[tactic(auto, using(crate::proofs::RowsInFit::full_extract_in_fit))]
+    #[tactic(auto, using(crate::proofs::PatternsInFit::full_extract_in_fit))]
     fn apply(_alloc: Global, body: &mut Body, op: OpId) -> Result<(), AllocError> {
         stand_chosen::<F27>(body, op);
         Ok(())

@@ -1,4 +1,4 @@
-//! The row by which an operation goes whose results nothing uses (MLIR documentation, "Operation canonicalization").
+//! The pattern by which an operation goes whose results nothing uses (MLIR documentation, "Operation canonicalization").
 ghost use Rattle.fold_laws.specs.Unused.{fold_unused};
 
 use crate::pattern::Pattern;

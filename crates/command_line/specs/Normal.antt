@@ -28,9 +28,9 @@ with_second_dash (b ∷ rest) = cond (b == 45 && wants_dash rest) (45 ∷ b ∷ 
 abbrev pub is_end : List ℕ → Bool
 is_end word = bytes_eq word (codes "--")
 
--- a word begins with this front
+-- a word begins with this prefix
 abbrev pub begins : List ℕ → List ℕ → Bool
-begins front word = starts_with nat_eq word front
+begins prefix word = starts_with nat_eq word prefix
 
 -- the word that is kept for the program itself
 abbrev pub is_reserved : List ℕ → Bool

@@ -20,7 +20,7 @@ pub(crate) struct Subcommand {
 // `[FILE]`
 const FILE: Argument = Argument {
     id: "file",
-    form: Form::Place,
+    form: Form::Location,
     is_required: false,
 };
 
@@ -76,14 +76,14 @@ const EXPORT: Argument = Argument {
 // `SEED`
 const SEED: Argument = Argument {
     id: "seed",
-    form: Form::Place,
+    form: Form::Location,
     is_required: true,
 };
 
 // `N`, the number of modules.
 const COUNT: Argument = Argument {
     id: "count",
-    form: Form::Place,
+    form: Form::Location,
     is_required: true,
 };
 
@@ -97,14 +97,14 @@ const VERILOG: Argument = Argument {
 // `FILE`
 const FIRST_FILE: Argument = Argument {
     id: "file",
-    form: Form::Place,
+    form: Form::Location,
     is_required: true,
 };
 
 // A second `[FILE]`.
 const SECOND_FILE: Argument = Argument {
     id: "second-file",
-    form: Form::Place,
+    form: Form::Location,
     is_required: false,
 };
 

@@ -150,11 +150,11 @@ fn is_reserved(word: &str) -> bool
     word == "--passes" || begins(b"--passes=", word.as_bytes())
 }
 
-/// Whether a word begins with this front.
-fn begins(front: &[u8], word: &[u8]) -> bool
-    ensures { result ≡ begins front.now word.now }
+/// Whether a word begins with this prefix.
+fn begins(prefix: &[u8], word: &[u8]) -> bool
+    ensures { result ≡ begins prefix.now word.now }
 {
-    word.starts_with(front)
+    word.starts_with(prefix)
 }
 
 /// The words with the passes of flags as one word after the first one, where that takes passes.

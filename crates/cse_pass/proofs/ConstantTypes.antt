@@ -1,8 +1,7 @@
 -- What a constant is that is not refused by itself: it has one result, and its number is in the range of its type.
-use Rattle.std.proofs.Common.{◌≡◌, ◌≤◌, ℕ, suc, ℤ, ◌==◌, Bool, false, not, List, [], ◌∷◌, length, Option, Some, None, slice_get, refl, sym, ap, ◌∙◌, arith}
+use Rattle.std.proofs.Common.{◌≡◌, ◌≤◌, ℕ, suc, ℤ, ◌==◌, Bool, false, not, List, [], ◌∷◌, length, Option, Some, None, slice_get, refl, sym, ap, ◌∙◌, arith, option_map}
 use Rattle.std.specs.List.{list_any}
 use Rattle.std.proofs.lemmas.Bool.Decides.{nat_tests}
-use Rattle.wiring.specs.Options.{omap}
 use Rattle.hw_model.specs.Types.{HwType}
 use Rattle.hw_model.specs.Types.HwType.{int, clock, array, struct}
 use Rattle.hw_model.specs.Kinds.{Kind}
@@ -56,7 +55,7 @@ pub constant_results : (kind : Kind) (ts : List HwType) (y : ℤ) → kind ≡ c
 unfolding result_count
 constant_results kind ts y is = ap (λ z. result_count z ts) is
 
-pub one_result : (rs : List OpResult) (k : ℕ) → length rs ≡ 1 → omap (λ (r : OpResult). r.type) (slice_get rs (suc k)) ≡ None
+pub one_result : (rs : List OpResult) (k : ℕ) → length rs ≡ 1 → option_map (λ (r : OpResult). r.type) (slice_get rs (suc k)) ≡ None
 one_result [] k one = refl
 one_result (r ∷ []) k one = refl
 one_result (r ∷ q ∷ rs) k one = absurd (omega (arith, one))

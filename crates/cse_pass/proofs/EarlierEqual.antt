@@ -1,9 +1,9 @@
 -- What is found among the operations of one hash of a body in code is the first equal operation.
-use Rattle.std.proofs.Common.{◌≡◌, ℕ, zero, suc, true, false, cond, nat_eq, List, [], ◌∷◌, map, take, drop, filter, find, get_or, Option, Some, None, slice_get, option_map, IfSome, All, Contains, refl, sym, ap, ap₂, subst, ◌∙◌, arith, eq-eqb}
+use Rattle.std.proofs.Common.{◌≡◌, ℕ, zero, suc, true, false, cond, nat_eq, List, [], ◌∷◌, map, take, drop, filter, find, get_or, Option, Some, None, slice_get, option_map, IfSome, All, Contains}
+use Rattle.std.proofs.Common.{refl, sym, ap, ap₂, subst, ◌∙◌, arith, eq-eqb, option_and_then}
 use Rattle.std.proofs.lemmas.List.{take-map, take-append-drop}
 use Rattle.std.proofs.lemmas.List.Elements.{All-nil, All-cons, All-weaker, All-take, All-map, All-filter}
 use Rattle.std.proofs.lemmas.Option.{slice_get-get_or}
-use Rattle.wiring.specs.Options.{bind}
 use Rattle.hw_model.specs.Equality.{both}
 use Rattle.hw_model.specs.Design.{Op}
 use Rattle.hw_model.specs.KindViews.{kind_of}
@@ -36,11 +36,11 @@ use Rattle.cse_pass.proofs.SameHashes.{same_is_equal, same_hash, same_purity}
 
 before_impure : (os : List Op) (i : ℕ) (o : Op) → slice_get os i ≡ Some o → is_pure o.kind ≡ false → equal_before os i ≡ None
 before_impure os i o there other =
-    ap (λ x. bind x (λ (p : Op). cond (is_pure p.kind) (equal_place p (take i os)) None)) there ∙ ap (λ b. cond b (equal_place o (take i os)) None) other
+    ap (λ x. option_and_then (λ (p : Op). cond (is_pure p.kind) (equal_place p (take i os)) None) x) there ∙ ap (λ b. cond b (equal_place o (take i os)) None) other
 
 before_pure : (os : List Op) (i : ℕ) (o : Op) → slice_get os i ≡ Some o → is_pure o.kind ≡ true → equal_before os i ≡ equal_place o (take i os)
 before_pure os i o there pure =
-    ap (λ x. bind x (λ (p : Op). cond (is_pure p.kind) (equal_place p (take i os)) None)) there ∙ ap (λ b. cond b (equal_place o (take i os)) None) pure
+    ap (λ x. option_and_then (λ (p : Op). cond (is_pure p.kind) (equal_place p (take i os)) None) x) there ∙ ap (λ b. cond b (equal_place o (take i os)) None) pure
 
 -- ---- ids
 

@@ -2,7 +2,6 @@
 use Rattle.std.proofs.Common.{◌≡◌, ℕ, suc, Bool, true, false, cond, nat_eq, List, [], ◌∷◌, ◌++◌, map, filter, find, Option, Some, None, option_map, IfSome, All, refl, sym, ap, ◌∙◌, eq-eqb}
 use Rattle.std.proofs.lemmas.Bool.{eqb-true}
 use Rattle.std.proofs.lemmas.List.Elements.{All-head, All-tail}
-use Rattle.wiring.specs.Options.{omap}
 use Rattle.ir_store.specs.declared.operation.OpId.{OpId}
 use Rattle.ir_store.specs.Bodies.{op_id}
 use Rattle.ir_store.specs.BodyOps.{BodyOp, ids_in}
@@ -37,12 +36,12 @@ pub record IsTested (P : ℕ → ℕ) (test : OpId → Bool) (keep : BodyOp → 
   pub kept : test (op_id p.id) ≡ true → keep p ≡ true
 
 module _ (P : ℕ → ℕ) (test : OpId → Bool) (keep : BodyOp → Bool) (o : BodyOp) (rest : List BodyOp) where
-  pub finds_equal : (front : List BodyOp) → All (IsTested P test keep o) front
-      → equal_place (op_by P o) (map (op_by P) front)
-      ≡ option_map (λ (id : OpId). position_of (ids_in (front ++ rest)) id.index) (find test (map (λ (p : BodyOp). op_id p.id) (filter keep front)))
+  pub finds_equal : (prefix : List BodyOp) → All (IsTested P test keep o) prefix
+      → equal_place (op_by P o) (map (op_by P) prefix)
+      ≡ option_map (λ (id : OpId). position_of (ids_in (prefix ++ rest)) id.index) (find test (map (λ (p : BodyOp). op_id p.id) (filter keep prefix)))
   finds_equal [] all = refl
   finds_equal (p ∷ ps) all =
-      ap (λ b. cond b (Some 0) (omap suc (equal_place (op_by P o) (map (op_by P) ps)))) (sym here.is)
+      ap (λ b. cond b (Some 0) (option_map suc (equal_place (op_by P o) (map (op_by P) ps)))) (sym here.is)
       ∙ go (test (op_id p.id)) refl (keep p) refl here.kept (finds_equal ps (All-tail (IsTested P test keep o) p ps all))
     where
       here : IsTested P test keep o p
@@ -50,7 +49,7 @@ module _ (P : ℕ → ℕ) (test : OpId → Bool) (keep : BodyOp → Bool) (o : 
 
       -- a later one has another id, since it passes the test
       later : (x : Option OpId) → find test (map (λ (p : BodyOp). op_id p.id) (filter keep ps)) ≡ x → test (op_id p.id) ≡ false
-          → omap suc (option_map (λ (id : OpId). position_of (ids_in (ps ++ rest)) id.index) x) ≡ option_map (λ (id : OpId). position_of (ids_in (p ∷ ps ++ rest)) id.index) x
+          → option_map suc (option_map (λ (id : OpId). position_of (ids_in (ps ++ rest)) id.index) x) ≡ option_map (λ (id : OpId). position_of (ids_in (p ∷ ps ++ rest)) id.index) x
       later None is other = refl
       later (Some id) is other = ap Some (other_id (nat_eq p.id id.index) refl)
         where
@@ -75,10 +74,10 @@ module _ (P : ℕ → ℕ) (test : OpId → Bool) (keep : BodyOp → Bool) (o : 
 
       go : (b : Bool) → test (op_id p.id) ≡ b → (k : Bool) → keep p ≡ k → (test (op_id p.id) ≡ true → keep p ≡ true)
           → equal_place (op_by P o) (map (op_by P) ps) ≡ option_map (λ (id : OpId). position_of (ids_in (ps ++ rest)) id.index) (find test (map (λ (p : BodyOp). op_id p.id) (filter keep ps)))
-          → cond b (Some 0) (omap suc (equal_place (op_by P o) (map (op_by P) ps)))
+          → cond b (Some 0) (option_map suc (equal_place (op_by P o) (map (op_by P) ps)))
           ≡ option_map (λ (id : OpId). position_of (ids_in (p ∷ ps ++ rest)) id.index) (find test (map (λ (p : BodyOp). op_id p.id) (cond k (p ∷ filter keep ps) (filter keep ps))))
       go true passes k is kept rest_is = found_first k (sym is ∙ kept passes) passes
       go false other k is kept rest_is =
-          ap (omap suc) rest_is
+          ap (option_map suc) rest_is
           ∙ later (find test (map (λ (p : BodyOp). op_id p.id) (filter keep ps))) refl other
           ∙ ap (option_map (λ (id : OpId). position_of (ids_in (p ∷ ps ++ rest)) id.index)) (passed_by k other)

@@ -1,8 +1,7 @@
 -- Where equal operations stand.
-use Rattle.std.proofs.Common.{◌≡◌, ◌<◌, ℕ, zero, suc, Bool, true, false, cond, List, [], ◌∷◌, take, Option, Some, None, slice_get, refl, sym, ap, ◌∙◌, arith}
-use Rattle.wiring.specs.Options.{bind, omap}
+use Rattle.std.proofs.Common.{◌≡◌, ◌<◌, ℕ, zero, suc, Bool, true, false, cond, List, [], ◌∷◌, take, Option, Some, None, slice_get, refl, sym, ap, ◌∙◌, arith, option_and_then, option_map}
 use Rattle.wiring.proofs.Lists.{slice_get-take}
-use Rattle.wiring.proofs.Options.{bind_some, omap_some, omap_none}
+use Rattle.wiring.proofs.Options.{and_then_some, option_map_some, option_map_none}
 use Rattle.hw_model.specs.Design.{Op}
 use Rattle.fold_laws.specs.Unused.{is_pure}
 use Rattle.cse_pass.specs.EqualOps.{are_equal, equal_place, equal_before}
@@ -30,12 +29,12 @@ place_found : (o : Op) (os : List Op) (j : ℕ) → equal_place o os ≡ Some j 
 place_found o [] j is = cc
 place_found o (p ∷ os) j is = go (are_equal p o) refl is (λ k. place_found o os k)
   where
-    go : (b : Bool) → are_equal p o ≡ b → cond b (Some 0) (omap suc (equal_place o os)) ≡ Some j
+    go : (b : Bool) → are_equal p o ≡ b → cond b (Some 0) (option_map suc (equal_place o os)) ≡ Some j
         → ((k : ℕ) → equal_place o os ≡ Some k → (q : Op) × (slice_get os k ≡ Some q) × (are_equal q o ≡ true))
         → (q : Op) × (slice_get (p ∷ os) j ≡ Some q) × (are_equal q o ≡ true)
     go true same here later = let first : 0 ≡ j = cc in (p, ap (slice_get (p ∷ os)) (sym first), same)
     go false same here later =
-        let from = omap_some suc (equal_place o os) here in
+        let from = option_map_some suc (equal_place o os) here in
         let rest = later from.0 from.1 in
         (rest.0, ap (slice_get (p ∷ os)) (sym from.2) ∙ rest.1, rest.2)
 
@@ -43,19 +42,19 @@ none_equal : (o : Op) (os : List Op) → equal_place o os ≡ None → (j : ℕ)
 none_equal o [] is j p at same = cc
 none_equal o (q ∷ os) is j p at same = go (are_equal q o) refl is j at (λ none k there. none_equal o os none k p there same)
   where
-    go : (b : Bool) → are_equal q o ≡ b → cond b (Some 0) (omap suc (equal_place o os)) ≡ None → (k : ℕ) → slice_get (q ∷ os) k ≡ Some p
+    go : (b : Bool) → are_equal q o ≡ b → cond b (Some 0) (option_map suc (equal_place o os)) ≡ None → (k : ℕ) → slice_get (q ∷ os) k ≡ Some p
         → (equal_place o os ≡ None → (k : ℕ) → slice_get os k ≡ Some p → ⊥) → ⊥
     go true here never k there later = cc
     go false here none zero there later =
         let one : q ≡ p = cc in
         let clash : true ≡ false = sym same ∙ sym (ap (λ z. are_equal z o) one) ∙ here in cc
-    go false here none (suc k) there later = later (omap_none suc (equal_place o os) none) k there
+    go false here none (suc k) there later = later (option_map_none suc (equal_place o os) none) k there
 
 -- ---- in a body
 
 pub equal_found : (os : List Op) (i j : ℕ) → equal_before os i ≡ Some j → EqualFound os i j
 equal_found os i j is =
-    let found = bind_some (slice_get os i) (λ (o : Op). cond (is_pure o.kind) (equal_place o (take i os)) None) is in
+    let found = and_then_some (slice_get os i) (λ (o : Op). cond (is_pure o.kind) (equal_place o (take i os)) None) is in
     go found.0 found.1 (is_pure found.0.kind) refl found.2
   where
     go : (o : Op) → slice_get os i ≡ Some o → (b : Bool) → is_pure o.kind ≡ b → cond b (equal_place o (take i os)) None ≡ Some j → EqualFound os i j
@@ -70,7 +69,7 @@ pub none_before : (os : List Op) → HasNoEqual os → (i j : ℕ) (o p : Op) �
     → are_equal p o ≡ true → ⊥
 none_before os none i j o p there pure first before same =
     none_equal o (take i os)
-    (sym (ap (λ x. bind x (λ (z : Op). cond (is_pure z.kind) (equal_place z (take i os)) None)) there ∙ ap (λ b. cond b (equal_place o (take i os)) None) pure) ∙ none i)
+    (sym (ap (λ x. option_and_then (λ (z : Op). cond (is_pure z.kind) (equal_place z (take i os)) None) x) there ∙ ap (λ b. cond b (equal_place o (take i os)) None) pure) ∙ none i)
     j p (slice_get-take i os j before ∙ first) same
 
 -- where none is found so, no pure operation is equal to an earlier one

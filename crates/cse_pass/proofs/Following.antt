@@ -1,9 +1,8 @@
 -- What designs keep to whose operations the single changes of the elimination of common subexpressions lead.
-use Rattle.std.proofs.Common.{◌≡◌, ℕ, List, Some, slice_get, sym, ap, subst, ◌∙◌, inl, inr}
-use Rattle.wiring.specs.Options.{omap}
+use Rattle.std.proofs.Common.{◌≡◌, ℕ, List, Some, slice_get, sym, ap, subst, ◌∙◌, inl, inr, option_map}
 use Rattle.hw_model.specs.Design.{Op, Module, Design}
-use Rattle.hw_edits.specs.Laws.{with_body}
-use Rattle.accepted_edits.specs.Keeps.{IsFit}
+use Rattle.edit_laws.specs.Laws.{with_body}
+use Rattle.acceptance_laws.specs.Keeps.{IsFit}
 use Rattle.pass_laws.proofs.Steps.{Keeps, steps_keep}
 use Rattle.fold_laws.specs.Edits.{Edit, edited_by}
 use Rattle.fold_laws.specs.Fold.{IsFold}
@@ -23,7 +22,7 @@ change_follows : (d : Design) (k : ℕ) (m : Module) (os : List Op) → IsFit d 
 change_follows d k m os fit at (inl (i, j, is, same)) =
     subst (λ z. Keeps d (with_body d k m z)) (sym same) (record { steady = merge_steady d fit k m at i j is; lighter = merge_lighter d k m at i j is })
 change_follows d k m os fit at (inr (i, is, same)) =
-    let fold : IsFold d k m os = unused_is_fold d k m i os fit at (ap (omap (λ (es : List Edit). edited_by es m.body)) is ∙ ap Some (sym same)) in
+    let fold : IsFold d k m os = unused_is_fold d k m i os fit at (ap (option_map (λ (es : List Edit). edited_by es m.body)) is ∙ ap Some (sym same)) in
     record { steady = fold.steady; lighter = fold.lighter }
 
 -- ---- changes

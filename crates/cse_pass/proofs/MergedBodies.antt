@@ -1,18 +1,18 @@
 -- A body in code in which one operation stands for another one, by positions.
-use Rattle.std.proofs.Common.{◌≡◌, ℕ, zero, suc, ◌<◌, Bool, true, false, cond, ◌&&◌, nat_eq, nat_lt, List, [], ◌∷◌, map, length, Option, Some, None, slice_get, All, Contains, remove, refl, sym, ap, ap₂, subst, ◌∙◌, ne_eqb, eq-eqb, arith}
+use Rattle.std.proofs.Common.{◌≡◌, ℕ, zero, suc, ◌<◌, Bool, true, false, cond, ◌&&◌, nat_eq, nat_lt, List, [], ◌∷◌, map, length, Option, Some, None, slice_get, All, Contains, remove, refl, sym, ap}
+use Rattle.std.proofs.Common.{ap₂, subst, ◌∙◌, ne_eqb, eq-eqb, arith, option_and_then, option_map}
 use Rattle.std.specs.Prelude.{is_some}
 use Rattle.std.proofs.lemmas.Bool.{eqb-true, eqb-false, ltb-true, ltb-false, lt-ltb}
 use Rattle.std.proofs.lemmas.List.{length-map}
 use Rattle.std.proofs.lemmas.List.Elements.{All-head, All-tail}
 use Rattle.std.proofs.lemmas.Option.{slice_get_within}
-use Rattle.wiring.specs.Options.{bind, omap}
 use Rattle.wiring.specs.Wiring.{In}
 use Rattle.wiring.proofs.Members.{In-map, position_of_In, All-from_members}
 use Rattle.hw_model.specs.Design.{Op, OpResult, result_type}
 use Rattle.hw_model.specs.Equality.{both_of}
 use Rattle.hw_model.specs.Sound.{type_in}
-use Rattle.hw_edits.specs.Laws.{down}
-use Rattle.hw_edits.proofs.Positions.{down_same, down_none}
+use Rattle.edit_laws.specs.Laws.{down}
+use Rattle.edit_laws.proofs.Positions.{down_same, down_none}
 use Rattle.ir_store.specs.declared.body.Body.{Body}
 use Rattle.ir_store.specs.declared.body.Op.{Op as ReadOp}
 use Rattle.ir_store.specs.declared.operation.OpId.{OpId}
@@ -27,7 +27,7 @@ use Rattle.ir_store.specs.ShortLists.{short_items}
 use Rattle.ir_store.specs.Positions.{retarget, result_at, pulled_ref, without_op}
 use Rattle.ir_store.proofs.Living.{all_mapped, same_map}
 use Rattle.ir_store.proofs.Numbering.{numbered-taken_out, same-ref_by}
-use Rattle.accepted_edits.proofs.FitBodies.{operand_there}
+use Rattle.acceptance_laws.proofs.FitBodies.{operand_there}
 use Rattle.body_edits.specs.FitBodies.{IsOfFit}
 use Rattle.body_edits.specs.Views.{body_ops, position_in, value_ref, op_seen}
 use Rattle.body_edits.proofs.Erasing.{map_after_map}
@@ -239,10 +239,10 @@ all_within b op o of is =
         (operand_there of.design of.fit of.number of.owner of.there place.0 (op_by (position_of (ids_of b)) p) (ref_by (position_of (ids_of b)) v)
         (ap (λ os. slice_get os place.0) of.is_body ∙ place.1) (In-map (ref_by (position_of (ids_of b))) v p.operands named))
 
-    has_type : (rs : List OpResult) (k : ℕ) → is_some (omap (λ (r : OpResult). r.type) (slice_get rs k)) ≡ true → k < length rs
+    has_type : (rs : List OpResult) (k : ℕ) → is_some (option_map (λ (r : OpResult). r.type) (slice_get rs k)) ≡ true → k < length rs
     has_type rs k some = go (slice_get rs k) refl some
       where
-        go : (x : Option OpResult) → slice_get rs k ≡ x → is_some (omap (λ (r : OpResult). r.type) x) ≡ true → k < length rs
+        go : (x : Option OpResult) → slice_get rs k ≡ x → is_some (option_map (λ (r : OpResult). r.type) x) ≡ true → k < length rs
         go None at some = cc
         go (Some r) at some = slice_get_within rs k r at
 
@@ -251,7 +251,7 @@ all_within b op o of is =
     of_value Undefined some = tt
     of_value (Result id k) some = λ own.
         has_type (op_seen b o).results k
-        (ap is_some (sym (ap (λ x. bind x (λ (p : Op). result_type p k)) (ap (λ n. slice_get (body_ops b) (position_of (ids_of b) n)) (eqb-true id.index op.index own) ∙ op_seen_at b op o is))) ∙ some)
+        (ap is_some (sym (ap (λ x. option_and_then (λ (p : Op). result_type p k) x) (ap (λ n. slice_get (body_ops b) (position_of (ids_of b) n)) (eqb-true id.index op.index own) ∙ op_seen_at b op o is))) ∙ some)
 
 -- once each of its results is replaced
 pub all_stand : (b : Body) (op first : OpId) (o : ReadOp) → IsOfFit b → op_at (ops_of b) op.index ≡ Some (read_op op o) → (n : ℕ) → n ≡ length (short_items o.results.now)

@@ -1,8 +1,7 @@
 -- A fit design stays fit, and does what it did, where an operation is merged with an equal one before it; no module is heavier.
-use Rattle.std.proofs.Common.{◌≡◌, ◌+◌, ◌≤◌, ℕ, zero, suc, ℤ, true, false, List, [], ◌∷◌, length, map, remove, Option, Some, None, slice_get, refl, sym, ap, ap₂, subst, ◌∙◌, arith}
+use Rattle.std.proofs.Common.{◌≡◌, ◌+◌, ◌≤◌, ℕ, zero, suc, ℤ, true, false, List, [], ◌∷◌, length, map, remove, Option, Some, None, slice_get, refl, sym, ap, ap₂, subst, ◌∙◌, arith, option_and_then}
 use Rattle.std.specs.Prelude.{is_some, slice_index_or}
 use Rattle.std.proofs.lemmas.Option.{slice_get-map}
-use Rattle.wiring.specs.Options.{bind}
 use Rattle.bits_core.specs.Word.{Word}
 use Rattle.hw_model.specs.Types.{Name, HwType}
 use Rattle.hw_model.specs.Types.HwType.{int}
@@ -17,16 +16,16 @@ use Rattle.hw_model.specs.Weight.{kind_weight, body_weight, weight}
 use Rattle.ir_store.specs.ResultTypes.{result_type as type_of_result, result_types as types_of_results}
 use Rattle.op_verifier.specs.OpChecks.{is_nonzero_kind, settled_type, divides_by_constant}
 use Rattle.op_verifier.proofs.NoCauseAlone.{NoCauseAlone, types_of, no_cause_alone, result_number}
-use Rattle.hw_edits.specs.Edit.{retarget, result_word}
-use Rattle.hw_edits.specs.Laws.{down, without, erase_op, with_body}
-use Rattle.hw_edits.proofs.Positions.{down_none}
-use Rattle.hw_edits.proofs.Weights.{weight-retarget, weight_taken_out, weight_with_body}
-use Rattle.accepted_edits.specs.Asked.{operand_in, AllowsMore}
-use Rattle.accepted_edits.specs.Keeps.{IsFit, KeepsAsked}
-use Rattle.accepted_edits.proofs.Edited.{allows_itself, plain_parts, fit_after}
-use Rattle.accepted_edits.proofs.Ends.{ends_retarget, ends_remove}
-use Rattle.accepted_edits.proofs.FitBodies.{settled_result, own_cause_none, operand_there}
-use Rattle.accepted_edits.proofs.Values.{result_operand, operand_retarget, result_allows}
+use Rattle.edit_laws.specs.Edit.{retarget, result_word}
+use Rattle.edit_laws.specs.Laws.{down, without, erase_op, with_body}
+use Rattle.edit_laws.proofs.Positions.{down_none}
+use Rattle.edit_laws.proofs.Weights.{weight-retarget, weight_taken_out, weight_with_body}
+use Rattle.acceptance_laws.specs.Asked.{operand_in, AllowsMore}
+use Rattle.acceptance_laws.specs.Keeps.{IsFit, KeepsAsked}
+use Rattle.acceptance_laws.proofs.Edited.{allows_itself, plain_parts, fit_after}
+use Rattle.acceptance_laws.proofs.Ends.{ends_retarget, ends_remove}
+use Rattle.acceptance_laws.proofs.FitBodies.{settled_result, own_cause_none, operand_there}
+use Rattle.acceptance_laws.proofs.Values.{result_operand, operand_retarget, result_allows}
 use Rattle.pass_laws.specs.Steady.{IsSteady}
 use Rattle.pass_laws.proofs.Shapes.{shape_from_anchors}
 use Rattle.pass_laws.proofs.Steady.{steady_with_body}
@@ -157,7 +156,7 @@ module _ (d : Design) (fit : IsFit d) (m : ℕ) (md : Module) (at : slice_get d 
             let own : slice_get md.body n ≡ Some found.op = ap (slice_get md.body) (down_none i n here) ∙ found.there in
             subst (λ x. AllowsMore (result_operand k x) (operand_in md.ports (map (retarget (stand_for i j found.op)) (remove md.body i)) (typed_result (result_type found.op k) j k)))
             (sym own)
-            (of_result (result_type found.op k) (sym (ap (λ x. is_some (bind x (λ (w : Op). result_type w k))) own) ∙ h))
+            (of_result (result_type found.op k) (sym (ap (λ x. is_some (option_and_then (λ (w : Op). result_type w k) x)) own) ∙ h))
 
     merged_keeps : KeepsAsked md (map (retarget (stand_for i j found.op)) (remove md.body i)) (merged_valid md i j found.op found.first merge)
     unfolding merged_valid

@@ -152,9 +152,9 @@ module _ (b after : Body) (fit : IsOfFit b) (op first : OpId) (i : ℕ) (at : i 
   merged_at_with g grouped = record { earlier = position_in b first; equal = equal; ops = ops_merged; ids = ids_are; grouped = grouped }
 
   -- what stands before it
-  front_is : take i (ops_of after) ≡ map (with_merged op first) (take i (ops_of b))
+  prefix_is : take i (ops_of after) ≡ map (with_merged op first) (take i (ops_of b))
   unfolding position_in
-  front_is =
+  prefix_is =
       ap (take i) merged
       ∙ ap (λ n. take n (taken_out op.index (map (with_merged op first) (ops_of b)))) (at ∙ sym (ap (λ ids. position_of ids op.index) (ids_merged op first (ops_of b))))
       ∙ take_out op.index (map (with_merged op first) (ops_of b))
@@ -162,7 +162,7 @@ module _ (b after : Body) (fit : IsOfFit b) (op first : OpId) (i : ℕ) (at : i 
       ∙ take-map (with_merged op first) i (ops_of b)
 
   pub merged_at_same : (g : Groups) → IsGrouping g (take i (ops_of b)) → is_noted g op.index ≡ false → IsMergedAt b after g i
-  merged_at_same g grouped other = merged_at_with g (subst (IsGrouping g) (sym front_is) (grouped_same op first g (take i (ops_of b)) grouped other))
+  merged_at_same g grouped other = merged_at_with g (subst (IsGrouping g) (sym prefix_is) (grouped_same op first g (take i (ops_of b)) grouped other))
 
 -- ---- a body that stays
 

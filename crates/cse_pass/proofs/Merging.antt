@@ -1,8 +1,7 @@
 -- An operation goes, and the results of an equal one before it stand for its own: a design does what it did.
-use Rattle.std.proofs.Common.{◌≡◌, ◌<◌, ◌≤◌, ℕ, zero, suc, true, false, map, take, remove, slice_get, Option, Some, None, refl, sym, ap, ◌∙◌, arith}
+use Rattle.std.proofs.Common.{◌≡◌, ◌<◌, ◌≤◌, ℕ, zero, suc, true, false, map, take, remove, slice_get, Option, Some, None, refl, sym, ap, ◌∙◌, arith, option_and_then, option_map}
 use Rattle.std.specs.Prelude.{is_some}
 use Rattle.std.proofs.lemmas.Option.{slice_get-map}
-use Rattle.wiring.specs.Options.{bind, omap}
 use Rattle.wiring.specs.Wiring.{In, greatest}
 use Rattle.wiring.proofs.Members.{map_same, position_of_In}
 use Rattle.wiring.proofs.Edits.{from_In-remove}
@@ -11,15 +10,15 @@ use Rattle.hw_model.specs.Types.{HwType}
 use Rattle.hw_model.specs.Design.{Ref, Op, Module, Design, result_type}
 use Rattle.hw_model.specs.Design.Ref.{port, result, undefined}
 use Rattle.hw_model.specs.Sound.{type_in}
-use Rattle.hw_edits.specs.Edit.{retarget, is_anchor, anchors, result_word, word_of, Holds}
-use Rattle.hw_edits.specs.Falls.{LocalHeight}
-use Rattle.hw_edits.specs.Follows.{ValidEdit, SameEdit, Valid, Follows}
-use Rattle.hw_edits.specs.Laws.{up, down, up_ref, with_body}
-use Rattle.hw_edits.proofs.ChangeInPlace.{plain_word}
-use Rattle.hw_edits.proofs.Follows.{follows_set}
-use Rattle.hw_edits.proofs.Inserted.{retarget_type}
-use Rattle.hw_edits.proofs.Positions.{down-up, up_from_down, down_none, get_taken, take_map, anchors-retarget, anchors-remove, before-remove}
-use Rattle.hw_edits.proofs.TakeOut.{retarget_word}
+use Rattle.edit_laws.specs.Edit.{retarget, is_anchor, anchors, result_word, word_of, Holds}
+use Rattle.edit_laws.specs.Falls.{LocalHeight}
+use Rattle.edit_laws.specs.Follows.{ValidEdit, SameEdit, Valid, Follows}
+use Rattle.edit_laws.specs.Laws.{up, down, up_ref, with_body}
+use Rattle.edit_laws.proofs.ChangeInPlace.{plain_word}
+use Rattle.edit_laws.proofs.Follows.{follows_set}
+use Rattle.edit_laws.proofs.Inserted.{retarget_type}
+use Rattle.edit_laws.proofs.Positions.{down-up, up_from_down, down_none, get_taken, take_map, anchors-retarget, anchors-remove, before-remove}
+use Rattle.edit_laws.proofs.TakeOut.{retarget_word}
 use Rattle.cse_pass.specs.Merges.{merged_at, merged_ref, merge_op}
 
 -- ---- positions before one that is taken out
@@ -32,7 +31,7 @@ up_below (suc i) (suc j) less = ap suc (up_below i j (omega (arith, less)))
 pub down_below : (i j : ℕ) → j < i → down i j ≡ Some j
 down_below zero j less = absurd (omega (arith, less))
 down_below (suc i) zero less = refl
-down_below (suc i) (suc j) less = ap (omap suc) (down_below i j (omega (arith, less)))
+down_below (suc i) (suc j) less = ap (option_map suc) (down_below i j (omega (arith, less)))
 
 -- ---- values
 
@@ -64,12 +63,12 @@ pub record Merged (md : Module) (i j : ℕ) (o p : Op) : Type 0 where
   pub words : (τ : Ref → Word) (k : ℕ) (t : HwType) → result_type o k ≡ Some t → result_word τ o k (Some t) ≡ result_word τ p k (Some t)
 
 module _ (md : Module) (i j : ℕ) (o p : Op) (merge : Merged md i j o p) where
-  pub merged_there : (n n' : ℕ) → down i n ≡ Some n' → slice_get (map (retarget (stand_for i j o)) (remove md.body i)) n' ≡ omap (retarget (stand_for i j o)) (slice_get md.body n)
-  merged_there n n' is = slice_get-map (retarget (stand_for i j o)) (remove md.body i) n' ∙ ap (omap (retarget (stand_for i j o))) (get_taken md.body i n n' is)
+  pub merged_there : (n n' : ℕ) → down i n ≡ Some n' → slice_get (map (retarget (stand_for i j o)) (remove md.body i)) n' ≡ option_map (retarget (stand_for i j o)) (slice_get md.body n)
+  merged_there n n' is = slice_get-map (retarget (stand_for i j o)) (remove md.body i) n' ∙ ap (option_map (retarget (stand_for i j o))) (get_taken md.body i n n' is)
 
   -- the one that stays
   pub first_stays : slice_get (map (retarget (stand_for i j o)) (remove md.body i)) j ≡ Some (retarget (stand_for i j o) p)
-  first_stays = merged_there j j (down_below i j merge.before) ∙ ap (omap (retarget (stand_for i j o))) merge.first
+  first_stays = merged_there j j (down_below i j merge.before) ∙ ap (option_map (retarget (stand_for i j o))) merge.first
 
   -- all types stay
   pub types_stay : (r : Ref) → type_in md.ports (map (retarget (stand_for i j o)) (remove md.body i)) (stand_for i j o r) ≡ type_in md.ports md.body r
@@ -79,13 +78,13 @@ module _ (md : Module) (i j : ℕ) (o p : Op) (merge : Merged md i j o p) where
     where
       of_result : (x : Option HwType) → result_type o k ≡ x → type_in md.ports (map (retarget (stand_for i j o)) (remove md.body i)) (typed_result x j k) ≡ result_type o k
       of_result None typed = sym typed
-      of_result (Some t) typed = ap (λ z. bind z (λ (w : Op). result_type w k)) first_stays ∙ merge.types k
+      of_result (Some t) typed = ap (λ z. option_and_then (λ (w : Op). result_type w k) z) first_stays ∙ merge.types k
 
-      go : (z : Option ℕ) → down i n ≡ z → type_in md.ports (map (retarget (stand_for i j o)) (remove md.body i)) (stand_at z o j k) ≡ bind (slice_get md.body n) (λ (w : Op). result_type w k)
+      go : (z : Option ℕ) → down i n ≡ z → type_in md.ports (map (retarget (stand_for i j o)) (remove md.body i)) (stand_at z o j k) ≡ option_and_then (λ (w : Op). result_type w k) (slice_get md.body n)
       go None here =
           of_result (result_type o k) refl
-          ∙ sym (ap (λ z. bind z (λ (w : Op). result_type w k)) (ap (slice_get md.body) (down_none i n here) ∙ merge.there))
-      go (Some n') is = ap (λ z. bind z (λ (w : Op). result_type w k)) (merged_there n n' is) ∙ retarget_type (stand_for i j o) (slice_get md.body n) k
+          ∙ sym (ap (λ z. option_and_then (λ (w : Op). result_type w k) z) (ap (slice_get md.body) (down_none i n here) ∙ merge.there))
+      go (Some n') is = ap (λ z. option_and_then (λ (w : Op). result_type w k) z) (merged_there n n' is) ∙ retarget_type (stand_for i j o) (slice_get md.body n) k
 
   -- what stands for a value is no higher
   pub stands_lower : (h : Ref → ℕ) → LocalHeight md.body h → (r : Ref) → h (up_ref i (stand_for i j o r)) ≤ h r
@@ -195,4 +194,4 @@ module _ (md : Module) (i j : ℕ) (o p : Op) (merge : Merged md i j o p) where
           go (Some n') is = refl
           go None here =
               of_result k (result_type o k)
-              (sym (ap (λ x. is_some (bind x (λ (w : Op). result_type w k))) (ap (slice_get md.body) (down_none i n here) ∙ merge.there)) ∙ h)
+              (sym (ap (λ x. is_some (option_and_then (λ (w : Op). result_type w k) x)) (ap (slice_get md.body) (down_none i n here) ∙ merge.there)) ∙ h)

@@ -1,19 +1,18 @@
 -- Where no pure operation is equal to an earlier one, none is once an operation without uses is gone.
-use Rattle.std.proofs.Common.{◌≡◌, ◌<◌, ℕ, zero, suc, true, cond, List, length, map, remove, Option, Some, None, slice_get, refl, sym, ap, ap₂, subst, ◌∙◌, arith}
+use Rattle.std.proofs.Common.{◌≡◌, ◌<◌, ℕ, zero, suc, true, cond, List, length, map, remove, Option, Some, None, slice_get, refl, sym, ap, ap₂, subst, ◌∙◌, arith, option_map}
 use Rattle.std.specs.Prelude.{is_some}
 use Rattle.std.proofs.lemmas.List.{map-id}
 use Rattle.std.proofs.lemmas.Option.{slice_get-map}
-use Rattle.wiring.specs.Options.{omap}
 use Rattle.wiring.specs.Wiring.{In}
 use Rattle.wiring.proofs.Lists.{map-map}
 use Rattle.wiring.proofs.Members.{map_same}
-use Rattle.wiring.proofs.Options.{omap_some}
+use Rattle.wiring.proofs.Options.{option_map_some}
 use Rattle.hw_model.specs.Design.{Ref, Op}
 use Rattle.hw_model.specs.Design.Ref.{undefined}
-use Rattle.hw_edits.specs.Edit.{retarget}
-use Rattle.hw_edits.specs.Laws.{up, up_ref, without, erase_op, IsNotOf}
-use Rattle.hw_edits.proofs.Positions.{down-up, get_taken}
-use Rattle.hw_edits.proofs.TakeOut.{up-without}
+use Rattle.edit_laws.specs.Edit.{retarget}
+use Rattle.edit_laws.specs.Laws.{up, up_ref, without, erase_op, IsNotOf}
+use Rattle.edit_laws.proofs.Positions.{down-up, get_taken}
+use Rattle.edit_laws.proofs.TakeOut.{up-without}
 use Rattle.fold_laws.specs.Edits.{Edit}
 use Rattle.fold_laws.specs.Unused.{is_pure, fold_unused}
 use Rattle.cse_pass.specs.EqualOps.{are_equal}
@@ -34,8 +33,8 @@ up_less (suc i) (suc a) (suc b) less = let rest : up i a < up i b = up_less i a 
 -- an operation of the body without that at position i
 left_at : (os : List Op) (i j : ℕ) (y : Op) → slice_get (erase_op i undefined os) j ≡ Some y → (o : Op) × (slice_get os (up i j) ≡ Some o) × (retarget (without i undefined) o ≡ y)
 left_at os i j y is =
-    omap_some (retarget (without i undefined)) (slice_get os (up i j))
-    (sym (slice_get-map (retarget (without i undefined)) (remove os i) j ∙ ap (omap (retarget (without i undefined))) (get_taken os i (up i j) j (down-up i j))) ∙ is)
+    option_map_some (retarget (without i undefined)) (slice_get os (up i j))
+    (sym (slice_get-map (retarget (without i undefined)) (remove os i) j ∙ ap (option_map (retarget (without i undefined))) (get_taken os i (up i j) j (down-up i j))) ∙ is)
 
 -- operands that are none of its results are found again
 operands_again : (i : ℕ) (rs : List Ref) → ((r : Ref) → In r rs → IsNotOf i r) → map (up_ref i) (map (without i undefined) rs) ≡ rs

@@ -3,7 +3,7 @@ use Rattle.std.proofs.Common.{◌≡◌, ℕ, zero, suc, cond, List, length, ref
 use Rattle.std.specs.Prelude.{is_some}
 use Rattle.hw_model.specs.Design.{Op}
 use Rattle.hw_model.specs.Design.Ref.{undefined}
-use Rattle.hw_edits.specs.Laws.{erase_op}
+use Rattle.edit_laws.specs.Laws.{erase_op}
 use Rattle.cse_pass.specs.Merges.{merge_at, merge_sweep, merges, HasNoEqual}
 use Rattle.cse_pass.specs.Trims.{trim_at, trim_sweep, trims, HasNoUnused}
 use Rattle.cse_pass.specs.Cse.{IsCseOf}

@@ -1,11 +1,10 @@
 -- Sweeps over a body in code that merge equal operations.
-use Rattle.std.proofs.Common.{◌≡◌, ℕ, zero, suc, ◌+◌, ◌-◌, ◌<◌, ◌≤◌, Bool, true, false, cond, nat_eq, nat_lt, List, [], ◌∷◌, map, take, drop, length, Option, Some, None, remove, refl, sym, ap, subst, ◌∙◌, arith}
+use Rattle.std.proofs.Common.{◌≡◌, ℕ, zero, suc, ◌+◌, ◌-◌, ◌<◌, ◌≤◌, Bool, true, false, cond, nat_eq, nat_lt, List, [], ◌∷◌, map, take, drop, length, Option, Some, None, remove, refl, sym, ap, subst, ◌∙◌, arith, option_and_then}
 use Rattle.std.proofs.lemmas.Bool.{eqb-true, eqb-false, ltb-true, ltb-false}
 use Rattle.std.proofs.lemmas.List.{length-map}
 use Rattle.std.proofs.lemmas.Option.{slice_get_past}
-use Rattle.wiring.specs.Options.{bind}
 use Rattle.hw_model.specs.Design.{Op}
-use Rattle.hw_edits.specs.Edit.{retarget}
+use Rattle.edit_laws.specs.Edit.{retarget}
 use Rattle.ir_store.specs.declared.body.Body.{Body}
 use Rattle.ir_store.specs.declared.operation.OpId.{OpId}
 use Rattle.ir_store.specs.Bodies.{ids_of, ops_of, op_id, first_id}
@@ -148,7 +147,7 @@ swept first body g i at merged s passed = record {
     go : merged ≡ false → (k : ℕ) (b : Bool) → nat_lt k i ≡ b → equal_before (body_ops body) k ≡ None
     go is k true less = s.none is k (ltb-true k i less)
     go is k false past =
-        ap (λ x. bind x (λ (o : Op). cond (is_pure o.kind) (equal_place o (take k (body_ops body))) None))
+        ap (λ x. option_and_then (λ (o : Op). cond (is_pure o.kind) (equal_place o (take k (body_ops body))) None) x)
         (slice_get_past (body_ops body) k (omega (arith, ltb-false k i past, passed, length-body_ops body)))
 
 -- ---- sweeps

@@ -1,13 +1,12 @@
 -- Sweeps over a body in code that take pure operations without uses out.
-use Rattle.std.proofs.Common.{◌≡◌, ℕ, zero, suc, ◌+◌, ◌<◌, ◌≤◌, Bool, true, false, cond, not, ◌&&◌, nat_eq, List, [], ◌∷◌, map, length, get_or, Option, Some, None, slice_get, remove, refl, sym, ap, subst, ◌∙◌, arith}
+use Rattle.std.proofs.Common.{◌≡◌, ℕ, zero, suc, ◌+◌, ◌<◌, ◌≤◌, Bool, true, false, cond, not, ◌&&◌, nat_eq, List, [], ◌∷◌, map, length, get_or, Option, Some, None, slice_get, remove, refl, sym, ap, subst, ◌∙◌, arith, option_and_then}
 use Rattle.std.specs.Prelude.{is_some, option_map}
 use Rattle.std.proofs.lemmas.Bool.{eqb-true, eqb-false}
 use Rattle.std.proofs.lemmas.List.{length-map}
 use Rattle.std.proofs.lemmas.Option.{slice_get_past, slice_get_within, slice_get-get_or, slice_get-map}
-use Rattle.wiring.specs.Options.{bind}
 use Rattle.hw_model.specs.Design.{Op}
 use Rattle.hw_model.specs.Design.Ref.{undefined}
-use Rattle.hw_edits.specs.Laws.{erase_op}
+use Rattle.edit_laws.specs.Laws.{erase_op}
 use Rattle.ir_store.specs.declared.body.Body.{Body}
 use Rattle.ir_store.specs.declared.operation.OpId.{OpId}
 use Rattle.ir_store.specs.Bodies.{ids_of, ops_of, op_id}
@@ -21,7 +20,7 @@ use Rattle.fold_laws.specs.Unused.{is_pure, is_used, fold_unused}
 use Rattle.body_edits.specs.FitBodies.{IsOfFit}
 use Rattle.body_edits.specs.Views.{HasOp, body_ops, position_in}
 use Rattle.body_edits.proofs.IdsAfter.{ids_left}
-use Rattle.body_edits.proofs.UnusedRow.{erased_plainly}
+use Rattle.body_edits.proofs.UnusedPattern.{erased_plainly}
 use Rattle.cse_pass.specs.Cse.{Changes}
 use Rattle.cse_pass.specs.Sweeps.{IsTrimSweep}
 use Rattle.cse_pass.specs.Trims.{trim_at, trim_sweep, trims, IsTrimmed}
@@ -58,7 +57,7 @@ stays_trimmed os i stays = ap (λ t. cond t (erase_op i undefined os) os) stays
 pub record TrimSweeping (first body : Body) (left : ℕ) (any : Bool) : Type 0 where
   pub fit : IsOfFit body
   pub within : left ≤ length (ids_of first)
-  pub front : (k : ℕ) → k < left → slice_get (ids_of body) k ≡ slice_get (ids_of first) k
+  pub prefix : (k : ℕ) → k < left → slice_get (ids_of body) k ≡ slice_get (ids_of first) k
   pub is : trim_sweep left (body_ops body) ≡ trim_sweep (length (body_ops first)) (body_ops first)
   pub changes : Changes (body_ops first) (body_ops body)
   pub most : length (body_ops body) ≤ length (body_ops first)
@@ -66,13 +65,13 @@ pub record TrimSweeping (first body : Body) (left : ℕ) (any : Bool) : Type 0 w
   pub none : any ≡ false → (k : ℕ) → left ≤ k → fold_unused (body_ops body) k ≡ None
 
 none_past : (os : List Op) (k : ℕ) → length os ≤ k → fold_unused os k ≡ None
-none_past os k past = ap (λ x. bind x (λ (o : Op). cond (is_pure o.kind && not (is_used k os)) (Some (erased k undefined ∷ [])) None)) (slice_get_past os k past)
+none_past os k past = ap (λ x. option_and_then (λ (o : Op). cond (is_pure o.kind && not (is_used k os)) (Some (erased k undefined ∷ [])) None) x) (slice_get_past os k past)
 
 pub begin_trim : (b : Body) (ids : List OpId) (n : ℕ) → IsOfFit b → ids ≡ map op_id (ids_of b) → n ≡ length ids → TrimSweeping b b n false
 begin_trim b ids n fit all count = record {
   fit = fit;
   within = omega (arith, size, length-body_ops b);
-  front = λ k less. refl;
+  prefix = λ k less. refl;
   is = ap (λ m. trim_sweep m (body_ops b)) size;
   changes = no_change (body_ops b);
   most = omega arith;
@@ -87,7 +86,7 @@ begin_trim b ids n fit all count = record {
 module _ (first body : Body) (left p : ℕ) (any : Bool) (s : TrimSweeping first body left any) (ids : List OpId) (all : ids ≡ map op_id (ids_of first)) (within : p < length ids)
     (here : p + 1 ≡ left) (op : OpId) (at : op ≡ get_or ids p op) where
   id_there : slice_get (ids_of body) p ≡ Some op.index
-  id_there = s.front p (omega (arith, here)) ∙ of_first (slice_get (ids_of first) p) (sym (slice_get-map op_id (ids_of first) p) ∙ ap (λ xs. slice_get xs p) (sym all) ∙ slice_get-get_or ids p op within ∙ ap Some (sym at))
+  id_there = s.prefix p (omega (arith, here)) ∙ of_first (slice_get (ids_of first) p) (sym (slice_get-map op_id (ids_of first) p) ∙ ap (λ xs. slice_get xs p) (sym all) ∙ slice_get-get_or ids p op within ∙ ap Some (sym at))
     where
       of_first : (x : Option ℕ) → option_map op_id x ≡ Some op → x ≡ Some op.index
       of_first None is = cc
@@ -127,7 +126,7 @@ module _ (first body : Body) (left p : ℕ) (any : Bool) (s : TrimSweeping first
     trimmed_one is = record {
       fit = fit;
       within = omega (arith, s.within, here);
-      front = λ k less. ap (λ xs. slice_get xs k) ids_are ∙ before_same k less ∙ s.front k (omega (arith, less, here));
+      prefix = λ k less. ap (λ xs. slice_get xs k) ids_are ∙ before_same k less ∙ s.prefix k (omega (arith, less, here));
       is = sweep_on;
       changes = then_changes;
       most = omega (arith, s.most, shorter, length-body_ops body, length-body_ops after);
@@ -148,7 +147,7 @@ module _ (first body : Body) (left p : ℕ) (any : Bool) (s : TrimSweeping first
     trimmed_none is = record {
       fit = fit;
       within = omega (arith, s.within, here);
-      front = λ k less. ap (λ xs. slice_get xs k) ids_are ∙ s.front k (omega (arith, less, here));
+      prefix = λ k less. ap (λ xs. slice_get xs k) ids_are ∙ s.prefix k (omega (arith, less, here));
       is = sweep_on;
       changes = then_changes;
       most = subst (λ os. length os ≤ length (body_ops first)) (sym same) s.most;

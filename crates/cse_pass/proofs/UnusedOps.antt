@@ -2,12 +2,12 @@
 use Rattle.std.proofs.Common.{◌≡◌, ℕ, zero, suc, Bool, true, false, cond, not, ◌&&◌, List, [], ◌∷◌, Some, None, slice_get, refl, sym, ap, subst, ◌∙◌, inl, inr}
 use Rattle.std.specs.List.{list_any}
 use Rattle.wiring.specs.Wiring.{In}
-use Rattle.wiring.proofs.Options.{bind_some}
+use Rattle.wiring.proofs.Options.{and_then_some}
 use Rattle.op_checks.proofs.Widths.{neither}
 use Rattle.hw_model.specs.Equality.{both_of, number_self}
 use Rattle.hw_model.specs.Design.{Ref, Op}
 use Rattle.hw_model.specs.Design.Ref.{undefined}
-use Rattle.hw_edits.specs.Laws.{IsNotOf}
+use Rattle.edit_laws.specs.Laws.{IsNotOf}
 use Rattle.fold_laws.specs.Edits.{Edit}
 use Rattle.fold_laws.specs.Edits.Edit.{erased}
 use Rattle.fold_laws.specs.Unused.{is_pure, is_result_of, is_used, fold_unused}
@@ -22,7 +22,7 @@ pub record UnusedFound (os : List Op) (i : ℕ) (es : List Edit) : Type 0 where
 
 pub unused_found : (os : List Op) (i : ℕ) (es : List Edit) → fold_unused os i ≡ Some es → UnusedFound os i es
 unused_found os i es is =
-    let found = bind_some (slice_get os i) (λ (o : Op). cond (is_pure o.kind && not (is_used i os)) (Some (erased i undefined ∷ [])) None) is in
+    let found = and_then_some (slice_get os i) (λ (o : Op). cond (is_pure o.kind && not (is_used i os)) (Some (erased i undefined ∷ [])) None) is in
     go found.0 found.1 (is_pure found.0.kind && not (is_used i os)) refl found.2
   where
     unnamed : (b : Bool) → not b ≡ true → b ≡ false

@@ -2,7 +2,7 @@
 use Rattle.std.specs.Prelude.{◌≡◌, ◌⊎◌, ℕ, List, [], ◌∷◌, Some}
 use Rattle.hw_model.specs.Design.{Op}
 use Rattle.hw_model.specs.Design.Ref.{undefined}
-use Rattle.hw_edits.specs.Laws.{erase_op}
+use Rattle.edit_laws.specs.Laws.{erase_op}
 use Rattle.fold_laws.specs.Edits.Edit.{erased}
 use Rattle.fold_laws.specs.Unused.{fold_unused}
 use Rattle.pass_laws.specs.Steps.{StepsBy}

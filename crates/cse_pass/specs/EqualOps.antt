@@ -1,7 +1,6 @@
 -- Operations that have one value, since their kinds, operands and types are the same (MLIR documentation, "Passes": `cse`).
-use Rattle.std.specs.Prelude.{ℕ, suc, ℤ, pos, Bool, ◌&&◌, cond, List, [], ◌∷◌, map, take, Option, Some, None, slice_get}
+use Rattle.std.specs.Prelude.{ℕ, suc, ℤ, pos, Bool, ◌&&◌, cond, List, [], ◌∷◌, map, take, Option, Some, None, slice_get, option_and_then, option_map}
 use Rattle.std.specs.Cmp.Lexicographic.{pointwise}
-use Rattle.wiring.specs.Options.{bind, omap}
 use Rattle.bits_core.specs.Word.{number, bits_of_ℤ}
 use Rattle.hw_model.specs.Types.{HwType, width}
 use Rattle.hw_model.specs.Kinds.{Kind, Literal, Literals}
@@ -47,8 +46,8 @@ are_equal o p =
 -- the first position of an operation that is equal
 abbrev pub equal_place : Op → List Op → Option ℕ
 equal_place o [] = None
-equal_place o (p ∷ os) = cond (are_equal p o) (Some 0) (omap suc (equal_place o os))
+equal_place o (p ∷ os) = cond (are_equal p o) (Some 0) (option_map suc (equal_place o os))
 
 -- that before the pure operation at a position
 abbrev pub equal_before : List Op → ℕ → Option ℕ
-equal_before os i = bind (slice_get os i) (λ (o : Op). cond (is_pure o.kind) (equal_place o (take i os)) None)
+equal_before os i = option_and_then (λ (o : Op). cond (is_pure o.kind) (equal_place o (take i os)) None) (slice_get os i)

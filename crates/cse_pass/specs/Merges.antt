@@ -3,8 +3,8 @@ use Rattle.std.specs.Prelude.{◌≡◌, ℕ, zero, suc, List, map, length, Opti
 use Rattle.std.specs.List.{remove}
 use Rattle.hw_model.specs.Design.{Ref, Op}
 use Rattle.hw_model.specs.Design.Ref.{port, result, undefined}
-use Rattle.hw_edits.specs.Edit.{retarget}
-use Rattle.hw_edits.specs.Laws.{down}
+use Rattle.edit_laws.specs.Edit.{retarget}
+use Rattle.edit_laws.specs.Laws.{down}
 use Rattle.cse_pass.specs.EqualOps.{equal_before}
 
 -- a value once the operation at position i is gone, that at position j before it standing for it

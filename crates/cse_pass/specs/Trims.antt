@@ -2,7 +2,7 @@
 use Rattle.std.specs.Prelude.{◌≡◌, ℕ, zero, suc, cond, List, length, None, is_some}
 use Rattle.hw_model.specs.Design.{Op}
 use Rattle.hw_model.specs.Design.Ref.{undefined}
-use Rattle.hw_edits.specs.Laws.{erase_op}
+use Rattle.edit_laws.specs.Laws.{erase_op}
 use Rattle.fold_laws.specs.Unused.{fold_unused}
 
 -- the operation at a position goes where it is pure and nothing names it

@@ -22,7 +22,7 @@ use Rattle.design_cycles.specs.declared.layout.Summary.{Summary}
 use Rattle.design_cycles.specs.Asked.{HasDistinctSymbols, IsCyclicAt}
 use Rattle.graphs.specs.Graphs.{lists_of, edges, has_mark, AreReached}
 use Rattle.design_cycles.specs.Graphs.{ReturnsWithin}
-use Rattle.design_cycles.specs.Nodes.{rows_by, sizes_in, AreSpans, body_lists, IsLayout}
+use Rattle.design_cycles.specs.Nodes.{bit_sets_by, sizes_in, AreSpans, body_lists, IsLayout}
 use Rattle.design_cycles.specs.Places.{symbol_at}
 use Rattle.design_cycles.specs.Summing.{KnowsCallees}
 use Rattle.graphs.proofs.Marking.{lists_at, length-lists, edges_within}
@@ -96,25 +96,25 @@ none_within lists start size node all none (v, low, high, around) = none v low (
 -- ---- one operation of a module
 
 module _ (modules : List StoredModule) (distinct : HasDistinctSymbols (map numbered_module modules)) (i : ℕ) (m : CodeModule) (at : Some (module_of m) ≡ slice_get modules i)
-    (summaries : List Summary) (inner : KnowsCallees (map numbered_module modules) (rows_by (map (λ (x : StoredModule). x.symbol) modules) summaries) (symbol_at modules i)) where
+    (summaries : List Summary) (inner : KnowsCallees (map numbered_module modules) (bit_sets_by (map (λ (x : StoredModule). x.symbol) modules) summaries) (symbol_at modules i)) where
   abbrev design : Design
   design = map numbered_module modules
 
-  abbrev rows : Name → List (List ℕ)
-  rows = rows_by (map (λ (x : StoredModule). x.symbol) modules) summaries
+  abbrev bit_sets : Name → List (List ℕ)
+  bit_sets = bit_sets_by (map (λ (x : StoredModule). x.symbol) modules) summaries
 
   abbrev os : List Op
   os = ops_by_position (ops_of m.body)
 
-  module _ (layout : Layout) (is : IsLayout (length m.ports.ports.items) (sizes_in rows os) (ids_of m.body) layout) (graph slice : List NodeList)
-      (are : lists_of graph ≡ body_lists (length m.ports.ports.items) rows os) (same : slice ≡ graph) where
-    lists_are : lists_of slice ≡ body_lists (length (ports_of (find_module design m.symbol))) rows (body_of (find_module design m.symbol))
+  module _ (layout : Layout) (is : IsLayout (length m.ports.ports.items) (sizes_in bit_sets os) (ids_of m.body) layout) (graph slice : List NodeList)
+      (are : lists_of graph ≡ body_lists (length m.ports.ports.items) bit_sets os) (same : slice ≡ graph) where
+    lists_are : lists_of slice ≡ body_lists (length (ports_of (find_module design m.symbol))) bit_sets (body_of (find_module design m.symbol))
     lists_are = ap lists_of same ∙ lists_found modules distinct i m at summaries inner (lists_of graph) are
 
-    spans_are : AreSpans (length (ports_of (find_module design m.symbol))) (sizes_in rows (body_of (find_module design m.symbol))) layout.spans.items
+    spans_are : AreSpans (length (ports_of (find_module design m.symbol))) (sizes_in bit_sets (body_of (find_module design m.symbol))) layout.spans.items
     spans_are =
-        subst (λ o. AreSpans (length (ports_of o)) (sizes_in rows (body_of o)) layout.spans.items) (sym (found modules distinct i m at summaries inner))
-        (subst (λ n. AreSpans n (sizes_in rows os) layout.spans.items) (sym (length-map m.ports.ports.items _)) is.spans)
+        subst (λ o. AreSpans (length (ports_of o)) (sizes_in bit_sets (body_of o)) layout.spans.items) (sym (found modules distinct i m at summaries inner))
+        (subst (λ n. AreSpans n (sizes_in bit_sets os) layout.spans.items) (sym (length-map m.ports.ports.items _)) is.spans)
 
     module _ (j : ℕ) (s : Span) (below : j < length layout.spans.items) (span : s ≡ get_or layout.spans.items j s) where
       span_at : slice_get layout.spans.items j ≡ Some s
@@ -122,7 +122,7 @@ module _ (modules : List StoredModule) (distinct : HasDistinctSymbols (map numbe
 
       pub position_cyclic : ReturnsWithin (lists_of slice) s.start s.size → IsCyclicAt design i j
       position_cyclic returns =
-          let depends = returning_depends design m.symbol rows (known_inner modules distinct i m at summaries inner) layout.spans.items spans_are j s span_at
+          let depends = returning_depends design m.symbol bit_sets (known_inner modules distinct i m at summaries inner) layout.spans.items spans_are j s span_at
           (subst (λ ls. ReturnsWithin ls s.start s.size) lists_are returns) in
           record { module_there = numbered_module (module_of m); number = depends.0; has_module = stored_at modules i (module_of m) at; depends = depends.1 }
 
@@ -132,7 +132,7 @@ module _ (modules : List StoredModule) (distinct : HasDistinctSymbols (map numbe
           let one_is : cyclic.module_there ≡ numbered_module (module_of m) = cc in
           none
           (subst (λ ls. ReturnsWithin ls s.start s.size) (sym lists_are)
-          (depending_returns design m.symbol rows (known_inner modules distinct i m at summaries inner) layout.spans.items spans_are j s span_at cyclic.number
+          (depending_returns design m.symbol bit_sets (known_inner modules distinct i m at summaries inner) layout.spans.items spans_are j s span_at cyclic.number
           (subst (λ (x : Module). DependsOn design x.symbol (net [] (result j cyclic.number)) (net [] (result j cyclic.number))) one_is cyclic.depends)))
 
 -- ---- what depends on itself is a result of an operation that is there

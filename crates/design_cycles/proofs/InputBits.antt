@@ -1,16 +1,17 @@
--- The bits of inputs in rows, given to one input after another.
-use Rattle.std.proofs.Common.{◌≡◌, ◌⊎◌, w64, ℕ, zero, suc, ◌+◌, ◌-◌, ◌*◌, ◌%◌, ◌^◌, ◌<◌, ◌≤◌, Bool, true, false, eqb, max, bit_or, List, [], ◌∷◌, ◌++◌, length, get_or, set, take, slice_get, Some, refl, sym, ap, subst, ◌∙◌, inl, inr, arith, length-set}
+-- The bits of inputs in bit sets, given to one input after another.
+use Rattle.std.proofs.Common.{◌≡◌, ◌⊎◌, w64, ℕ, zero, suc, ◌+◌, ◌-◌, ◌*◌, ◌%◌, ◌^◌, ◌<◌, ◌≤◌, Bool, true, false, eqb, max, bit_or, List, [], ◌∷◌, ◌++◌, length, get_or, set, take, slice_get, Some}
+use Rattle.std.proofs.Common.{refl, sym, ap, subst, ◌∙◌, inl, inr, arith, length-set}
 use Rattle.std.specs.Int.{bit_at}
 use Rattle.std.proofs.lemmas.Nat.Bits.{bit_at_or, bit_at-zero, bit_at_set_same, bit_at_set_other}
 use Rattle.std.proofs.lemmas.Bool.{eqb-true, eqb-false}
 use Rattle.std.proofs.lemmas.List.{take_more, take_all, length-take-le}
 use Rattle.std.proofs.lemmas.Option.{slice_get_within}
 use Rattle.wiring.proofs.Lists.{slice_get-append_left, slice_get-append_at, slice_get-append_past}
-use Rattle.design_cycles.specs.Rows.{row_at, IsSet, GivesBits}
-use Rattle.design_cycles.proofs.BitRows.{none_set, set_right, written_cases, written_kept, written_new}
+use Rattle.design_cycles.specs.BitSets.{bit_set_at, IsSet, GivesBits}
+use Rattle.design_cycles.proofs.BitSetLemmas.{none_set, set_right, written_cases, written_kept, written_new}
 
-pub gives_none : (rows : List ℕ) → GivesBits [] rows rows
-gives_none rows = record {
+pub gives_none : (bit_sets : List ℕ) → GivesBits [] bit_sets bit_sets
+gives_none bit_sets = record {
   count = refl;
   from = λ v x is. inl is;
   kept = λ v x is. is;
@@ -44,11 +45,11 @@ module _ (inputs : List ℕ) (v : ℕ) (old mid : List ℕ) (gives : GivesBits i
     all = λ w x at below. all w x below (last_or_before w x at);
   }
     where
-      from : (w x : ℕ) → IsSet (row_at old w) x ⊎ (slice_get inputs x ≡ Some w) → IsSet (row_at old w) x ⊎ (slice_get (inputs ++ v ∷ []) x ≡ Some w)
+      from : (w x : ℕ) → IsSet (bit_set_at old w) x ⊎ (slice_get inputs x ≡ Some w) → IsSet (bit_set_at old w) x ⊎ (slice_get (inputs ++ v ∷ []) x ≡ Some w)
       from w x (inl had) = inl had
       from w x (inr at) = inr (here_or_later w x at)
 
-      all : (w x : ℕ) → w < length old → (slice_get inputs x ≡ Some w) ⊎ ((x ≡ number) × (w ≡ v)) → IsSet (row_at mid w) x
+      all : (w x : ℕ) → w < length old → (slice_get inputs x ≡ Some w) ⊎ ((x ≡ number) × (w ≡ v)) → IsSet (bit_set_at mid w) x
       all w x below (inl at) = gives.all w x at below
       all w x below (inr last) = let count : length mid ≡ length old = gives.count in let same : w ≡ v = last.1 in absurd (omega arith)
 
@@ -57,7 +58,7 @@ module _ (inputs : List ℕ) (v : ℕ) (old mid : List ℕ) (gives : GivesBits i
   bit = 1 * 2 ^ number % 2 ^ 64
 
   abbrev new : List ℕ
-  new = set mid v (bit_or (row_at mid v) bit)
+  new = set mid v (bit_or (bit_set_at mid v) bit)
 
   bit_cases : (x : ℕ) → IsSet bit x → x ≡ number
   bit_cases x is = go (eqb x number) refl
@@ -70,17 +71,17 @@ module _ (inputs : List ℕ) (v : ℕ) (old mid : List ℕ) (gives : GivesBits i
 
   pub gives_bit : v < length mid → GivesBits (inputs ++ v ∷ []) old new
   gives_bit below = record {
-    count = length-set mid v (bit_or (row_at mid v) bit) ∙ gives.count;
+    count = length-set mid v (bit_or (bit_set_at mid v) bit) ∙ gives.count;
     from = λ w x is. from w x (written_cases mid v below bit w x is);
     kept = λ w x is. written_kept mid v below bit w x (gives.kept w x is);
     all = λ w x at within. all w x within (last_or_before w x at);
   }
     where
-      earlier : (w x : ℕ) → IsSet (row_at old w) x ⊎ (slice_get inputs x ≡ Some w) → IsSet (row_at old w) x ⊎ (slice_get (inputs ++ v ∷ []) x ≡ Some w)
+      earlier : (w x : ℕ) → IsSet (bit_set_at old w) x ⊎ (slice_get inputs x ≡ Some w) → IsSet (bit_set_at old w) x ⊎ (slice_get (inputs ++ v ∷ []) x ≡ Some w)
       earlier w x (inl had) = inl had
       earlier w x (inr at) = inr (here_or_later w x at)
 
-      from : (w x : ℕ) → IsSet (row_at mid w) x ⊎ ((w ≡ v) × IsSet bit x) → IsSet (row_at old w) x ⊎ (slice_get (inputs ++ v ∷ []) x ≡ Some w)
+      from : (w x : ℕ) → IsSet (bit_set_at mid w) x ⊎ ((w ≡ v) × IsSet bit x) → IsSet (bit_set_at old w) x ⊎ (slice_get (inputs ++ v ∷ []) x ≡ Some w)
       from w x (inl had) = earlier w x (gives.from w x had)
       from w x (inr own) =
           let place : x ≡ number = bit_cases x own.1 in
@@ -95,10 +96,10 @@ module _ (inputs : List ℕ) (v : ℕ) (old mid : List ℕ) (gives : GivesBits i
               let none : bit_at 0 x ≡ 0 = bit_at-zero x in
               omega arith
 
-      all : (w x : ℕ) → w < length old → (slice_get inputs x ≡ Some w) ⊎ ((x ≡ number) × (w ≡ v)) → IsSet (row_at new w) x
+      all : (w x : ℕ) → w < length old → (slice_get inputs x ≡ Some w) ⊎ ((x ≡ number) × (w ≡ v)) → IsSet (bit_set_at new w) x
       all w x within (inl at) = written_kept mid v below bit w x (gives.all w x at within)
       all w x within (inr last) =
-          subst (λ n. IsSet (row_at new w) n) (sym last.0) (subst (λ z. IsSet (row_at new z) number) (sym last.1) (written_new mid v below bit number own_bit))
+          subst (λ n. IsSet (bit_set_at new w) n) (sym last.0) (subst (λ z. IsSet (bit_set_at new z) number) (sym last.1) (written_new mid v below bit number own_bit))
 
 -- ---- steps of loops
 
@@ -106,11 +107,11 @@ module _ (inputs : List ℕ) (i : ℕ) (old mid new : List ℕ) (below : i < len
   taken : length (take i inputs) ≡ i
   taken = length-take-le i inputs (omega arith)
 
-  pub gives_more : get_or inputs i 0 < length mid → new ≡ set mid (get_or inputs i 0) (bit_or (row_at mid (get_or inputs i 0)) (1 * 2 ^ i % 2 ^ 64)) → GivesBits (take (i + 1) inputs) old new
+  pub gives_more : get_or inputs i 0 < length mid → new ≡ set mid (get_or inputs i 0) (bit_or (bit_set_at mid (get_or inputs i 0)) (1 * 2 ^ i % 2 ^ 64)) → GivesBits (take (i + 1) inputs) old new
   gives_more within now =
       subst (λ xs. GivesBits xs old new) (sym (take_more inputs i 0 below))
       (subst (GivesBits (take i inputs ++ get_or inputs i 0 ∷ []) old)
-      (ap (λ n. set mid (get_or inputs i 0) (bit_or (row_at mid (get_or inputs i 0)) (1 * 2 ^ n % 2 ^ 64))) taken ∙ sym now)
+      (ap (λ n. set mid (get_or inputs i 0) (bit_or (bit_set_at mid (get_or inputs i 0)) (1 * 2 ^ n % 2 ^ 64))) taken ∙ sym now)
       (gives_bit (take i inputs) (get_or inputs i 0) old mid gives (let size : length (take i inputs) ≡ i = taken in omega arith) within))
 
   pub gives_no_more : length mid ≤ get_or inputs i 0 → new ≡ mid → GivesBits (take (i + 1) inputs) old new

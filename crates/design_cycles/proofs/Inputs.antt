@@ -242,9 +242,9 @@ outputs-push lists inputs nodes outputs node numbers are one = record {
         let last' : k ≡ length outputs = omega arith in
         let is : Some node ≡ Some from = sym (ap (slice_get (nodes ++ node ∷ [])) last ∙ slice_get-append_at nodes node []) ∙ at in
         let same : node ≡ from = cc in
-        let row : edges (outputs ++ numbers ∷ []) k ≡ numbers =
+        let bit_set : edges (outputs ++ numbers ∷ []) k ≡ numbers =
         get_or_from_slice_get (outputs ++ numbers ∷ []) k numbers [] (ap (slice_get (outputs ++ numbers ∷ [])) last' ∙ slice_get-append_at outputs numbers []) in
-        subst (λ n. AreInputs lists inputs n (edges (outputs ++ numbers ∷ []) k)) same (subst (AreInputs lists inputs node) (sym row) one)
+        subst (λ n. AreInputs lists inputs n (edges (outputs ++ numbers ∷ []) k)) same (subst (AreInputs lists inputs node) (sym bit_set) one)
 
 pub outputs_more : {A : Type 0} (f : A → Option ℕ) (values : List A) (i : ℕ) (d : A) (lists : List (List ℕ)) (inputs : List ℕ) (new old : List (List ℕ)) (numbers : List ℕ) → i < length values
     → AreOutputs lists inputs (map f (take i values)) old → AreInputs lists inputs (f (get_or values i d)) numbers → new ≡ old ++ numbers ∷ []

@@ -1,6 +1,5 @@
 -- The part of a flattened module that stands within one of its instances is the flattened module of that instance.
-use Rattle.std.proofs.Common.{◌≡◌, ℕ, zero, suc, ◌+◌, Bool, true, false, cond, List, [], ◌∷◌, ◌++◌, length, map, take, slice_get, Option, Some, None, refl, sym, ap, ap₂, subst, ◌∙◌, inl, inr, arith}
-use Rattle.wiring.specs.Options.{bind}
+use Rattle.std.proofs.Common.{◌≡◌, ℕ, zero, suc, ◌+◌, Bool, true, false, cond, List, [], ◌∷◌, ◌++◌, length, map, take, slice_get, Option, Some, None, refl, sym, ap, ap₂, subst, ◌∙◌, inl, inr, arith, option_and_then}
 use Rattle.wiring.specs.Wiring.{In, Chain, Depends as IsReached}
 use Rattle.wiring.proofs.Members.{In-map, from_In-map, In-slice_get}
 use Rattle.wiring.proofs.Lists.{map-map}
@@ -86,7 +85,7 @@ module _ (d : Design) (top : Name) where
   module _ (u : ℕ) (s : Name) (there : module_at d top (u ∷ []) ≡ find_module d s) where
     pub module_within : (q : Path) → module_at d top (q ++ u ∷ []) ≡ module_at d s q
     module_within [] = there
-    module_within (v ∷ q) = ap (λ o. bind o (λ (m : Module). bind (slice_get (instances m.body) v) (callee d))) (module_within q)
+    module_within (v ∷ q) = ap (λ o. option_and_then (λ (m : Module). option_and_then (callee d) (slice_get (instances m.body) v)) o) (module_within q)
 
     -- what a result needs there is what it needs in the module
     op_lifts : (q : Path) (os : List Op) (j k : ℕ) (o : Op) → Sort o.kind
@@ -119,8 +118,8 @@ module _ (d : Design) (top : Name) where
 
     pub needs_port : (v : ℕ) (q : Path) (j : ℕ) → needs d top (net ((v ∷ q) ++ u ∷ []) (port j)) ≡ map (lift u) (needs d s (net (v ∷ q) (port j)))
     needs_port v q j =
-        ap (λ m. needs_of (copy_of (q ++ u ∷ []) (bind m (joined_at d v j)))) (module_within q)
-        ∙ copy_lifts u q (bind (module_at d s q) (joined_at d v j))
+        ap (λ m. needs_of (copy_of (q ++ u ∷ []) (option_and_then (joined_at d v j) m))) (module_within q)
+        ∙ copy_lifts u q (option_and_then (joined_at d v j) (module_at d s q))
 
     -- each need of the module is one there
     pub need_lifts : (a b : Net) → In b (needs d s a) → In (lift u b) (needs d top (lift u a))
@@ -162,7 +161,7 @@ module _ (d : Design) (top : Name) where
 
         go : ((x y : Net) → Chain (needs d top) n (lift u x) y → Leaves n x y) → (q : Path) (r : Ref) → In c (needs d top (net (q ++ u ∷ []) r)) → Leaves (suc n) (net q r) b
         go later [] (port j) here =
-            let out = copied [] (bind (module_at d top []) (joined_at d u j)) c here in
+            let out = copied [] (option_and_then (joined_at d u j) (module_at d top [])) c here in
             leaves j 0 n out.0 refl (subst (λ z. In z (needs d top (net (u ∷ []) (port j)))) out.2 here) (subst (λ z. Chain (needs d top) n z b) out.2 chain) (omega arith)
         go later (v ∷ q) (port j) here = inside later (v ∷ q) (port j) (needs_port v q j) here
         go later q (result j k) here = inside later q (result j k) (needs_result q j k) here
@@ -172,17 +171,17 @@ module _ (d : Design) (top : Name) where
   module _ (u : ℕ) (absent : module_at d top (u ∷ []) ≡ None) where
     module_absent : (q : Path) → module_at d top (q ++ u ∷ []) ≡ None
     module_absent [] = absent
-    module_absent (v ∷ q) = ap (λ o. bind o (λ (m : Module). bind (slice_get (instances m.body) v) (callee d))) (module_absent q)
+    module_absent (v ∷ q) = ap (λ o. option_and_then (λ (m : Module). option_and_then (callee d) (slice_get (instances m.body) v)) o) (module_absent q)
 
     pub no_needs_absent : (q : Path) (r : Ref) (b : Net) → In b (needs d top (net (q ++ u ∷ []) r)) → ⊥
     no_needs_absent [] (port j) b here =
-        let out = copied [] (bind (module_at d top []) (joined_at d u j)) b here in
+        let out = copied [] (option_and_then (joined_at d u j) (module_at d top [])) b here in
         go (slice_get (instances (body_of (find_module d top))) u) (sym (module_inside d u (find_module d top)) ∙ absent) (sym (joined_body d u j (find_module d top)) ∙ out.1)
       where
-        go : {r : Ref} (x : Option Op) → bind x (callee d) ≡ None → bind x (joined_ref d j) ≡ Some r → ⊥
+        go : {r : Ref} (x : Option Op) → option_and_then (callee d) x ≡ None → option_and_then (joined_ref d j) x ≡ Some r → ⊥
         go None none some = cc
-        go (Some o) none some = let never : None ≡ Some _ = ap (λ m. bind m (λ (c : Module). port_ref c.ports o.operands j)) (sym none) ∙ some in cc
-    no_needs_absent (v ∷ q) (port j) b here = subst (λ m. In b (needs_of (copy_of (q ++ u ∷ []) (bind m (joined_at d v j))))) (module_absent q) here
+        go (Some o) none some = let never : None ≡ Some _ = ap (λ m. option_and_then (λ (c : Module). port_ref c.ports o.operands j) m) (sym none) ∙ some in cc
+    no_needs_absent (v ∷ q) (port j) b here = subst (λ m. In b (needs_of (copy_of (q ++ u ∷ []) (option_and_then (joined_at d v j) m)))) (module_absent q) here
     no_needs_absent q (result j k) b here =
         subst (λ m. In b (needs_of (result_in d top (q ++ u ∷ []) (body_of m) j k (slice_get (body_of m) j)))) (module_absent q)
         (subst (λ z. In b (needs_of z)) (result_here d top (q ++ u ∷ []) j k) here)
@@ -198,13 +197,13 @@ module _ (d : Design) (top : Name) where
     where
       by_instance : (o : Op) → slice_get (instances (body_of (find_module d top))) u ≡ Some o → (x : Option Instance) → instance_in o.kind ≡ x → Standing u
       by_instance o here None none =
-          nothing (module_inside d u (find_module d top) ∙ ap (λ y. bind y (callee d)) here ∙ ap (λ y. bind y (λ (i : Instance). find_module d i.symbol)) none)
+          nothing (module_inside d u (find_module d top) ∙ ap (λ y. option_and_then (callee d) y) here ∙ ap (λ y. option_and_then (λ (i : Instance). find_module d i.symbol) y) none)
       by_instance o here (Some i) some =
           module_of i.symbol (called_In (body_of (find_module d top)) o i (from_In-instances (body_of (find_module d top)) o (In-slice_get o (instances (body_of (find_module d top))) u here)) some)
-          (module_inside d u (find_module d top) ∙ ap (λ y. bind y (callee d)) here ∙ ap (λ y. bind y (λ (i : Instance). find_module d i.symbol)) some)
+          (module_inside d u (find_module d top) ∙ ap (λ y. option_and_then (callee d) y) here ∙ ap (λ y. option_and_then (λ (i : Instance). find_module d i.symbol) y) some)
 
       by_op : (x : Option Op) → slice_get (instances (body_of (find_module d top))) u ≡ x → Standing u
-      by_op None is = nothing (module_inside d u (find_module d top) ∙ ap (λ y. bind y (callee d)) is)
+      by_op None is = nothing (module_inside d u (find_module d top) ∙ ap (λ y. option_and_then (callee d) y) is)
       by_op (Some o) is = by_instance o is (instance_in o.kind) refl
 
 -- ---- where no result of a module's own body depends on itself, in any module, no net at any path does

@@ -22,7 +22,7 @@ use Rattle.design_cycles.specs.Calls.{symbols_in, call_lists}
 use Rattle.graphs.specs.Graphs.{edges, has_mark}
 use Rattle.design_cycles.specs.Graphs.{AreCalled}
 use Rattle.design_cycles.specs.Local.{IsSummary}
-use Rattle.design_cycles.specs.Nodes.{rows_of, rows_at, rows_by, sizes_in, body_lists, node_ref, value_node, table_by, IsLayout}
+use Rattle.design_cycles.specs.Nodes.{bit_sets_of, bit_sets_at, bit_sets_by, sizes_in, body_lists, node_ref, value_node, table_by, IsLayout}
 use Rattle.design_cycles.specs.Places.{symbol_of, symbol_at}
 use Rattle.design_cycles.specs.Summing.{inputs_from, AreOutputs, IsSummed, KnowsCallees}
 use Rattle.design_cycles.specs.Weighing.{IsWhole}
@@ -38,7 +38,7 @@ use Rattle.design_cycles.proofs.Summed.{sums_up}
 
 module _ (d : Design) (summaries : List Summary) where
   -- a module that is not there has no outputs
-  absent_summed : (s : Name) → find_module d s ≡ None → IsSummary d (λ _ k. edges (rows_at summaries None) k) s
+  absent_summed : (s : Name) → find_module d s ≡ None → IsSummary d (λ _ k. edges (bit_sets_at summaries None) k) s
   absent_summed s none = record {
     sound = λ k x here. absurd here;
     complete = λ k x feeds. (let e : None ≡ Some feeds.given = subst (λ o. slice_get (output_refs (body_of o)) k ≡ Some feeds.given) none feeds.gives in absurd (none_some e));
@@ -55,19 +55,19 @@ module _ (d : Design) (summaries : List Summary) where
       go (Some m) is = let has = number_found d s m is in let never : Some has.0 ≡ None = sym has.1 ∙ none in cc
 
   pub known_by : (top : Name)
-      → ((s : Name) (t : ℕ) → In s (calls d top) → symbol_place s (symbols_in d) ≡ Some t → IsSummed d (rows_of (slice_get summaries t)) t)
-      → KnowsCallees d (rows_by (symbols_in d) summaries) top
+      → ((s : Name) (t : ℕ) → In s (calls d top) → symbol_place s (symbols_in d) ≡ Some t → IsSummed d (bit_sets_of (slice_get summaries t)) t)
+      → KnowsCallees d (bit_sets_by (symbols_in d) summaries) top
   known_by top each s named = go (symbol_place s (symbols_in d)) refl
     where
-      shown : IsSummary d (λ _ k. edges (rows_at summaries (symbol_place s (symbols_in d))) k) s → IsSummary d (table_by (rows_by (symbols_in d) summaries)) s
+      shown : IsSummary d (λ _ k. edges (bit_sets_at summaries (symbol_place s (symbols_in d))) k) s → IsSummary d (table_by (bit_sets_by (symbols_in d) summaries)) s
       shown is = record { sound = λ k x here. is.sound k x here; complete = λ k x feeds. is.complete k x feeds }
 
-      go : (o : Option ℕ) → symbol_place s (symbols_in d) ≡ o → IsSummary d (table_by (rows_by (symbols_in d) summaries)) s
-      go None none = shown (subst (λ o. IsSummary d (λ _ k. edges (rows_at summaries o) k) s) (sym none) (absent_summed s (find_absent s none)))
+      go : (o : Option ℕ) → symbol_place s (symbols_in d) ≡ o → IsSummary d (table_by (bit_sets_by (symbols_in d) summaries)) s
+      go None none = shown (subst (λ o. IsSummary d (λ _ k. edges (bit_sets_at summaries o) k) s) (sym none) (absent_summed s (find_absent s none)))
       go (Some t) place =
           let there = place_found d s t place in
-          let summed : IsSummary d (λ _ k. edges (rows_at summaries (Some t)) k) there.0.symbol = each s t named place there.0 there.1 in
-          shown (subst (λ o. IsSummary d (λ _ k. edges (rows_at summaries o) k) s) (sym place) (subst (IsSummary d (λ _ k. edges (rows_at summaries (Some t)) k)) there.2 summed))
+          let summed : IsSummary d (λ _ k. edges (bit_sets_at summaries (Some t)) k) there.0.symbol = each s t named place there.0 there.1 in
+          shown (subst (λ o. IsSummary d (λ _ k. edges (bit_sets_at summaries o) k) s) (sym place) (subst (IsSummary d (λ _ k. edges (bit_sets_at summaries (Some t)) k)) there.2 summed))
 
 -- a module that is instanced, by number, and one that instances it
 pub called_edge : (d : Design) (top s : Name) (t : ℕ) → In s (calls d top) → symbol_place s (symbols_in d) ≡ Some t
@@ -122,15 +122,15 @@ module _ (modules : List StoredModule) (distinct : HasDistinctSymbols (map numbe
         omega arith
 
     pub callees_known : (summaries slice : List Summary) (k : ℕ) → k < length order → get_or order k 0 < length modules → slice ≡ summaries
-        → ((v : ℕ) → In v (take k order) → has_mark marks v ≡ true → IsSummed design (rows_of (slice_get summaries v)) v)
-        → KnowsCallees design (rows_by symbols slice) (symbol_at modules (get_or order k 0))
+        → ((v : ℕ) → In v (take k order) → has_mark marks v ≡ true → IsSummed design (bit_sets_of (slice_get summaries v)) v)
+        → KnowsCallees design (bit_sets_by symbols slice) (symbol_at modules (get_or order k 0))
     callees_known summaries slice k below within same before =
-        subst (λ ss. KnowsCallees design (rows_by ss slice) (symbol_at modules (get_or order k 0))) (sym (symbols_stored modules))
-        (subst (λ ss. KnowsCallees design (rows_by (symbols_in design) ss) (symbol_at modules (get_or order k 0))) (sym same)
+        subst (λ ss. KnowsCallees design (bit_sets_by ss slice) (symbol_at modules (get_or order k 0))) (sym (symbols_stored modules))
+        (subst (λ ss. KnowsCallees design (bit_sets_by (symbols_in design) ss) (symbol_at modules (get_or order k 0))) (sym same)
         (known_by design summaries (symbol_at modules (get_or order k 0)) each))
       where
         each : (s : Name) (t : ℕ) → In s (calls design (symbol_at modules (get_or order k 0))) → symbol_place s (symbols_in design) ≡ Some t
-            → IsSummed design (rows_of (slice_get summaries t)) t
+            → IsSummed design (bit_sets_of (slice_get summaries t)) t
         each s t named place =
             let edge = called_edge design (symbol_at modules (get_or order k 0)) s t named place in
             let one : Some edge.0 ≡ Some (get_or order k 0) = sym edge.1 ∙ symbol_number (get_or order k 0) within in
@@ -140,13 +140,13 @@ module _ (modules : List StoredModule) (distinct : HasDistinctSymbols (map numbe
             before t (whole.following k (get_or order k 0) t (slice_get-get_or order k 0 below) need there) (are.all (get_or order k 0) t need there)
 
     pub all_known : (summaries : List Summary) (k : ℕ) → length order ≤ k
-        → ((v : ℕ) → In v (take k order) → has_mark marks v ≡ true → IsSummed design (rows_of (slice_get summaries v)) v) → (top : Name)
-        → KnowsCallees design (rows_by symbols summaries) top
+        → ((v : ℕ) → In v (take k order) → has_mark marks v ≡ true → IsSummed design (bit_sets_of (slice_get summaries v)) v) → (top : Name)
+        → KnowsCallees design (bit_sets_by symbols summaries) top
     all_known summaries k all before top =
-        subst (λ ss. KnowsCallees design (rows_by ss summaries) top) (sym (symbols_stored modules)) (known_by design summaries top each)
+        subst (λ ss. KnowsCallees design (bit_sets_by ss summaries) top) (sym (symbols_stored modules)) (known_by design summaries top each)
       where
         each : (s : Name) (t : ℕ) → In s (calls design top) → symbol_place s (symbols_in design) ≡ Some t
-            → IsSummed design (rows_of (slice_get summaries t)) t
+            → IsSummed design (bit_sets_of (slice_get summaries t)) t
         each s t named place =
             let edge = called_edge design top s t named place in
             let there : t < length (call_lists design) = number_there s t place in
@@ -154,33 +154,33 @@ module _ (modules : List StoredModule) (distinct : HasDistinctSymbols (map numbe
 
     -- one more module
     module _ (summaries : List Summary) (k : ℕ) (below : k < length order) (within : get_or order k 0 < length modules)
-        (before : (length summaries ≡ length modules) × ((v : ℕ) → In v (take k order) → has_mark marks v ≡ true → IsSummed design (rows_of (slice_get summaries v)) v)) where
+        (before : (length summaries ≡ length modules) × ((v : ℕ) → In v (take k order) → has_mark marks v ≡ true → IsSummed design (bit_sets_of (slice_get summaries v)) v)) where
       last_or_before : (v : ℕ) → In v (take (k + 1) order) → (v ≡ get_or order k 0) ⊎ In v (take k order)
       last_or_before v here = go (In-append_cases v (take k order) (get_or order k 0 ∷ []) (subst (In v) (take_more order k 0 below) here))
         where
           go : In v (take k order) ⊎ In v (get_or order k 0 ∷ []) → (v ≡ get_or order k 0) ⊎ In v (take k order)
-          go (inl front) = inr front
+          go (inl prefix) = inr prefix
           go (inr (inl last)) = inl last
           go (inr (inr never)) = absurd never
 
       pub step_skips : (new : List Summary) → has_mark marks (get_or order k 0) ≡ false → new ≡ summaries
-          → (length new ≡ length modules) × ((v : ℕ) → In v (take (k + 1) order) → has_mark marks v ≡ true → IsSummed design (rows_of (slice_get new v)) v)
+          → (length new ≡ length modules) × ((v : ℕ) → In v (take (k + 1) order) → has_mark marks v ≡ true → IsSummed design (bit_sets_of (slice_get new v)) v)
       step_skips new uncalled same =
-          (ap length same ∙ before.0, λ v here mark. subst (λ ss. IsSummed design (rows_of (slice_get ss v)) v) (sym same) (go v (last_or_before v here) mark))
+          (ap length same ∙ before.0, λ v here mark. subst (λ ss. IsSummed design (bit_sets_of (slice_get ss v)) v) (sym same) (go v (last_or_before v here) mark))
         where
-          go : (v : ℕ) → (v ≡ get_or order k 0) ⊎ In v (take k order) → has_mark marks v ≡ true → IsSummed design (rows_of (slice_get summaries v)) v
+          go : (v : ℕ) → (v ≡ get_or order k 0) ⊎ In v (take k order) → has_mark marks v ≡ true → IsSummed design (bit_sets_of (slice_get summaries v)) v
           go v (inl last) mark = let e : true ≡ false = sym mark ∙ ap (has_mark marks) last ∙ uncalled in absurd (true_false e)
             where
               true_false : true ≡ false → ⊥
               true_false e = cc
-          go v (inr front) mark = before.1 v front mark
+          go v (inr prefix) mark = before.1 v prefix mark
 
       pub step_sums : (new : List Summary) (one : Summary) → new ≡ set summaries (get_or order k 0) one
-          → IsSummed design (rows_of (Some one)) (get_or order k 0)
-          → (length new ≡ length modules) × ((v : ℕ) → In v (take (k + 1) order) → has_mark marks v ≡ true → IsSummed design (rows_of (slice_get new v)) v)
+          → IsSummed design (bit_sets_of (Some one)) (get_or order k 0)
+          → (length new ≡ length modules) × ((v : ℕ) → In v (take (k + 1) order) → has_mark marks v ≡ true → IsSummed design (bit_sets_of (slice_get new v)) v)
       step_sums new one now summed = (
         ap length now ∙ length-set summaries (get_or order k 0) one ∙ before.0,
-        λ v here mark. subst (λ ss. IsSummed design (rows_of (slice_get ss v)) v) (sym now) (go v (eqb v (get_or order k 0)) refl (last_or_before v here) mark),
+        λ v here mark. subst (λ ss. IsSummed design (bit_sets_of (slice_get ss v)) v) (sym now) (go v (eqb v (get_or order k 0)) refl (last_or_before v here) mark),
       )
         where
           get_same : (xs : List Summary) (i : ℕ) → i < length xs → slice_get (set xs i one) i ≡ Some one
@@ -199,23 +199,23 @@ module _ (modules : List StoredModule) (distinct : HasDistinctSymbols (map numbe
           inside = let size : length summaries ≡ length modules = before.0 in omega arith
 
           go : (v : ℕ) (b : Bool) → eqb v (get_or order k 0) ≡ b → (v ≡ get_or order k 0) ⊎ In v (take k order) → has_mark marks v ≡ true
-              → IsSummed design (rows_of (slice_get (set summaries (get_or order k 0) one) v)) v
+              → IsSummed design (bit_sets_of (slice_get (set summaries (get_or order k 0) one) v)) v
           go v true same place mark =
               let e : v ≡ get_or order k 0 = eqb-true v (get_or order k 0) same in
-              subst (λ i. IsSummed design (rows_of (slice_get (set summaries (get_or order k 0) one) i)) i) (sym e)
-              (subst (λ o. IsSummed design (rows_of o) (get_or order k 0)) (sym (get_same summaries (get_or order k 0) inside)) summed)
+              subst (λ i. IsSummed design (bit_sets_of (slice_get (set summaries (get_or order k 0) one) i)) i) (sym e)
+              (subst (λ o. IsSummed design (bit_sets_of o) (get_or order k 0)) (sym (get_same summaries (get_or order k 0) inside)) summed)
           go v false other (inl last) mark = absurd (eqb-false v (get_or order k 0) other last)
-          go v false other (inr front) mark =
-              subst (λ o. IsSummed design (rows_of o) v) (sym (get_other summaries (get_or order k 0) v (eqb-false v (get_or order k 0) other))) (before.1 v front mark)
+          go v false other (inr prefix) mark =
+              subst (λ o. IsSummed design (bit_sets_of o) v) (sym (get_other summaries (get_or order k 0) v (eqb-false v (get_or order k 0) other))) (before.1 v prefix mark)
 
   -- ---- one module
 
-  module _ (i : ℕ) (m : CodeModule) (at : Some (module_of m) ≡ slice_get modules i) (summaries : List Summary) (inner : KnowsCallees design (rows_by symbols summaries) (symbol_at modules i)) where
+  module _ (i : ℕ) (m : CodeModule) (at : Some (module_of m) ≡ slice_get modules i) (summaries : List Summary) (inner : KnowsCallees design (bit_sets_by symbols summaries) (symbol_at modules i)) where
     abbrev one : Module
     one = numbered_module (module_of m)
 
-    abbrev rows : Name → List (List ℕ)
-    rows = rows_by symbols summaries
+    abbrev bit_sets : Name → List (List ℕ)
+    bit_sets = bit_sets_by symbols summaries
 
     abbrev os : List Op
     os = ops_by_position (ops_of m.body)
@@ -223,18 +223,18 @@ module _ (modules : List StoredModule) (distinct : HasDistinctSymbols (map numbe
     pub found : find_module design m.symbol ≡ Some one
     found = (found_at design distinct i one (stored_at modules i (module_of m) at)).1
 
-    pub known_inner : KnowsCallees design rows m.symbol
-    known_inner = subst (KnowsCallees design rows) (sym (ap symbol_of at)) inner
+    pub known_inner : KnowsCallees design bit_sets m.symbol
+    known_inner = subst (KnowsCallees design bit_sets) (sym (ap symbol_of at)) inner
 
     port_count : length one.ports ≡ length m.ports.ports.items
     port_count = length-map m.ports.ports.items port_of
 
-    pub lists_found : (lists : List (List ℕ)) → lists ≡ body_lists (length m.ports.ports.items) rows os
-        → lists ≡ body_lists (length (ports_of (find_module design m.symbol))) rows (body_of (find_module design m.symbol))
-    lists_found lists are = are ∙ ap (λ n. body_lists n rows os) (sym port_count) ∙ ap (λ o. body_lists (length (ports_of o)) rows (body_of o)) (sym found)
+    pub lists_found : (lists : List (List ℕ)) → lists ≡ body_lists (length m.ports.ports.items) bit_sets os
+        → lists ≡ body_lists (length (ports_of (find_module design m.symbol))) bit_sets (body_of (find_module design m.symbol))
+    lists_found lists are = are ∙ ap (λ n. body_lists n bit_sets os) (sym port_count) ∙ ap (λ o. body_lists (length (ports_of o)) bit_sets (body_of o)) (sym found)
 
-    pub summed_at : (layout : Layout) → IsLayout (length m.ports.ports.items) (sizes_in rows os) (ids_of m.body) layout → (lists : List (List ℕ))
-        → lists ≡ body_lists (length m.ports.ports.items) rows os
+    pub summed_at : (layout : Layout) → IsLayout (length m.ports.ports.items) (sizes_in bit_sets os) (ids_of m.body) layout → (lists : List (List ℕ))
+        → lists ≡ body_lists (length m.ports.ports.items) bit_sets os
         → (inputs : List ℕ) → inputs ≡ inputs_from 0 (map port_of m.ports.ports.items) → (values : List Value)
         → map (ref_by (position_of (ids_of m.body))) values ≡ output_refs os
         → (outputs : List (List ℕ)) → AreOutputs lists inputs (map (value_node layout) values) outputs → IsSummed design outputs i
@@ -242,21 +242,21 @@ module _ (modules : List StoredModule) (distinct : HasDistinctSymbols (map numbe
         let same : Some one ≡ Some other = sym (stored_at modules i (module_of m) at) ∙ there in
         let other_is : one ≡ other = cc in
         subst (λ (x : Module). IsSummary design (λ _ k. edges outputs k) x.symbol) other_is
-        (sums_up design m.symbol rows known_inner (map (value_node layout) values) outputs
-        (subst (λ ps. AreOutputs (body_lists (length (ports_of (find_module design m.symbol))) rows (body_of (find_module design m.symbol))) ps (map (value_node layout) values) outputs)
+        (sums_up design m.symbol bit_sets known_inner (map (value_node layout) values) outputs
+        (subst (λ ps. AreOutputs (body_lists (length (ports_of (find_module design m.symbol))) bit_sets (body_of (find_module design m.symbol))) ps (map (value_node layout) values) outputs)
         (from ∙ ap (λ o. inputs_from 0 (ports_of o)) (sym found))
         (subst (λ ls. AreOutputs ls inputs (map (value_node layout) values) outputs) (lists_found lists are) sums))
         refs)
       where
         nodes_are : (vs : List Value)
-            → map (value_node layout) vs ≡ map (node_ref (length m.ports.ports.items) (sizes_in rows os)) (map (ref_by (position_of (ids_of m.body))) vs)
+            → map (value_node layout) vs ≡ map (node_ref (length m.ports.ports.items) (sizes_in bit_sets os)) (map (ref_by (position_of (ids_of m.body))) vs)
         nodes_are [] = refl
         nodes_are (v ∷ vs) =
-            ap₂ (λ x xs. x ∷ xs) (value_is (length m.ports.ports.items) (sizes_in rows os) (ids_of m.body) layout is (sizes_count m.body rows) v) (nodes_are vs)
+            ap₂ (λ x xs. x ∷ xs) (value_is (length m.ports.ports.items) (sizes_in bit_sets os) (ids_of m.body) layout is (sizes_count m.body bit_sets) v) (nodes_are vs)
 
         refs : map (value_node layout) values
-            ≡ map (node_ref (length (ports_of (find_module design m.symbol))) (sizes_in rows (body_of (find_module design m.symbol)))) (output_refs (body_of (find_module design m.symbol)))
+            ≡ map (node_ref (length (ports_of (find_module design m.symbol))) (sizes_in bit_sets (body_of (find_module design m.symbol)))) (output_refs (body_of (find_module design m.symbol)))
         refs =
-            nodes_are values ∙ ap (map (node_ref (length m.ports.ports.items) (sizes_in rows os))) given
-            ∙ ap (λ n. map (node_ref n (sizes_in rows os)) (output_refs os)) (sym port_count)
-            ∙ ap (λ o. map (node_ref (length (ports_of o)) (sizes_in rows (body_of o))) (output_refs (body_of o))) (sym found)
+            nodes_are values ∙ ap (map (node_ref (length m.ports.ports.items) (sizes_in bit_sets os))) given
+            ∙ ap (λ n. map (node_ref n (sizes_in bit_sets os)) (output_refs os)) (sym port_count)
+            ∙ ap (λ o. map (node_ref (length (ports_of o)) (sizes_in bit_sets (body_of o))) (output_refs (body_of o))) (sym found)

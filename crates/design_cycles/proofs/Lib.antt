@@ -1,7 +1,7 @@
 pub mod Inside
 pub mod Locals
 pub mod Called
-pub mod BitRows
+pub mod BitSetLemmas
 pub mod InputBits
 pub mod Chunks
 pub mod NodeNumbers
@@ -14,7 +14,6 @@ pub mod Pushing
 pub mod Known
 pub mod Cyclic
 pub mod Ordered
-pub mod Placing
 pub mod Callees
 pub mod Capped
 pub mod Returning

@@ -1,7 +1,6 @@
 -- Within one body the wires of the table lead where chains of the flattened module lead.
-use Rattle.std.proofs.Common.{◌≡◌, ◌⊎◌, ℕ, zero, suc, ◌+◌, ◌<◌, ◌≤◌, Bool, true, false, cond, List, [], ◌∷◌, length, map, take, slice_get, Option, Some, None, refl, sym, ap, subst, ◌∙◌, inl, inr, arith}
+use Rattle.std.proofs.Common.{◌≡◌, ◌⊎◌, ℕ, zero, suc, ◌+◌, ◌<◌, ◌≤◌, Bool, true, false, cond, List, [], ◌∷◌, length, map, take, slice_get, Option, Some, None, refl, sym, ap, subst, ◌∙◌, inl, inr, arith, option_and_then}
 use Rattle.std.specs.Option.{option_to_list}
-use Rattle.wiring.specs.Options.{bind}
 use Rattle.wiring.specs.Wiring.{In, Chain, Depends as IsReached}
 use Rattle.wiring.proofs.Members.{In-map, from_In-map, In-append_left, In-append_right, In-append_cases}
 use Rattle.wiring.proofs.Chains.{Chain-append}
@@ -79,31 +78,31 @@ module _ (d : Design) (top : Name) where
 
   module _ (j : ℕ) (o : Op) (i : Instance) (there : slice_get os j ≡ Some o) (inst : instance_in o.kind ≡ Some i) where
     callee_is : callee d o ≡ find_module d i.symbol
-    callee_is = ap (λ y. bind y (λ (z : Instance). find_module d z.symbol)) inst
+    callee_is = ap (λ y. option_and_then (λ (z : Instance). find_module d z.symbol) y) inst
 
     stands : module_at d top (place j ∷ []) ≡ find_module d i.symbol
     stands =
-        module_inside d (place j) (find_module d top) ∙ ap (λ y. bind y (callee d)) (instance_found os j o i there inst) ∙ callee_is
+        module_inside d (place j) (find_module d top) ∙ ap (λ y. option_and_then (callee d) y) (instance_found os j o i there inst) ∙ callee_is
 
-    joined_is : (q : ℕ) → bind (module_at d top []) (joined_at d (place j) q) ≡ port_ref (ports_of (find_module d i.symbol)) o.operands q
+    joined_is : (q : ℕ) → option_and_then (joined_at d (place j) q) (module_at d top []) ≡ port_ref (ports_of (find_module d i.symbol)) o.operands q
     joined_is q =
-        joined_body d (place j) q (find_module d top) ∙ ap (λ y. bind y (joined_ref d q)) (instance_found os j o i there inst)
-        ∙ ap (λ m. bind m (λ (c : Module). port_ref c.ports o.operands q)) callee_is ∙ port_of (find_module d i.symbol) o.operands q
+        joined_body d (place j) q (find_module d top) ∙ ap (λ y. option_and_then (joined_ref d q) y) (instance_found os j o i there inst)
+        ∙ ap (λ m. option_and_then (λ (c : Module). port_ref c.ports o.operands q) m) callee_is ∙ port_of (find_module d i.symbol) o.operands q
 
     given_is : (k : ℕ) → given_ref d k o ≡ slice_get (output_refs (body_of (find_module d i.symbol))) k
-    given_is k = ap (λ m. bind m (λ (c : Module). slice_get (output_refs c.body) k)) callee_is ∙ output_of (find_module d i.symbol) k
+    given_is k = ap (λ m. option_and_then (λ (c : Module). slice_get (output_refs c.body) k) m) callee_is ∙ output_of (find_module d i.symbol) k
 
     port_needs : (q : ℕ) (b : Net) → In b (needs d top (net (place j ∷ []) (port q)))
         → (r : Ref) × (x : ℕ) × IsInput (ports_of (find_module d i.symbol)) q x × (slice_get o.operands x ≡ Some r) × (b ≡ net [] r)
     port_needs q b here =
-        let out = copied [] (bind (module_at d top []) (joined_at d (place j) q)) b here in
+        let out = copied [] (option_and_then (joined_at d (place j) q) (module_at d top [])) b here in
         let from = port_ref_from (ports_of (find_module d i.symbol)) o.operands q out.0 (sym (joined_is q) ∙ out.1) in
         (out.0, from.0, from.1, from.2, out.2)
 
     port_joined : (q x : ℕ) (r : Ref) → IsInput (ports_of (find_module d i.symbol)) q x → slice_get o.operands x ≡ Some r
         → In (net [] r) (needs d top (net (place j ∷ []) (port q)))
     port_joined q x r input is =
-        let joins : bind (module_at d top []) (joined_at d (place j) q) ≡ Some r =
+        let joins : option_and_then (joined_at d (place j) q) (module_at d top []) ≡ Some r =
         joined_is q ∙ port_ref_is (ports_of (find_module d i.symbol)) o.operands q x input ∙ is in
         subst (λ y. In (net [] r) (needs_of (copy_of [] y))) (sym joins) (inl refl)
 

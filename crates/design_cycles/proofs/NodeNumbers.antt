@@ -10,7 +10,7 @@ use Rattle.hw_model.specs.Types.{Name, HwType}
 use Rattle.hw_model.specs.Kinds.{Instance}
 use Rattle.hw_model.specs.Design.{Ref, Op, OpResult, instance_in, is_register, is_output_op, result_type}
 use Rattle.hw_model.specs.Design.Ref.{port, result, undefined}
-use Rattle.wiring.proofs.Options.{omap_some}
+use Rattle.wiring.proofs.Options.{option_map_some}
 use Rattle.graphs.specs.Graphs.{edges}
 use Rattle.design_cycles.specs.Local.{operands_at, where_typed, op_wires, result_wires, wires}
 use Rattle.design_cycles.specs.Nodes.{size_by, size_in, sizes_in, node_at, node_ref, nodes_in, port_refs, op_refs, result_refs, body_refs, table_by, node_needs, body_lists}
@@ -116,40 +116,40 @@ from_In-nodes node v (s ∷ rs) here = go (In-append_cases v (option_to_list (no
     go (inl here) rest = first (node s) refl here
     go (inr here) rest = let found = rest here in (found.0, inr found.1, found.2)
 
-module _ (ports : ℕ) (rows : Name → List (List ℕ)) (os : List Op) where
+module _ (ports : ℕ) (bit_sets : Name → List (List ℕ)) (os : List Op) where
   abbrev node : Ref → Option ℕ
-  node = node_ref ports (sizes_in rows os)
+  node = node_ref ports (sizes_in bit_sets os)
 
   abbrev local : Ref → List Ref
-  local = wires (table_by rows) os
+  local = wires (table_by bit_sets) os
 
   abbrev lists : List (List ℕ)
-  lists = body_lists ports rows os
+  lists = body_lists ports bit_sets os
 
   node_edges : (r : Ref) (v : ℕ) → node r ≡ Some v → edges lists v ≡ nodes_in node (local r)
   node_edges r v is =
       get_or_from_slice_get lists v (nodes_in node (local r)) []
-      (slice_get-map (node_needs ports rows os) (body_refs ports (sizes_in rows os)) v
-      ∙ ap (option_map (node_needs ports rows os)) (ref_at_node ports (sizes_in rows os) r v is))
+      (slice_get-map (node_needs ports bit_sets os) (body_refs ports (sizes_in bit_sets os)) v
+      ∙ ap (option_map (node_needs ports bit_sets os)) (ref_at_node ports (sizes_in bit_sets os) r v is))
 
   -- two values have different nodes
   node_apart : (r s : Ref) (v : ℕ) → node r ≡ Some v → node s ≡ Some v → r ≡ s
   node_apart r s v is also =
-      let e : Some r ≡ Some s = sym (ref_at_node ports (sizes_in rows os) r v is) ∙ ref_at_node ports (sizes_in rows os) s v also in cc
+      let e : Some r ≡ Some s = sym (ref_at_node ports (sizes_in bit_sets os) r v is) ∙ ref_at_node ports (sizes_in bit_sets os) s v also in cc
 
   -- what needs another has a node
-  has_node : (start : ℕ) (xs : List Op) (j k : ℕ) (b : Ref) → In b (result_wires (table_by rows) k (slice_get xs j)) → (v : ℕ) × (node_at start (sizes_in rows xs) j k ≡ Some v)
+  has_node : (start : ℕ) (xs : List Op) (j k : ℕ) (b : Ref) → In b (result_wires (table_by bit_sets) k (slice_get xs j)) → (v : ℕ) × (node_at start (sizes_in bit_sets xs) j k ≡ Some v)
   has_node start [] j k b here = absurd here
-  has_node start (o ∷ xs) (suc j) k b here = has_node (start + size_in rows o) xs j k b here
-  has_node start (o ∷ xs) zero k b here = go (nat_lt k (size_in rows o)) refl
+  has_node start (o ∷ xs) (suc j) k b here = has_node (start + size_in bit_sets o) xs j k b here
+  has_node start (o ∷ xs) zero k b here = go (nat_lt k (size_in bit_sets o)) refl
     where
-      within : (size_in rows o ≤ k) → ⊥
+      within : (size_in bit_sets o ≤ k) → ⊥
       within past = by_register (is_register o) here past
         where
           by_type : (t : Option HwType) → result_type o k ≡ t → In b (where_typed t o.operands) → length o.results ≤ k → ⊥
           by_type None typed never low = never
           by_type (Some t) typed named low =
-              let found = omap_some (λ (x : OpResult). x.type) (slice_get o.results k) typed in
+              let found = option_map_some (λ (x : OpResult). x.type) (slice_get o.results k) typed in
               let bound : k < length o.results = slice_get_within o.results k found.0 found.1 in omega arith
 
           by_output : (c : Bool) → In b (cond c [] (where_typed (result_type o k) o.operands)) → cond c 0 (length o.results) ≤ k → ⊥
@@ -160,19 +160,19 @@ module _ (ports : ℕ) (rows : Name → List (List ℕ)) (os : List Op) where
           by_picked [] never = absurd never
           by_picked (x ∷ xs) named = (x, inl refl)
 
-          by_instance : (i : Option Instance) → In b (op_wires (table_by rows) o k i) → size_by rows o i ≤ k → ⊥
+          by_instance : (i : Option Instance) → In b (op_wires (table_by bit_sets) o k i) → size_by bit_sets o i ≤ k → ⊥
           by_instance None named low = by_output (is_output_op o) named low
           by_instance (Some i) named low =
-              let some = by_picked (table_by rows i.symbol k) named in
-              let bound : k < length (rows i.symbol) = edges_within (rows i.symbol) k some.0 some.1 in omega arith
+              let some = by_picked (table_by bit_sets i.symbol k) named in
+              let bound : k < length (bit_sets i.symbol) = edges_within (bit_sets i.symbol) k some.0 some.1 in omega arith
 
-          by_register : (c : Bool) → In b (cond c [] (op_wires (table_by rows) o k (instance_in o.kind))) → cond c 0 (size_by rows o (instance_in o.kind)) ≤ k → ⊥
+          by_register : (c : Bool) → In b (cond c [] (op_wires (table_by bit_sets) o k (instance_in o.kind))) → cond c 0 (size_by bit_sets o (instance_in o.kind)) ≤ k → ⊥
           by_register true never low = never
           by_register false named low = by_instance (instance_in o.kind) named low
 
-      go : (c : Bool) → nat_lt k (size_in rows o) ≡ c → (v : ℕ) × (cond c (Some (start + k)) None ≡ Some v)
+      go : (c : Bool) → nat_lt k (size_in bit_sets o) ≡ c → (v : ℕ) × (cond c (Some (start + k)) None ≡ Some v)
       go true test = (start + k, refl)
-      go false test = absurd (within (past_of k (size_in rows o) test))
+      go false test = absurd (within (past_of k (size_in bit_sets o) test))
         where
           past_of : (k n : ℕ) → nat_lt k n ≡ false → n ≤ k
           past_of k n is = grind (arith, nat_tests)

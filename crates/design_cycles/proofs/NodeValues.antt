@@ -1,9 +1,9 @@
 -- The node of a value in code is that of what it stands for, and what an operation's results need in code is what they need.
-use Rattle.std.proofs.Common.{◌≡◌, ◌⊎◌, ℕ, zero, suc, ◌+◌, ◌<◌, ◌≤◌, Bool, true, false, cond, nat_lt, nat_eq, List, [], ◌∷◌, ◌++◌, length, map, slice_get, Option, Some, None, option_map, refl, sym, ap, ap₂, ◌∙◌, inl, inr, arith}
+use Rattle.std.proofs.Common.{◌≡◌, ◌⊎◌, ℕ, zero, suc, ◌+◌, ◌<◌, ◌≤◌, Bool, true, false, cond, nat_lt, nat_eq, List, [], ◌∷◌, ◌++◌, length, map, slice_get, Option, Some, None, option_map, refl, sym}
+use Rattle.std.proofs.Common.{ap, ap₂, ◌∙◌, inl, inr, arith, option_and_then}
 use Rattle.std.specs.Option.{option_to_list}
 use Rattle.std.proofs.lemmas.Bool.{eqb-true, eqb-false}
 use Rattle.std.proofs.lemmas.Option.{slice_get-map, slice_get_within}
-use Rattle.wiring.specs.Options.{bind}
 use Rattle.hw_model.specs.Design.{Ref}
 use Rattle.ir_store.specs.declared.operation.Value.{Value}
 use Rattle.ir_store.specs.declared.operation.Value.TheVariants.{Port, Result, Undefined}
@@ -39,7 +39,7 @@ position_least (i ∷ ids) q (suc j) at = go (nat_eq i q) (position_least ids q 
 
 -- the span of the operation of an id, by its position
 positions_give : (ids positions : List ℕ) (q : ℕ) {A : Type 0} (xs : List A) → ArePositions ids positions → length xs ≡ length ids
-    → bind (slice_get positions q) (slice_get xs) ≡ slice_get xs (position_of ids q)
+    → option_and_then (slice_get xs) (slice_get positions q) ≡ slice_get xs (position_of ids q)
 positions_give ids positions q xs are size = go (slice_get positions q) refl
   where
     past : (n : ℕ) → length ids ≤ n → slice_get xs n ≡ None
@@ -56,7 +56,7 @@ positions_give ids positions q xs are size = go (slice_get positions q) refl
         by_order (inl below) = absurd (none (position_of ids q) (position_within ids q below))
         by_order (inr far) = past (position_of ids q) far
 
-    go : (o : Option ℕ) → slice_get positions q ≡ o → bind o (slice_get xs) ≡ slice_get xs (position_of ids q)
+    go : (o : Option ℕ) → slice_get positions q ≡ o → option_and_then (slice_get xs) o ≡ slice_get xs (position_of ids q)
     go None none = sym (absent (λ j at. (let e : None ≡ Some j = sym none ∙ are.known j q at in cc)))
     go (Some j) some = by_order (grind arith)
       where
@@ -113,7 +113,7 @@ module _ (ports : ℕ) (sizes ids : List ℕ) (layout : Layout) (is : IsLayout p
           go None = refl
           go (Some n) = refl
 
-      one : (o : Option Value) → option_to_list (bind o (value_node layout)) ≡ nodes_in (node_ref ports sizes) (option_to_list (option_map (ref_by (position_of ids)) o))
+      one : (o : Option Value) → option_to_list (option_and_then (value_node layout) o) ≡ nodes_in (node_ref ports sizes) (option_to_list (option_map (ref_by (position_of ids)) o))
       one None = refl
       one (Some v) = ap option_to_list (value_is v) ∙ go (node_ref ports sizes (ref_by (position_of ids) v))
         where

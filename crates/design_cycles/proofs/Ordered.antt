@@ -28,7 +28,7 @@ use Rattle.design_cycles.specs.declared.layout.Summary.{Summary}
 use Rattle.design_cycles.specs.Asked.{HasDistinctSymbols, IsCyclicAt}
 use Rattle.design_cycles.specs.InOrder.{StandsBefore, StandsAfter, IsInOrder, is_numbered, is_at_its_number, is_before, IsLate}
 use Rattle.design_cycles.specs.Local.{where_typed, op_wires, result_wires, wires}
-use Rattle.design_cycles.specs.Nodes.{rows_by, table_by}
+use Rattle.design_cycles.specs.Nodes.{bit_sets_by, table_by}
 use Rattle.design_cycles.specs.Places.{symbol_at}
 use Rattle.design_cycles.specs.declared.ops.Sort.{Sort}
 use Rattle.design_cycles.specs.declared.ops.Sort.TheVariants.{Register, Calls, Gives, Made}
@@ -169,12 +169,12 @@ module _ (table : Name → ℕ → List ℕ) (os : List Op) (ordered : IsInOrder
 -- ---- of a module of a design
 
 module _ (modules : List StoredModule) (distinct : HasDistinctSymbols (map numbered_module modules)) (i : ℕ) (m : CodeModule) (at : Some (module_of m) ≡ slice_get modules i)
-    (summaries : List Summary) (inner : KnowsCallees (map numbered_module modules) (rows_by (map (λ (x : StoredModule). x.symbol) modules) summaries) (symbol_at modules i)) where
+    (summaries : List Summary) (inner : KnowsCallees (map numbered_module modules) (bit_sets_by (map (λ (x : StoredModule). x.symbol) modules) summaries) (symbol_at modules i)) where
   abbrev design : Design
   design = map numbered_module modules
 
-  abbrev rows : Name → List (List ℕ)
-  rows = rows_by (map (λ (x : StoredModule). x.symbol) modules) summaries
+  abbrev bit_sets : Name → List (List ℕ)
+  bit_sets = bit_sets_by (map (λ (x : StoredModule). x.symbol) modules) summaries
 
   ordered_there : IsInOrder (ops_by_position (ops_of m.body)) → IsInOrder (body_of (find_module design m.symbol))
   ordered_there ordered = subst (λ o. IsInOrder (body_of o)) (sym (found modules distinct i m at summaries inner)) ordered
@@ -188,5 +188,5 @@ module _ (modules : List StoredModule) (distinct : HasDistinctSymbols (map numbe
   pub ordered_acyclic : IsInOrder (ops_by_position (ops_of m.body)) → (j : ℕ) → IsCyclicAt design i j → ⊥
   ordered_acyclic ordered j cyclic =
       let os = body_of (find_module design m.symbol) in
-      IsAcyclic-falling (wires (table_by rows) os) (height (table_by rows) os (ordered_there ordered)) (falls (table_by rows) os (ordered_there ordered)) (result j cyclic.number)
-      (depends_wires design m.symbol (table_by rows) (known_inner modules distinct i m at summaries inner) (result j cyclic.number) (result j cyclic.number) (around j cyclic))
+      IsAcyclic-falling (wires (table_by bit_sets) os) (height (table_by bit_sets) os (ordered_there ordered)) (falls (table_by bit_sets) os (ordered_there ordered)) (result j cyclic.number)
+      (depends_wires design m.symbol (table_by bit_sets) (known_inner modules distinct i m at summaries inner) (result j cyclic.number) (result j cyclic.number) (around j cyclic))

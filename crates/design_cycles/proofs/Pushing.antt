@@ -20,7 +20,8 @@ use Rattle.design_cycles.specs.declared.ops.Sort.TheVariants.{Register, Calls, G
 use Rattle.design_cycles.specs.Sorts.{gives}
 use Rattle.design_cycles.specs.Reading.{op_view}
 use Rattle.design_cycles.specs.Local.{operands_at}
-use Rattle.design_cycles.specs.Nodes.{sizes_in, size_in, AreSpans, IsLayout, node_ref, nodes_in, value_nodes, picked_values, times_over, lists_at}
+use Rattle.design_cycles.specs.Nodes.{sizes_in, size_in, AreSpans, IsLayout, node_ref, nodes_in, value_nodes, picked_values, lists_at}
+use Rattle.graphs.specs.Graphs.{times_over}
 use Rattle.design_cycles.proofs.NodeValues.{span_count, values_are, picked_are}
 use Rattle.design_cycles.proofs.Graphing.{made_lists, called_lists}
 
@@ -46,32 +47,32 @@ module _ (b : Body) (ids : List OpId) (all : ids ≡ map op_id (ids_of b)) where
     positions = subst (λ xs. ArePositions xs layout.positions.items) indices_are positions;
   }
 
-pub sizes_count : (b : Body) (rows : Name → List (List ℕ)) → length (sizes_in rows (ops_by_position (ops_of b))) ≡ length (ids_of b)
-sizes_count b rows =
-    length-map (ops_by_position (ops_of b)) (size_in rows) ∙ length-map (ops_of b) (op_by (position_of (ids_of b))) ∙ sym (length-map (ops_of b) (λ (o : BodyOp). o.id))
+pub sizes_count : (b : Body) (bit_sets : Name → List (List ℕ)) → length (sizes_in bit_sets (ops_by_position (ops_of b))) ≡ length (ids_of b)
+sizes_count b bit_sets =
+    length-map (ops_by_position (ops_of b)) (size_in bit_sets) ∙ length-map (ops_of b) (op_by (position_of (ids_of b))) ∙ sym (length-map (ops_of b) (λ (o : BodyOp). o.id))
 
 -- ---- what one operation's results need
 
-module _ (b : Body) (o : CodeOp) (ports : ℕ) (rows : Name → List (List ℕ)) (j : ℕ) (l : Layout) (is : IsLayout ports (sizes_in rows (ops_by_position (ops_of b))) (ids_of b) l)
+module _ (b : Body) (o : CodeOp) (ports : ℕ) (bit_sets : Name → List (List ℕ)) (j : ℕ) (l : Layout) (is : IsLayout ports (sizes_in bit_sets (ops_by_position (ops_of b))) (ids_of b) l)
     (there : slice_get (ops_by_position (ops_of b)) j ≡ Some (op_view b o)) where
   abbrev os : List Op
   os = ops_by_position (ops_of b)
 
   pub made_need : (n : ℕ) → n ≡ length (op_view b o).results → false ≡ is_register (op_view b o) → None ≡ instance_in (op_view b o).kind
       → false ≡ is_output_op (op_view b o)
-      → times_over n (value_nodes l o.operands.now) ≡ lists_at ports rows os j
+      → times_over n (value_nodes l o.operands.now) ≡ lists_at ports bit_sets os j
   made_need n count r i x =
-      ap₂ times_over count (values_are ports (sizes_in rows os) (ids_of b) l is (sizes_count b rows) o.operands.now) ∙ sym (made_lists ports rows os j (op_view b o) there (sym r) (sym i) (sym x))
+      ap₂ times_over count (values_are ports (sizes_in bit_sets os) (ids_of b) l is (sizes_count b bit_sets) o.operands.now) ∙ sym (made_lists ports bit_sets os j (op_view b o) there (sym r) (sym i) (sym x))
 
-  pub called_need : (i : Instance) (xs : List (List ℕ)) → xs ≡ rows i.symbol → false ≡ is_register (op_view b o) → Some i ≡ instance_in (op_view b o).kind
-      → map (picked_values l o.operands.now) xs ≡ lists_at ports rows os j
+  pub called_need : (i : Instance) (xs : List (List ℕ)) → xs ≡ bit_sets i.symbol → false ≡ is_register (op_view b o) → Some i ≡ instance_in (op_view b o).kind
+      → map (picked_values l o.operands.now) xs ≡ lists_at ports bit_sets os j
   called_need i xs are r n =
-      ap (map (picked_values l o.operands.now)) are ∙ each (rows i.symbol) ∙ sym (called_lists ports rows os j (op_view b o) there i (sym r) (sym n))
+      ap (map (picked_values l o.operands.now)) are ∙ each (bit_sets i.symbol) ∙ sym (called_lists ports bit_sets os j (op_view b o) there i (sym r) (sym n))
     where
       each : (ys : List (List ℕ))
-          → map (picked_values l o.operands.now) ys ≡ map (λ zs. nodes_in (node_ref ports (sizes_in rows os)) (operands_at (op_view b o).operands zs)) ys
+          → map (picked_values l o.operands.now) ys ≡ map (λ zs. nodes_in (node_ref ports (sizes_in bit_sets os)) (operands_at (op_view b o).operands zs)) ys
       each [] = refl
-      each (y ∷ ys) = ap₂ (λ a c. a ∷ c) (picked_are ports (sizes_in rows os) (ids_of b) l is (sizes_count b rows) o.operands.now y) (each ys)
+      each (y ∷ ys) = ap₂ (λ a c. a ∷ c) (picked_are ports (sizes_in bit_sets os) (ids_of b) l is (sizes_count b bit_sets) o.operands.now y) (each ys)
 
 -- ---- the first output
 
@@ -106,11 +107,11 @@ module _ (os : List Op) (p : ℕ) (before : output_refs (drop p os) ≡ output_r
 
 -- ---- spans
 
-pub spans_below : (b : Body) (rows : Name → List (List ℕ)) (ports : ℕ) (layout : Layout)
-    → IsLayout ports (sizes_in rows (ops_by_position (ops_of b))) (ids_of b) layout → (ids : List OpId)
+pub spans_below : (b : Body) (bit_sets : Name → List (List ℕ)) (ports : ℕ) (layout : Layout)
+    → IsLayout ports (sizes_in bit_sets (ops_by_position (ops_of b))) (ids_of b) layout → (ids : List OpId)
     → ids ≡ map op_id (ids_of b) → (j : ℕ) → j < length ids → j < length layout.spans.items
-spans_below b rows ports layout is ids all j below =
-    let spans : length layout.spans.items ≡ length (sizes_in rows (ops_by_position (ops_of b))) = span_count ports (sizes_in rows (ops_by_position (ops_of b))) layout.spans.items is.spans in
-    let sizes : length (sizes_in rows (ops_by_position (ops_of b))) ≡ length (ids_of b) = sizes_count b rows in
+spans_below b bit_sets ports layout is ids all j below =
+    let spans : length layout.spans.items ≡ length (sizes_in bit_sets (ops_by_position (ops_of b))) = span_count ports (sizes_in bit_sets (ops_by_position (ops_of b))) layout.spans.items is.spans in
+    let sizes : length (sizes_in bit_sets (ops_by_position (ops_of b))) ≡ length (ids_of b) = sizes_count b bit_sets in
     let count : length ids ≡ length (ids_of b) = ap length all ∙ length-map (ids_of b) op_id in
     omega arith

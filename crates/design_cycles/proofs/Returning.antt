@@ -1,5 +1,6 @@
 -- Instances that lie on a cycle of modules, by numbers.
-use Rattle.std.proofs.Common.{◌≡◌, ◌⊎◌, ◌↔◌, IsTrue, ℕ, zero, suc, ◌+◌, ◌<◌, ◌≤◌, Bool, true, false, List, [], ◌∷◌, length, map, get_or, slice_get, MatchBool, Option, Some, None, option_map, refl, sym, ap, subst, ◌∙◌, inl, inr, arith, eqb, eq-eqb}
+use Rattle.std.proofs.Common.{◌≡◌, ◌⊎◌, ◌↔◌, IsTrue, ℕ, zero, suc, ◌+◌, ◌<◌, ◌≤◌, Bool, true, false, List, [], ◌∷◌, length, map, get_or, slice_get, MatchBool, Option, Some, None, option_map, refl}
+use Rattle.std.proofs.Common.{sym, ap, subst, ◌∙◌, inl, inr, arith, eqb, eq-eqb}
 use Rattle.std.proofs.lemmas.Bool.{eqb-true, false≢true}
 use Rattle.std.proofs.lemmas.Option.{slice_get-map, slice_get_within, slice_get-get_or}
 use Rattle.std.proofs.lemmas.List.{length-map}
@@ -23,9 +24,10 @@ use Rattle.design_cycles.specs.Places.{IsFirstOp, IsFirst, ids_at, ids_of_module
 use Rattle.design_cycles.specs.Asked.{HasDistinctSymbols, Returns, IsRecursiveAt}
 use Rattle.design_cycles.specs.Calls.{symbols_in, call_lists, callee_number, IsCalleeAt, IsFoundAt}
 use Rattle.graphs.specs.Graphs.{edges, has_mark, AreReached}
-use Rattle.design_cycles.specs.Graphs.{LeadsTo, IsOrder}
+use Rattle.design_cycles.specs.Graphs.{LeadsTo}
+use Rattle.graphs.specs.Orders.{IsOrder}
 use Rattle.design_cycles.proofs.Callees.{number, call_edges, place_found, number_found, In-numbers, chain_numbers, found_at, chain_symbols}
-use Rattle.design_cycles.proofs.Placing.{placed_no_cycle}
+use Rattle.graphs.proofs.Placing.{placed_no_cycle}
 
 -- an instance whose module is called
 pub from_called : (os : List Op) (s : Name) → In s (callee_symbols os) → (j : ℕ) × (o : Op) × (i : Instance) × (slice_get os j ≡ Some o) × (instance_in o.kind ≡ Some i) × (i.symbol ≡ s)

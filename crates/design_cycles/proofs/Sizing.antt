@@ -1,5 +1,6 @@
 -- Weights of modules: what is kept, up to a most, is the weight, where each module is weighed after those that it instances.
-use Rattle.std.proofs.Common.{◌≡◌, ◌⊎◌, ℕ, zero, suc, ◌+◌, ◌<◌, ◌≤◌, ◌^◌, ◌≢◌, Bool, true, false, min, eqb, List, [], ◌∷◌, ◌++◌, length, map, take, get_or, set, slice_get, slice_index, Option, Some, None, refl, sym, ap, ap₂, subst, ◌∙◌, inl, inr, arith, length-set}
+use Rattle.std.proofs.Common.{◌≡◌, ◌⊎◌, ℕ, zero, suc, ◌+◌, ◌<◌, ◌≤◌, ◌^◌, ◌≢◌, Bool, true, false, min, eqb, List, [], ◌∷◌, ◌++◌, length, map, take, get_or, set, slice_get, slice_index, Option, Some}
+use Rattle.std.proofs.Common.{None, refl, sym, ap, ap₂, subst, ◌∙◌, inl, inr, arith, length-set}
 use Rattle.std.proofs.lemmas.List.{map_more, take_all, take_more, length-map, get_or-set_same, get_or-set_other}
 use Rattle.std.proofs.lemmas.Bool.{eqb-true, eqb-false}
 use Rattle.std.proofs.lemmas.Option.{slice_get_within, slice_get-get_or}
@@ -24,12 +25,11 @@ use Rattle.ir_store.specs.declared.design.Port.{Port as CodePort}
 use Rattle.design_cycles.specs.Asked.{HasDistinctSymbols, IsTooLargeAt}
 use Rattle.design_cycles.specs.Calls.{symbols_in, numbers_of, call_lists}
 use Rattle.graphs.specs.Graphs.{edges, has_mark}
-use Rattle.design_cycles.specs.Graphs.{IsOrder}
+use Rattle.graphs.specs.Orders.{IsOrder, MustWait}
 use Rattle.design_cycles.specs.Places.{FindsNumber}
 use Rattle.design_cycles.specs.Weighing.{kept_weight, weight_by, WeighsAt, Weighs, IsWhole}
 use Rattle.design_cycles.proofs.Callees.{call_edges, place_found, number_found, In-numbers, found_at, acyclic_numbers}
-use Rattle.design_cycles.specs.Marks.{MustWait}
-use Rattle.design_cycles.proofs.Placing.{acyclic_complete}
+use Rattle.graphs.proofs.Placing.{acyclic_complete}
 use Rattle.design_cycles.proofs.Returning.{symbols_stored}
 use Rattle.design_cycles.proofs.Capped.{leaf_count-push}
 use Rattle.graphs.proofs.Marking.{marked_within}
@@ -186,7 +186,7 @@ module _ (d : Design) (distinct : HasDistinctSymbols d) (finite : HasNoRecursion
           get_or-set_other weights i v w 0 apart ∙ before v (earlier (In-append_cases v (take k order) (get_or order k 0 ∷ []) (subst (In v) (take_more order k 0 below) here))) one at
         where
           earlier : In v (take k order) ⊎ In v (get_or order k 0 ∷ []) → In v (take k order)
-          earlier (inl front) = front
+          earlier (inl prefix) = prefix
           earlier (inr (inl last)) = absurd (eqb-false v i other (last ∙ sym is))
           earlier (inr (inr never)) = absurd never
 

@@ -35,7 +35,7 @@ only_where : (b : Bool) (x v : ℕ) → cond b (Some x) None ≡ Some v → (b �
 only_where true x v is = let e : x ≡ v = cc in (refl, e)
 only_where false x v is = cc
 
-module _ (d : Design) (top : Name) (rows : Name → List (List ℕ)) (known : KnowsCallees d rows top) where
+module _ (d : Design) (top : Name) (bit_sets : Name → List (List ℕ)) (known : KnowsCallees d bit_sets top) where
   abbrev os : List Op
   os = body_of (find_module d top)
 
@@ -43,13 +43,13 @@ module _ (d : Design) (top : Name) (rows : Name → List (List ℕ)) (known : Kn
   ps = ports_of (find_module d top)
 
   abbrev lists : List (List ℕ)
-  lists = body_lists (length ps) rows os
+  lists = body_lists (length ps) bit_sets os
 
   abbrev node : Ref → Option ℕ
-  node = node_ref (length ps) (sizes_in rows os)
+  node = node_ref (length ps) (sizes_in bit_sets os)
 
   abbrev local : Ref → List Ref
-  local = wires (table_by rows) os
+  local = wires (table_by bit_sets) os
 
   input_node : (j x : ℕ) → IsInput ps j x → node (port j) ≡ Some j
   input_node j x input = ap (λ b. cond b (Some j) None) (test_true j (length ps) (slice_get_within ps j input.port_there input.has_port))
@@ -57,7 +57,7 @@ module _ (d : Design) (top : Name) (rows : Name → List (List ℕ)) (known : Kn
   input_there : (j x : ℕ) → IsInput ps j x → j < length lists
   input_there j x input =
       let below : j < length ps = slice_get_within ps j input.port_there input.has_port in
-      let count : length lists ≡ length ps + total (sizes_in rows os) = graph_count (length ps) rows os lists refl in
+      let count : length lists ≡ length ps + total (sizes_in bit_sets os) = graph_count (length ps) bit_sets os lists refl in
       omega arith
 
   -- ---- the summary
@@ -73,7 +73,7 @@ module _ (d : Design) (top : Name) (rows : Name → List (List ℕ)) (known : Kn
         go None none = let e : None ≡ Some from = ap (option_map node) (sym none) ∙ mapped in cc
         go (Some r) is = let e : Some (node r) ≡ Some from = ap (option_map node) (sym is) ∙ mapped in (r, is, cc)
 
-    listed : (k x : ℕ) → In x (edges outputs k) → FeedsLocally d top (table_by rows) known k x
+    listed : (k x : ℕ) → In x (edges outputs k) → FeedsLocally d top (table_by bit_sets) known k x
     listed k x here =
         let below : k < length outputs = edges_within outputs k x here in
         let size : length outputs ≡ length nodes = are.count in
@@ -90,34 +90,34 @@ module _ (d : Design) (top : Name) (rows : Name → List (List ℕ)) (known : Kn
           steps = leads.2.0;
           gives = given.1;
           takes = input.2;
-          chain = wires_chain (length ps) rows os leads.2.0 given.0 (port input.0) leads.0 found.0 leads.2.1 (given.2 ∙ leads.1) place;
+          chain = wires_chain (length ps) bit_sets os leads.2.0 given.0 (port input.0) leads.0 found.0 leads.2.1 (given.2 ∙ leads.1) place;
         }
 
     begins : (n : ℕ) (a b : Ref) (w : ℕ) → Chain local n a b → node b ≡ Some w → (v : ℕ) × (node a ≡ Some v)
     begins zero a b w same is = (w, ap node same ∙ is)
-    begins (suc n) a b w (c, need, chain) is = needing_node (length ps) rows os a c need
+    begins (suc n) a b w (c, need, chain) is = needing_node (length ps) bit_sets os a c need
 
-    feeds_listed : (k x : ℕ) → FeedsLocally d top (table_by rows) known k x → In x (edges outputs k)
+    feeds_listed : (k x : ℕ) → FeedsLocally d top (table_by bit_sets) known k x → In x (edges outputs k)
     feeds_listed k x f =
         let number : 0 + f.at ≡ f.at = omega arith in
         let there : slice_get nodes k ≡ Some (node f.given) = ap (λ ns. slice_get ns k) of_refs ∙ slice_get-map node (output_refs os) k ∙ ap (option_map node) f.gives in
         let end : node (port f.at) ≡ Some f.at = input_node f.at x f.takes in
         let start = begins f.steps f.given (port f.at) f.at f.chain end in
         let leads : LeadsTo lists (node f.given) f.at =
-        (start.0, start.1, (f.steps, nodes_chain (length ps) rows os f.steps f.given (port f.at) start.0 f.at f.chain start.1 end)) in
+        (start.0, start.1, (f.steps, nodes_chain (length ps) bit_sets os f.steps f.given (port f.at) start.0 f.at f.chain start.1 end)) in
         (are.each k (node f.given) there).complete x f.at (to_input 0 ps f.at x f.takes ∙ ap Some number) (input_there f.at x f.takes) leads
 
     pub sums_up : IsSummary d (λ _ k. edges outputs k) top
     sums_up = record {
-      sound = λ k x here. feeds_from_local d top (table_by rows) known k x (listed k x here);
-      complete = λ k x feeds. feeds_listed k x (feeds_to_local d top (table_by rows) known k x feeds);
+      sound = λ k x here. feeds_from_local d top (table_by bit_sets) known k x (listed k x here);
+      complete = λ k x feeds. feeds_listed k x (feeds_to_local d top (table_by bit_sets) known k x feeds);
     }
 
   -- ---- results that depend on themselves
 
-  module _ (spans : List Span) (are : AreSpans (length ps) (sizes_in rows os) spans) (j : ℕ) (s : Span) (at : slice_get spans j ≡ Some s) where
+  module _ (spans : List Span) (are : AreSpans (length ps) (sizes_in bit_sets os) spans) (j : ℕ) (s : Span) (at : slice_get spans j ≡ Some s) where
     in_span : (k : ℕ) → node (result j k) ≡ cond (nat_lt k s.size) (Some (s.start + k)) None
-    in_span k = sym (spans_give (length ps) (sizes_in rows os) spans j k are) ∙ ap (λ o. span_node o k) at
+    in_span k = sym (spans_give (length ps) (sizes_in bit_sets os) spans j k are) ∙ ap (λ o. span_node o k) at
 
     pub returning_depends : ReturnsWithin lists s.start s.size → (k : ℕ) × Depends d top (net [] (result j k)) (net [] (result j k))
     returning_depends (v, low, high, (m, chain)) =
@@ -125,16 +125,16 @@ module _ (d : Design) (top : Name) (rows : Name → List (List ℕ)) (known : Kn
         let is : node (result j (v - s.start)) ≡ Some v =
         in_span (v - s.start) ∙ ap (λ b. cond b (Some (s.start + (v - s.start))) None) (test_true (v - s.start) s.size (omega arith)) ∙ ap Some place in (
           v - s.start,
-          wires_depend d top (table_by rows) known (result j (v - s.start)) (result j (v - s.start)) (m, wires_chain (length ps) rows os (suc m) (result j (v - s.start)) (result j (v - s.start)) v v chain is is),
+          wires_depend d top (table_by bit_sets) known (result j (v - s.start)) (result j (v - s.start)) (m, wires_chain (length ps) bit_sets os (suc m) (result j (v - s.start)) (result j (v - s.start)) v v chain is is),
         )
 
     pub depending_returns : (k : ℕ) → Depends d top (net [] (result j k)) (net [] (result j k)) → ReturnsWithin lists s.start s.size
-    depending_returns k around = go (depends_wires d top (table_by rows) known (result j k) (result j k) around)
+    depending_returns k around = go (depends_wires d top (table_by bit_sets) known (result j k) (result j k) around)
       where
         go : IsReached local (result j k) (result j k) → ReturnsWithin lists s.start s.size
         go (m, (c, need, chain)) =
-            let has = needing_node (length ps) rows os (result j k) c need in
+            let has = needing_node (length ps) bit_sets os (result j k) c need in
             let found = only_where (nat_lt k s.size) (s.start + k) has.0 (sym (in_span k) ∙ has.1) in
             let below : k < s.size = true_test k s.size found.0 in
             let place : s.start + k ≡ has.0 = found.1 in
-            (has.0, omega arith, omega arith, (m, nodes_chain (length ps) rows os (suc m) (result j k) (result j k) has.0 has.0 (c, need, chain) has.1 has.1))
+            (has.0, omega arith, omega arith, (m, nodes_chain (length ps) bit_sets os (suc m) (result j k) (result j k) has.0 has.0 (c, need, chain) has.1 has.1))

@@ -1,14 +1,7 @@
--- What is asked of graphs: orders of their nodes, what some node leads to, what leads back to itself.
-use Rattle.std.specs.Prelude.{◌≡◌, ℕ, ◌+◌, ◌<◌, ◌≤◌, Bool, true, List, length, take, slice_get, Option, Some}
+-- What is asked of graphs: what some node leads to, what leads back to itself.
+use Rattle.std.specs.Prelude.{◌≡◌, ℕ, ◌+◌, ◌<◌, ◌≤◌, Bool, true, List, length, Option, Some}
 use Rattle.wiring.specs.Wiring.{In, Chain, Depends}
 use Rattle.graphs.specs.Graphs.{edges, has_mark}
-
--- some nodes, each after all that it needs, and the marks of those
-pub record IsOrder (lists : List (List ℕ)) (placed : List Bool) (nodes : List ℕ) : Type 0 where
-  pub count : length placed ≡ length lists
-  pub listed : (v : ℕ) → has_mark placed v ≡ true → In v nodes
-  pub placed_all : (v : ℕ) → In v nodes → has_mark placed v ≡ true
-  pub following : (i v t : ℕ) → slice_get nodes i ≡ Some v → In t (edges lists v) → t < length lists → In t (take i nodes)
 
 -- from a node, where there is one, a chain leads to v
 abbrev pub LeadsTo : List (List ℕ) → Option ℕ → ℕ → Type 0

@@ -3,8 +3,7 @@ use Rattle.std.specs.Prelude.{◌≡◌, ℕ, ◌<◌, length}
 use Rattle.hw_model.specs.Design.{Design}
 use Rattle.design_cycles.specs.Calls.{call_lists}
 use Rattle.graphs.specs.Graphs.{lists_of}
-use Rattle.design_cycles.specs.Graphs.{IsOrder}
-use Rattle.design_cycles.specs.Marks.{MustWait}
+use Rattle.graphs.specs.Orders.{IsOrder, MustWait}
 use Rattle.design_cycles.specs.declared.hierarchy.Hierarchy.{Hierarchy}
 
 -- a hierarchy is that of this design

@@ -4,11 +4,10 @@ pub mod Graphs
 pub mod Hierarchies
 pub mod InOrder
 pub mod Local
-pub mod Marks
 pub mod Nodes
 pub mod Places
 pub mod Reading
-pub mod Rows
+pub mod BitSets
 pub mod Sizes
 pub mod Sorts
 pub mod Summing

@@ -1,12 +1,11 @@
 -- The nodes of a body's values: first the ports, then the results of each operation in order.
-use Rattle.std.specs.Prelude.{◌≡◌, ℕ, zero, suc, ◌+◌, cond, nat_lt, List, [], ◌∷◌, ◌++◌, map, length, Option, Some, None, slice_get, option_to_list}
+use Rattle.std.specs.Prelude.{◌≡◌, ℕ, zero, suc, ◌+◌, cond, nat_lt, List, [], ◌∷◌, ◌++◌, map, length, Option, Some, None, slice_get, option_to_list, option_and_then}
 use Rattle.hw_model.specs.Types.{Name}
 use Rattle.hw_model.specs.Kinds.{Instance}
 use Rattle.hw_model.specs.Design.{Ref, Op, instance_in, is_register, is_output_op}
 use Rattle.hw_model.specs.Design.Ref.{port, result, undefined}
 use Rattle.ir_store.specs.declared.operation.Value.{Value}
 use Rattle.ir_store.specs.declared.operation.Value.TheVariants.{Port, Result, Undefined}
-use Rattle.wiring.specs.Options.{bind}
 use Rattle.ir_store.specs.PositionTables.{ArePositions}
 use Rattle.ir_store.specs.Symbols.{symbol_place}
 use Rattle.design_cycles.specs.declared.layout.Span.{Span}
@@ -16,34 +15,34 @@ use Rattle.graphs.specs.Graphs.{lists_of, edges}
 use Rattle.design_cycles.specs.Local.{wires}
 
 -- the lists of a summary; of a module without one there are none
-abbrev pub rows_of : Option Summary → List (List ℕ)
-rows_of None = []
-rows_of (Some s) = lists_of s.outputs.items
+abbrev pub bit_sets_of : Option Summary → List (List ℕ)
+bit_sets_of None = []
+bit_sets_of (Some s) = lists_of s.outputs.items
 
-abbrev pub rows_at : List Summary → Option ℕ → List (List ℕ)
-rows_at summaries None = []
-rows_at summaries (Some i) = rows_of (slice_get summaries i)
+abbrev pub bit_sets_at : List Summary → Option ℕ → List (List ℕ)
+bit_sets_at summaries None = []
+bit_sets_at summaries (Some i) = bit_sets_of (slice_get summaries i)
 
 -- the lists of the module of a symbol
-abbrev pub rows_by : List Name → List Summary → Name → List (List ℕ)
-rows_by symbols summaries s = rows_at summaries (symbol_place s symbols)
+abbrev pub bit_sets_by : List Name → List Summary → Name → List (List ℕ)
+bit_sets_by symbols summaries s = bit_sets_at summaries (symbol_place s symbols)
 
 -- how many results of an operation need others
 abbrev pub size_by : (Name → List (List ℕ)) → Op → Option Instance → ℕ
-size_by rows o (Some i) = length (rows i.symbol)
-size_by rows o None = cond (is_output_op o) 0 (length o.results)
+size_by bit_sets o (Some i) = length (bit_sets i.symbol)
+size_by bit_sets o None = cond (is_output_op o) 0 (length o.results)
 
 abbrev pub size_in : (Name → List (List ℕ)) → Op → ℕ
-size_in rows o = cond (is_register o) 0 (size_by rows o (instance_in o.kind))
+size_in bit_sets o = cond (is_register o) 0 (size_by bit_sets o (instance_in o.kind))
 
 -- the operation at a position has so many
-pub record HasSize (rows : Name → List (List ℕ)) (os : List Op) (j n : ℕ) : Type 0 where
+pub record HasSize (bit_sets : Name → List (List ℕ)) (os : List Op) (j n : ℕ) : Type 0 where
   pub op_there : Op
   pub has_op : slice_get os j ≡ Some op_there
-  pub size_is : n ≡ size_in rows op_there
+  pub size_is : n ≡ size_in bit_sets op_there
 
 abbrev pub sizes_in : (Name → List (List ℕ)) → List Op → List ℕ
-sizes_in rows os = map (size_in rows) os
+sizes_in bit_sets os = map (size_in bit_sets) os
 
 -- the nodes of the results, from a node on
 abbrev pub AreSpans : ℕ → List ℕ → List Span → Type 0
@@ -86,23 +85,23 @@ body_refs ports sizes = port_refs 0 ports ++ result_refs 0 sizes
 
 -- what the outputs of a symbol's module depend on
 abbrev pub table_by : (Name → List (List ℕ)) → Name → ℕ → List ℕ
-table_by rows s k = edges (rows s) k
+table_by bit_sets s k = edges (bit_sets s) k
 
 -- what the node of a value needs
 abbrev pub node_needs : ℕ → (Name → List (List ℕ)) → List Op → Ref → List ℕ
-node_needs ports rows os r = nodes_in (node_ref ports (sizes_in rows os)) (wires (table_by rows) os r)
+node_needs ports bit_sets os r = nodes_in (node_ref ports (sizes_in bit_sets os)) (wires (table_by bit_sets) os r)
 
 -- what each node of a body needs
 abbrev pub body_lists : ℕ → (Name → List (List ℕ)) → List Op → List (List ℕ)
-body_lists ports rows os = map (node_needs ports rows os) (body_refs ports (sizes_in rows os))
+body_lists ports bit_sets os = map (node_needs ports bit_sets os) (body_refs ports (sizes_in bit_sets os))
 
 -- what the nodes of the results of an operation need
 abbrev pub lists_of_op : ℕ → (Name → List (List ℕ)) → List Op → ℕ → Option Op → List (List ℕ)
-lists_of_op ports rows os j None = []
-lists_of_op ports rows os j (Some o) = map (node_needs ports rows os) (op_refs j 0 (size_in rows o))
+lists_of_op ports bit_sets os j None = []
+lists_of_op ports bit_sets os j (Some o) = map (node_needs ports bit_sets os) (op_refs j 0 (size_in bit_sets o))
 
 abbrev pub lists_at : ℕ → (Name → List (List ℕ)) → List Op → ℕ → List (List ℕ)
-lists_at ports rows os j = lists_of_op ports rows os j (slice_get os j)
+lists_at ports bit_sets os j = lists_of_op ports bit_sets os j (slice_get os j)
 
 -- the layout is that of a body with so many ports, sizes and ids
 pub record IsLayout (ports : ℕ) (sizes ids : List ℕ) (layout : Layout) : Type 0 where
@@ -118,7 +117,7 @@ span_node (Some s) k = cond (nat_lt k s.size) (Some (s.start + k)) None
 
 abbrev pub value_node : Layout → Value → Option ℕ
 value_node l (Port p) = cond (nat_lt p l.ports) (Some p) None
-value_node l (Result id k) = span_node (bind (slice_get l.positions.items id.index) (slice_get l.spans.items)) k
+value_node l (Result id k) = span_node (option_and_then (slice_get l.spans.items) (slice_get l.positions.items id.index)) k
 value_node l Undefined = None
 
 -- the nodes of values, where they have any
@@ -129,9 +128,4 @@ value_nodes l (x ∷ xs) = option_to_list (value_node l x) ++ value_nodes l xs
 -- the nodes of the values of these numbers
 abbrev pub picked_values : Layout → List Value → List ℕ → List ℕ
 picked_values l values [] = []
-picked_values l values (n ∷ ns) = option_to_list (bind (slice_get values n) (value_node l)) ++ picked_values l values ns
-
--- a list n times over
-abbrev pub times_over : ℕ → List ℕ → List (List ℕ)
-times_over zero xs = []
-times_over (suc n) xs = xs ∷ times_over n xs
+picked_values l values (n ∷ ns) = option_to_list (option_and_then (value_node l) (slice_get values n)) ++ picked_values l values ns

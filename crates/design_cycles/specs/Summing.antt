@@ -35,4 +35,4 @@ IsSummed d lists i = (one : Module) → slice_get d i ≡ Some one → IsSummary
 
 -- the lists of symbols sum up the modules that the module of a symbol instances
 abbrev pub KnowsCallees : Design → (Name → List (List ℕ)) → Name → Type 0
-KnowsCallees d rows top = (s : Name) → In s (calls d top) → IsSummary d (table_by rows) s
+KnowsCallees d bit_sets top = (s : Name) → In s (calls d top) → IsSummary d (table_by bit_sets) s

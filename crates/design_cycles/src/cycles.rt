@@ -7,7 +7,7 @@ ghost use Rattle.design_cycles.specs.Asked.{HasDistinctSymbols, IsCyclicAt};
 ghost use Rattle.graphs.specs.Graphs.{lists_of, edges, has_mark};
 ghost use Rattle.design_cycles.specs.Graphs.{ReturnsWithin};
 ghost use Rattle.design_cycles.specs.Hierarchies.{IsHierarchy};
-ghost use Rattle.design_cycles.specs.Nodes.{rows_by};
+ghost use Rattle.design_cycles.specs.Nodes.{bit_sets_by};
 ghost use Rattle.design_cycles.specs.Places.{Finds, FindsOp, ids_at, symbol_at};
 ghost use Rattle.design_cycles.specs.Summing.{KnowsCallees};
 
@@ -16,11 +16,10 @@ use crate::hierarchy::Hierarchy;
 use crate::in_order::are_in_order;
 use crate::layout::{Span, Summary};
 use crate::ops::read_ids;
-use crate::order::callees_first;
 use crate::place::OpPlace;
 use crate::summaries::summaries_of;
 use crate::wired::wires_of;
-use graphs::{NodeList, is_open, reached_from};
+use graphs::{NodeList, callees_first, is_open, reached_from};
 use ir_store::design::Design;
 use ir_store::operation::OpId;
 use std::alloc::{AllocError, Global};
@@ -62,7 +61,7 @@ fn first_in_module(
 ) -> Result<Option<OpId>, AllocError>
     requires distinct { HasDistinctSymbols (design_of design.now) }
     requires within { number < length (modules_of design.now) }
-    requires inner { KnowsCallees (design_of design.now) (rows_by (map (λ m. m.symbol) (modules_of design.now)) summaries.now) (symbol_at (modules_of design.now) number) }
+    requires inner { KnowsCallees (design_of design.now) (bit_sets_by (map (λ m. m.symbol) (modules_of design.now)) summaries.now) (symbol_at (modules_of design.now) number) }
     ensures { IfOk result (FindsOp (IsCyclicAt (design_of design.now) number) (ids_at (modules_of design.now) number)) }
 {
     let body = &design.module(number).body;
@@ -82,7 +81,7 @@ fn first_by_wires(
 ) -> Result<Option<OpId>, AllocError>
     requires distinct { HasDistinctSymbols (design_of design.now) }
     requires within { number < length (modules_of design.now) }
-    requires inner { KnowsCallees (design_of design.now) (rows_by (map (λ m. m.symbol) (modules_of design.now)) summaries.now) (symbol_at (modules_of design.now) number) }
+    requires inner { KnowsCallees (design_of design.now) (bit_sets_by (map (λ m. m.symbol) (modules_of design.now)) summaries.now) (symbol_at (modules_of design.now) number) }
     ensures { IfOk result (FindsOp (IsCyclicAt (design_of design.now) number) (ids_at (modules_of design.now) number)) }
 {
     let wired = wires_of(alloc, design, design.module(number), summaries)?;

@@ -8,8 +8,7 @@ ghost use Rattle.design_cycles.specs.Hierarchies.{IsHierarchy};
 ghost use Rattle.design_cycles.specs.Weighing.{IsWhole};
 
 use crate::calls::call_graph;
-use crate::order::{Order, callees_first};
-use graphs::NodeList;
+use graphs::{NodeList, Order, callees_first};
 use ir_store::design::Design;
 use std::alloc::{AllocError, Global};
 

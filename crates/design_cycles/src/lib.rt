@@ -3,17 +3,16 @@
 //! combinational cycle.
 #![tactic(auto)]
 
+mod bit_set_lists;
+mod bit_sets;
 mod calls;
 mod cycles;
 mod hierarchy;
 mod in_order;
 mod layout;
 mod ops;
-mod order;
 mod place;
 mod recursion;
-mod row_lists;
-mod rows;
 mod size;
 mod summaries;
 mod symbols;

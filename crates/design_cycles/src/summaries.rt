@@ -11,18 +11,17 @@ ghost use Rattle.graphs.specs.Graphs.{lists_of};
 ghost use Rattle.design_cycles.specs.Graphs.{AreCalled};
 ghost use Rattle.design_cycles.specs.Places.{symbol_at};
 ghost use Rattle.design_cycles.specs.Weighing.{IsWhole};
-ghost use Rattle.design_cycles.specs.Nodes.{rows_by, value_node};
+ghost use Rattle.design_cycles.specs.Nodes.{bit_sets_by, value_node};
 ghost use Rattle.design_cycles.specs.Summing.{inputs_from, reached_numbers, AreInputs, AreOutputs, KnowsCallees, IsSummed};
 
+use crate::bit_set_lists::bit_set_lists;
+use crate::bit_sets::BIT_SET_BITS;
 use crate::in_order::are_in_order;
 use crate::layout::{Layout, Summary};
 use crate::ops::{Sort, op_at, sort_of};
-use crate::order::likely_order;
-use crate::row_lists::row_lists;
-use crate::rows::ROW_BITS;
 use crate::wired::{Wired, wires_of};
 use crate::wires::node_of;
-use graphs::{NodeList, is_marked, reached_from};
+use graphs::{NodeList, is_marked, likely_order, reached_from};
 use ir_store::body::Body;
 use ir_store::design::{Design, Port};
 use ir_store::operation::{OpId, Value};
@@ -38,7 +37,7 @@ pub(crate) fn summaries_of(
     requires distinct { HasDistinctSymbols (design_of design.now) }
     requires whole { IsWhole (call_lists (design_of design.now)) order.now }
     requires called { AreCalled (call_lists (design_of design.now)) called.now }
-    ensures { IfOk result (λ summaries. (top : Name) → KnowsCallees (design_of design.now) (rows_by (map (λ m. m.symbol) (modules_of design.now)) summaries.items) top) }
+    ensures { IfOk result (λ summaries. (top : Name) → KnowsCallees (design_of design.now) (bit_sets_by (map (λ m. m.symbol) (modules_of design.now)) summaries.items) top) }
 {
     let mut summaries = empty_summaries(alloc, design.module_count())?;
     for number in order {
@@ -72,7 +71,7 @@ fn summary_of(
 ) -> Result<Summary, AllocError>
     requires distinct { HasDistinctSymbols (design_of design.now) }
     requires within { number < length (modules_of design.now) }
-    requires inner { KnowsCallees (design_of design.now) (rows_by (map (λ m. m.symbol) (modules_of design.now)) summaries.now) (symbol_at (modules_of design.now) number) }
+    requires inner { KnowsCallees (design_of design.now) (bit_sets_by (map (λ m. m.symbol) (modules_of design.now)) summaries.now) (symbol_at (modules_of design.now) number) }
     ensures { IfOk result (λ summary. IsSummed (design_of design.now) (lists_of summary.outputs.items) number) }
 {
     let module = design.module(number);
@@ -84,8 +83,8 @@ fn summary_of(
 }
 
 /// Of each value of a body the numbers of the inputs that it depends on or is: from each value on, or where they are many
-/// by rows of bits, so that the body is gone over once for each of them, or for each 64 inputs. A body with a cycle, which has
-/// no order, is gone over from each value on, since rows might change in as many passes as it has nodes.
+/// by bit sets, so that the body is gone over once for each of them, or for each 64 inputs. A body with a cycle, which has
+/// no order, is gone over from each value on, since bit sets might change in as many passes as it has nodes.
 fn lists_of_outputs(
     alloc: Global,
     body: &Body,
@@ -103,13 +102,13 @@ fn lists_of_outputs(
         return output_lists(alloc, graph, &wired.layout, inputs, values);
     }
     if are_in_order(body, wired.ids.as_slice()) {
-        return row_lists(alloc, graph, &wired.layout, &[], inputs, values);
+        return bit_set_lists(alloc, graph, &wired.layout, &[], inputs, values);
     }
     let order = likely_order(alloc, graph)?;
     if order.len() < graph.len() {
         return output_lists(alloc, graph, &wired.layout, inputs, values);
     }
-    row_lists(
+    bit_set_lists(
         alloc,
         graph,
         &wired.layout,
@@ -119,9 +118,9 @@ fn lists_of_outputs(
     )
 }
 
-/// Whether so many values are walked from sooner one by one than the body is gone over for each row of inputs.
+/// Whether so many values are walked from sooner one by one than the body is gone over for each bit set of inputs.
 fn are_few(values: usize, inputs: usize) -> bool {
-    values / 4 <= inputs / ROW_BITS
+    values / 4 <= inputs / BIT_SET_BITS
 }
 
 /// The values that a module gives to its outputs: the operands of its first `hw.output`.

@@ -4,7 +4,7 @@ ghost use Rattle.ir_store.specs.Bodies.{ids_of, ops_of, op_id};
 ghost use Rattle.ir_store.specs.Numbered.{ops_by_position};
 ghost use Rattle.ir_store.specs.Designs.{modules_of};
 ghost use Rattle.graphs.specs.Graphs.{lists_of};
-ghost use Rattle.design_cycles.specs.Nodes.{rows_by, sizes_in, body_lists, IsLayout};
+ghost use Rattle.design_cycles.specs.Nodes.{bit_sets_by, sizes_in, body_lists, IsLayout};
 
 use crate::layout::{Layout, Summary};
 use crate::wires::{Scope, graph_of, layout_of};
@@ -33,8 +33,8 @@ pub(crate) fn wires_of(
     summaries: &[Summary],
 ) -> Result<Wired, AllocError>
     ensures ids { IfOk result (λ w. w.ids.items ≡ map op_id (ids_of one.now.body)) }
-    ensures layout { IfOk result (λ w. IsLayout (length one.now.ports.ports.items) (sizes_in (rows_by (map (λ m. m.symbol) (modules_of design.now)) summaries.now) (ops_by_position (ops_of one.now.body))) (ids_of one.now.body) w.layout) }
-    ensures graph { IfOk result (λ w. lists_of w.graph.items ≡ body_lists (length one.now.ports.ports.items) (rows_by (map (λ m. m.symbol) (modules_of design.now)) summaries.now) (ops_by_position (ops_of one.now.body))) }
+    ensures layout { IfOk result (λ w. IsLayout (length one.now.ports.ports.items) (sizes_in (bit_sets_by (map (λ m. m.symbol) (modules_of design.now)) summaries.now) (ops_by_position (ops_of one.now.body))) (ids_of one.now.body) w.layout) }
+    ensures graph { IfOk result (λ w. lists_of w.graph.items ≡ body_lists (length one.now.ports.ports.items) (bit_sets_by (map (λ m. m.symbol) (modules_of design.now)) summaries.now) (ops_by_position (ops_of one.now.body))) }
     ensures small { OnOk result (length one.now.ports.ports.items < 2 ^ 32) }
 {
     let ids = ids_in(alloc, &one.body)?;

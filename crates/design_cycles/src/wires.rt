@@ -1,19 +1,17 @@
 //! The graph of a body's values: what each needs, without a register between, each instance standing for what its module's
 //! outputs depend on.
-ghost use Rattle.std.specs.Prelude.{◌≡◌, ◌<◌, ◌+◌, ◌^◌, ◌++◌, length, map, IfOk, OnOk};
+ghost use Rattle.std.specs.Prelude.{◌≡◌, ◌<◌, ◌+◌, ◌^◌, ◌++◌, length, map, IfOk, OnOk, option_and_then};
 ghost use Rattle.std.specs.Option.{option_map};
-ghost use Rattle.wiring.specs.Options.{bind};
 ghost use Rattle.ir_store.specs.Bodies.{ids_of, ops_of, op_id};
 ghost use Rattle.ir_store.specs.Designs.{modules_of};
 ghost use Rattle.ir_store.specs.Numbered.{ops_by_position};
 ghost use Rattle.std.specs.Prelude.{slice_get};
-ghost use Rattle.graphs.specs.Graphs.{lists_of};
-ghost use Rattle.design_cycles.specs.Nodes.{rows_at as rows_kept, rows_by, HasSize, sizes_in, AreSpans, IsLayout, span_node, value_node, value_nodes, picked_values, times_over, body_lists, lists_at};
+ghost use Rattle.graphs.specs.Graphs.{lists_of, times_over};
+ghost use Rattle.design_cycles.specs.Nodes.{bit_sets_at as bit_sets_kept, bit_sets_by, HasSize, sizes_in, AreSpans, IsLayout, span_node, value_node, value_nodes, picked_values, body_lists, lists_at};
 
 use crate::layout::{Layout, Span, Summary};
 use crate::ops::{Sort, op_at, sort_of};
-use crate::order::empty_lists;
-use graphs::NodeList;
+use graphs::{NodeList, empty_lists};
 use ir_store::body::Body;
 use ir_store::design::Design;
 use ir_store::operation::{OpId, Value};
@@ -61,14 +59,14 @@ fn node_in(span: Option<&Span>, number: u32) -> Option<u32>
 /// How many results of the operation at a position need others.
 fn size_at(scope: &Scope<'_>, position: usize) -> usize
     requires { position < length scope.now.ids.now }
-    ensures { HasSize (rows_by (map (λ m. m.symbol) (modules_of scope.now.design.now)) scope.now.summaries.now) (ops_by_position (ops_of scope.now.body.now)) position result }
+    ensures { HasSize (bit_sets_by (map (λ m. m.symbol) (modules_of scope.now.design.now)) scope.now.summaries.now) (ops_by_position (ops_of scope.now.body.now)) position result }
 {
     let op = op_at(scope.body, scope.ids, position);
     match sort_of(op.kind) {
         Sort::Register | Sort::Gives => 0,
         Sort::Made => op.results.len(),
         Sort::Calls(instance) => {
-            rows_at(
+            bit_sets_at(
                 scope.summaries,
                 scope.design.find(instance.symbol.as_bytes()),
             )
@@ -78,8 +76,8 @@ fn size_at(scope: &Scope<'_>, position: usize) -> usize
 }
 
 /// The lists of a module's summary, where there is one.
-fn rows_at(summaries: &[Summary], number: Option<u32>) -> &[NodeList]
-    ensures { lists_of result.now ≡ rows_kept summaries.now number }
+fn bit_sets_at(summaries: &[Summary], number: Option<u32>) -> &[NodeList]
+    ensures { lists_of result.now ≡ bit_sets_kept summaries.now number }
 {
     match number {
         Some(number) => match summaries.get(number as usize) {
@@ -92,7 +90,7 @@ fn rows_at(summaries: &[Summary], number: Option<u32>) -> &[NodeList]
 
 /// The nodes of each operation's results, in order, after those of the ports.
 fn spans_of(alloc: Global, scope: &Scope<'_>, ports: u32) -> Result<Vec<Span>, AllocError>
-    ensures { IfOk result (λ spans. AreSpans ports (sizes_in (rows_by (map (λ m. m.symbol) (modules_of scope.now.design.now)) scope.now.summaries.now) (ops_by_position (ops_of scope.now.body.now))) spans.items) }
+    ensures { IfOk result (λ spans. AreSpans ports (sizes_in (bit_sets_by (map (λ m. m.symbol) (modules_of scope.now.design.now)) scope.now.summaries.now) (ops_by_position (ops_of scope.now.body.now))) spans.items) }
 {
     let mut spans = Vec::with_capacity(alloc, scope.ids.len())?;
     let mut start = ports;
@@ -116,7 +114,7 @@ pub(crate) fn layout_of(
     scope: &Scope<'_>,
     ports: usize,
 ) -> Result<Layout, AllocError>
-    ensures layout { IfOk result (IsLayout ports (sizes_in (rows_by (map (λ m. m.symbol) (modules_of scope.now.design.now)) scope.now.summaries.now) (ops_by_position (ops_of scope.now.body.now))) (ids_of scope.now.body.now)) }
+    ensures layout { IfOk result (IsLayout ports (sizes_in (bit_sets_by (map (λ m. m.symbol) (modules_of scope.now.design.now)) scope.now.summaries.now) (ops_by_position (ops_of scope.now.body.now))) (ids_of scope.now.body.now)) }
     ensures small { OnOk result (ports < 2 ^ 32) }
 {
     let Ok(ports) = u32::try_from(ports) else {
@@ -138,8 +136,8 @@ pub(crate) fn graph_of(
     ports: usize,
     layout: &Layout,
 ) -> Result<Vec<NodeList>, AllocError>
-    requires { IsLayout ports (sizes_in (rows_by (map (λ m. m.symbol) (modules_of scope.now.design.now)) scope.now.summaries.now) (ops_by_position (ops_of scope.now.body.now))) (ids_of scope.now.body.now) layout.now }
-    ensures { IfOk result (λ graph. lists_of graph.items ≡ body_lists ports (rows_by (map (λ m. m.symbol) (modules_of scope.now.design.now)) scope.now.summaries.now) (ops_by_position (ops_of scope.now.body.now))) }
+    requires { IsLayout ports (sizes_in (bit_sets_by (map (λ m. m.symbol) (modules_of scope.now.design.now)) scope.now.summaries.now) (ops_by_position (ops_of scope.now.body.now))) (ids_of scope.now.body.now) layout.now }
+    ensures { IfOk result (λ graph. lists_of graph.items ≡ body_lists ports (bit_sets_by (map (λ m. m.symbol) (modules_of scope.now.design.now)) scope.now.summaries.now) (ops_by_position (ops_of scope.now.body.now))) }
 {
     let mut graph = empty_lists(alloc, ports)?;
     for position in 0..scope.ids.len() {
@@ -157,19 +155,19 @@ fn push_op(
     graph: &mut Vec<NodeList>,
 ) -> Result<(), AllocError>
     requires within { position < length scope.now.ids.now }
-    requires layout { IsLayout layout.now.ports (sizes_in (rows_by (map (λ m. m.symbol) (modules_of scope.now.design.now)) scope.now.summaries.now) (ops_by_position (ops_of scope.now.body.now))) (ids_of scope.now.body.now) layout.now }
-    ensures { IfOk result (λ _. lists_of graph.new.items ≡ lists_of graph.old.items ++ lists_at layout.now.ports (rows_by (map (λ m. m.symbol) (modules_of scope.now.design.now)) scope.now.summaries.now) (ops_by_position (ops_of scope.now.body.now)) position) }
+    requires layout { IsLayout layout.now.ports (sizes_in (bit_sets_by (map (λ m. m.symbol) (modules_of scope.now.design.now)) scope.now.summaries.now) (ops_by_position (ops_of scope.now.body.now))) (ids_of scope.now.body.now) layout.now }
+    ensures { IfOk result (λ _. lists_of graph.new.items ≡ lists_of graph.old.items ++ lists_at layout.now.ports (bit_sets_by (map (λ m. m.symbol) (modules_of scope.now.design.now)) scope.now.summaries.now) (ops_by_position (ops_of scope.now.body.now)) position) }
 {
     let op = op_at(scope.body, scope.ids, position);
     match sort_of(op.kind) {
         Sort::Register | Sort::Gives => Ok(()),
         Sort::Made => push_made(alloc, layout, op.operands, op.results.len(), graph),
         Sort::Calls(instance) => {
-            let rows = rows_at(
+            let bit_sets = bit_sets_at(
                 scope.summaries,
                 scope.design.find(instance.symbol.as_bytes()),
             );
-            push_instance(alloc, layout, op.operands, rows, graph)
+            push_instance(alloc, layout, op.operands, bit_sets, graph)
         }
     }
 }
@@ -243,7 +241,7 @@ fn picked_nodes(
 
 /// The node of the operand of a number, where it has one.
 fn picked_node(layout: &Layout, operands: &[Value], number: u32) -> Option<u32>
-    ensures { result ≡ bind (slice_get operands.now number) (value_node layout.now) }
+    ensures { result ≡ option_and_then (value_node layout.now) (slice_get operands.now number) }
 {
     match operands.get(number as usize) {
         Some(value) => node_of(layout, *value),

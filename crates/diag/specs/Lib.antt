@@ -1,4 +1,5 @@
 -- The words of this crate's contracts.
-pub mod Place
+pub mod Location
 pub mod Cause
 pub mod Line
+pub mod Puts

@@ -26,5 +26,5 @@ shown_name name = if pointwise nat_eq name (codes "-") then codes "<stdin>" else
 -- NAME:LINE:COL: error: 'OPERATION' CODE: TEXT, and the end of the line
 abbrev pub refusal_line : List ℕ → List ℕ → Refusal → List ℕ
 refusal_line name source refusal =
-    (shown_name name ++ (codes ":" ++ decimal refusal.place.line)) ++ ((codes ":" ++ (decimal refusal.place.col ++ codes ": error: '"))
+    (shown_name name ++ (codes ":" ++ decimal refusal.location.line)) ++ ((codes ":" ++ (decimal refusal.location.col ++ codes ": error: '"))
     ++ ((operation_of refusal.op source ++ (codes "' " ++ code_of refusal.cause)) ++ (codes ": " ++ (text_of refusal.cause ++ codes "\n"))))

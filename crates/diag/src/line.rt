@@ -1,7 +1,8 @@
 //! The line that says what is refused.
-ghost use Rattle.std.specs.Prelude.{◌≡◌, ◌++◌, OnOk, OnErr};
-ghost use Rattle.io_edge.specs.Bytes.{Appends, AppendsFront};
+ghost use Rattle.std.specs.Prelude.{◌≡◌, ◌++◌, OnOk, OnErr, is_ok};
+ghost use Rattle.io_edge.specs.Bytes.{Appends, AppendsPrefix};
 ghost use Rattle.io_edge.specs.Faults.{HasCause};
+ghost use Rattle.diag.specs.Puts.{GoesOut};
 ghost use Rattle.diag.specs.Line.{operation_of, shown_name, refusal_line, IsWithin};
 
 use crate::refusal::{OpName, Refusal};
@@ -11,7 +12,7 @@ use itoa::Buffer;
 /// Sends the line of a refusal: `NAME:LINE:COL: error: 'OPERATION' CODE: TEXT`, and the end of the
 /// line. `name` is the file's, of which `-` is shown as `<stdin>`, and `source` is the text in which
 /// an operation that is not listed stands. It takes no memory, and fails exactly as the sink does:
-/// a front of the line was sent then.
+/// a prefix of the line was sent then.
 pub fn refusal_text<S: Sink>(
     sink: &mut S,
     name: &str,
@@ -20,13 +21,14 @@ pub fn refusal_text<S: Sink>(
 ) -> Result<(), Failed>
     requires { IsWithin r.now.op source.now }
     ensures ok { OnOk result (Appends (S.told sink.old) (S.told sink.new) (refusal_line name.now source.now r.now)) }
-    ensures err { OnErr result (AppendsFront (S.told sink.old) (S.told sink.new) (refusal_line name.now source.now r.now)) }
+    ensures err { OnErr result (AppendsPrefix (S.told sink.old) (S.told sink.new) (refusal_line name.now source.now r.now)) }
     ensures cause { HasCause (S.faults sink.old) (S.faults sink.new) result }
+    ensures puts { GoesOut S.puts sink.old (refusal_line name.now source.now r.now) (is_ok result) sink.new }
 {
     let mut line = Buffer::new();
     let mut col = Buffer::new();
-    let line = line.format(r.place.line).as_bytes();
-    let col = col.format(r.place.col).as_bytes();
+    let line = line.format(r.location.line).as_bytes();
+    let col = col.format(r.location.col).as_bytes();
     match put_three(sink, display_name(name.as_bytes()), b":", line) {
         Ok(()) => {}
         Err(failed) => return Err(failed),
@@ -74,8 +76,9 @@ pub fn put_three<S: Sink>(
     third: &[u8],
 ) -> Result<(), Failed>
     ensures ok { OnOk result (Appends (S.told sink.old) (S.told sink.new) (first.now ++ (second.now ++ third.now))) }
-    ensures err { OnErr result (AppendsFront (S.told sink.old) (S.told sink.new) (first.now ++ (second.now ++ third.now))) }
+    ensures err { OnErr result (AppendsPrefix (S.told sink.old) (S.told sink.new) (first.now ++ (second.now ++ third.now))) }
     ensures cause { HasCause (S.faults sink.old) (S.faults sink.new) result }
+    ensures puts { GoesOut S.puts sink.old (first.now ++ (second.now ++ third.now)) (is_ok result) sink.new }
 {
     match put_all(sink, first) {
         Ok(()) => {}

@@ -1,14 +1,14 @@
-//! A refusal and its place.
+//! A refusal and its location.
 ghost use Rattle.std.specs.Prelude.{◌≡◌};
-ghost use Rattle.diag.specs.Place.{start_place, next_place, further};
+ghost use Rattle.diag.specs.Location.{start_location, next_location, further};
 
 use crate::cause::Cause;
 use opcode::listed::Listed;
 
-/// A place in a text: its line, and its column in bytes, both from 1. Each saturates at the end
+/// A location in a text: its line, and its column in bytes, both from 1. Each saturates at the end
 /// of a u32, which a text of less than 2^32 bytes does not reach.
 #[derive(Clone, Copy, PartialEq, Eq)]
-pub struct Place {
+pub struct Location {
     pub line: u32,
     pub col: u32,
 }
@@ -24,39 +24,39 @@ pub enum OpName {
     Other { at: u64, len: u64 },
 }
 
-/// A refusal: the number of its file, the place there, the operation and the cause.
+/// A refusal: the number of its file, the location there, the operation and the cause.
 #[derive(Clone, Copy, PartialEq, Eq)]
 pub struct Refusal {
     pub file: u32,
-    pub place: Place,
+    pub location: Location,
     pub op: OpName,
     pub cause: Cause,
 }
 
-impl Place {
-    /// The place of a text's first byte.
-    pub fn start() -> Place
-        ensures { result ≡ start_place }
+impl Location {
+    /// The location of a text's first byte.
+    pub fn start() -> Location
+        ensures { result ≡ start_location }
     {
-        Place { line: 1, col: 1 }
+        Location { line: 1, col: 1 }
     }
 
-    /// The place of the first byte of the next line.
-    pub fn next_line(self) -> Place
-        ensures { result ≡ next_place self 10 }
+    /// The location of the first byte of the next line.
+    pub fn next_line(self) -> Location
+        ensures { result ≡ next_location self 10 }
     {
-        Place {
+        Location {
             line: self.line.saturating_add(1),
             col: 1,
         }
     }
 
-    /// The place `count` bytes further on the same line.
-    pub fn along(self, count: usize) -> Place
+    /// The location `count` bytes further on the same line.
+    pub fn along(self, count: usize) -> Location
         ensures { result ≡ further self count }
     {
         let col = (self.col as usize).saturating_add(count);
-        Place {
+        Location {
             line: self.line,
             col: col.min(u32::MAX as usize) as u32,
         }

@@ -5,7 +5,7 @@ use denote.Param.Send.{IsSync, recorded_sync, struct_sync, shr_sync}
 use Rattle.std.proofs.Crossing.{Vec-sync}
 use Rattle.io_edge.specs.contracts.byte_text.Text as text
 use Rattle.io_edge.proofs.byte_text.Text.TheSendSync as text_laws
-use Rattle.thread_laws.proofs.Designs.{design_sync}
+use Rattle.ir_store.proofs.ThreadDesigns.{design_sync}
 use Rattle.export_verilog.specs.contracts.named_design.PortNames as port_names
 use Rattle.export_verilog.proofs.named_design.PortNames.TheSendSync as port_names_laws
 use Rattle.export_verilog.specs.contracts.named_design.NamedDesign as named

@@ -12,7 +12,7 @@ use Rattle.verilog_model.specs.Tree.Expr.{name}
 use Rattle.verilog_model.specs.Tree.Block.{load, if_load, if_else, if_else_if, async_reset}
 use Rattle.verilog_model.specs.Tree.Item.{wire, reg, assign, always, instance}
 use Rattle.name_legalise.specs.Legal.{legal}
-use Rattle.verilog_expr.specs.Numerals.{high_of}
+use Rattle.verilog_model.specs.Digits.{high_of}
 use Rattle.verilog_expr.specs.Building.{no_expr}
 use Rattle.verilog_expr.specs.Expressions.{expr_to, own_expr, constant_expr}
 use Rattle.verilog_expr.specs.Spilling.{height_limit}

@@ -7,7 +7,7 @@ use Rattle.verilog_model.specs.Tree.Expr.{name}
 use Rattle.verilog_model.specs.Tree.Block.{load, if_load, if_else, if_else_if, async_reset}
 use Rattle.verilog_model.specs.Tree.Item.{wire, reg, assign, always, instance}
 use Rattle.verilog_model.specs.Grammar.{direction}
-use Rattle.verilog_expr.specs.Text.{expr_text}
+use Rattle.verilog_model.specs.Text.{expr_text}
 use Rattle.export_verilog.specs.Exported.{tree_of}
 
 abbrev pub Text : Type 0
@@ -40,7 +40,7 @@ load_text indent l bs = indent ++ (l.target ++ (codes " <= " ++ expr_text l.valu
 
 -- `    if (rst)`
 unfoldable pub if_text : Text → Expr → Text → Text
-if_text front e bs = front ++ (codes "if (" ++ expr_text e (41 ∷ 10 ∷ bs))
+if_text prefix e bs = prefix ++ (codes "if (" ++ expr_text e (41 ∷ 10 ∷ bs))
 
 -- what stands after the clock's name: a second event where there is one, and `)`
 unfoldable pub event_text : Block → Text → Text

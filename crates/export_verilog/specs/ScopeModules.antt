@@ -12,5 +12,5 @@ scope_module s = record {
   ports = scope_ports s;
   dictionary = [];
   body = scope_ops s;
-  place = record { line = 0; col = 0 };
+  location = record { line = 0; col = 0 };
 }

@@ -5,7 +5,7 @@ use Rattle.hw_model.specs.Design.{Port}
 use Rattle.verilog_model.specs.Tree.{Expr, VPort, Load, Block, Connection}
 use Rattle.verilog_model.specs.Tree.Expr.{name}
 use Rattle.verilog_model.specs.Tree.Block.{load, if_load, if_else, if_else_if, async_reset}
-use Rattle.verilog_expr.specs.Numerals.{high_of}
+use Rattle.verilog_model.specs.Digits.{high_of}
 use Rattle.export_verilog.specs.Layout.{Text, load_text, if_text, port_lines, connection_lines}
 
 -- ---- expressions

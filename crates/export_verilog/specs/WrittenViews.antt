@@ -2,8 +2,8 @@
 use Rattle.std.specs.Prelude.{option_map}
 use Rattle.verilog_model.specs.Tree.{Block}
 use Rattle.export_verilog.specs.Written.{WrittenReset, written_block}
-use Rattle.export_verilog.specs.declared.blocks.Reset.{Reset}
-use Rattle.export_verilog.specs.declared.blocks.Clocked.{Clocked}
+use Rattle.export_verilog.specs.declared.always_blocks.Reset.{Reset}
+use Rattle.export_verilog.specs.declared.always_blocks.Clocked.{Clocked}
 
 -- what resets a register
 abbrev pub reset_of : Reset → WrittenReset

@@ -5,16 +5,14 @@ ghost use Rattle.ir_store.specs.Designs.{port_of};
 ghost use Rattle.ir_store.specs.Numbered.{position_of};
 ghost use Rattle.verilog_expr.specs.Scopes.{scope_ids, scope_ref};
 ghost use Rattle.verilog_expr.specs.Named.{named_of};
-ghost use Rattle.verilog_expr.specs.Text.{expr_text};
-ghost use Rattle.verilog_model.specs.Tree.Item.{instance};
-ghost use Rattle.export_verilog.specs.Layout.{item_text};
+ghost use Rattle.verilog_model.specs.Text.{expr_text};
+ghost use Rattle.export_verilog.specs.Layout.{connection_text};
 ghost use Rattle.export_verilog.specs.Exported.{expr_or_none};
 ghost use Rattle.export_verilog.specs.Identifiers.{name_or_nothing};
 ghost use Rattle.export_verilog.specs.Values.{value_expr};
-ghost use Rattle.export_verilog.specs.Written.{connections_left};
+ghost use Rattle.export_verilog.specs.Written.{connections_left, written_connection};
 ghost use Rattle.export_verilog.specs.Joined.{connections_from};
 
-use crate::instances::{push_begin, push_connection, push_end, push_head};
 use crate::module_writer::ModuleWriter;
 use crate::ports::line_end;
 use crate::values::{name_text, used_text};
@@ -32,7 +30,7 @@ fn count_if(number: usize, more: bool) -> usize
 }
 
 // The text of an operand by its number; of one that is not there, that of no expression.
-#[tactic(auto, unfolding(verilog_expr::specs::Text::expr_text))]
+#[tactic(auto, unfolding(verilog_model::specs::Text::expr_text))]
 pub fn operand_text(
     writer: &ModuleWriter<'_>,
     operands: &[Value],
@@ -74,6 +72,26 @@ fn joined_text(
     }
 }
 
+// Adds the connection of a port to an expression that is already written, and what stands after it (12.3.6: connecting
+// module instance ports by name).
+#[tactic(auto, using(std::proofs::Common::append_assoc), unfolding(crate::specs::Layout::connection_text, verilog_model::specs::Text::expr_text))]
+fn push_connection(
+    out: &mut Text,
+    port: &[u8],
+    value: &[u8],
+    following: &[u8],
+) -> Result<(), AllocError>
+    ensures { OnOk result (out.new ≡ out.old ++ connection_text (written_connection port.now value.now) following.now) }
+{
+    out.push_bytes(b"    .")?;
+    out.push_bytes(port)?;
+    out.push_bytes(b"(")?;
+    out.push_bytes(value)?;
+    out.push_bytes(b")")?;
+    out.push_bytes(following)?;
+    Ok(())
+}
+
 /// Adds the connections of an instance to the ports of its module, which have names. The error is out of
 /// memory.
 pub fn push_connections(
@@ -101,35 +119,5 @@ pub fn push_connections(
         results = count_if(results, is_output);
         inputs = count_if(inputs, !is_output);
     }
-    Ok(())
-}
-
-/// The names that stand at the head of an instance.
-#[derive(Clone, Copy)]
-pub struct InstanceHead<'n> {
-    /// The name of its module.
-    pub module: &'n [u8],
-    /// Its own name.
-    pub name: &'n [u8],
-}
-
-/// Adds an instance of a module, whose ports have names, under its own name (12.1.2: module instantiation). The error is
-/// out of memory.
-pub fn push_instance(
-    writer: &ModuleWriter<'_>,
-    out: &mut Text,
-    id: OpId,
-    operands: &[Value],
-    ports: &[Port],
-    port_names: &[Text],
-    head: &InstanceHead<'_>,
-) -> Result<(), AllocError>
-    requires { length port_names.now ≡ length ports.now }
-    ensures { OnOk result (out.new ≡ out.old ++ item_text (instance head.now.module.now head.now.name.now (connections_from (value_expr writer.now.scope writer.now.names.values) (λ k. name_or_nothing (named_of writer.now.names.values (result_ref (position_of (scope_ids writer.now.scope) id.index) k))) 0 port_names.now (map port_of ports.now) (map (scope_ref writer.now.scope) operands.now))) []) }
-{
-    push_head(out, head.module, head.name)?;
-    push_begin(out, ports.len() > 0)?;
-    push_connections(writer, out, id, operands, ports, port_names)?;
-    push_end(out, ports.len() > 0)?;
     Ok(())
 }

@@ -2,8 +2,8 @@
 #![tactic(auto)]
 
 mod acceptance;
+mod always_blocks;
 mod assigns;
-mod blocks;
 mod body_names;
 mod called;
 mod connections;
@@ -21,7 +21,7 @@ mod name_hints;
 mod named_design;
 mod op_names;
 mod ports;
-mod register_blocks;
+mod register_statements;
 mod statements;
 mod values;
 

@@ -1,13 +1,13 @@
 //! Lines of a module that stand alone: declarations and assignments.
 ghost use Rattle.std.specs.Prelude.{◌≡◌, ◌++◌, [], OnOk};
 ghost use Rattle.verilog_model.specs.Tree.Item.{wire, reg, assign};
-ghost use Rattle.verilog_expr.specs.Numerals.{high_of};
+ghost use Rattle.verilog_model.specs.Digits.{high_of};
 ghost use Rattle.export_verilog.specs.Layout.{range_text, item_text};
 ghost use Rattle.export_verilog.specs.Written.{verbatim};
 
 use io_edge::byte_text::Text;
 use std::alloc::AllocError;
-use verilog_expr::{high_of, push_decimal};
+use verilog_model::{high_of, push_decimal};
 
 /// Adds the range of so many bits, and a name with what stands after it (IEEE 1364-2005, 3.3: vectors).
 #[tactic(auto, using(std::proofs::Common::append_assoc), unfolding(crate::specs::Layout::range_text))]
@@ -59,7 +59,7 @@ pub fn push_reg(out: &mut Text, width: u64, name: &[u8]) -> Result<(), AllocErro
 }
 
 /// Adds an assignment to a net, of an expression that is already written (6.1: continuous assignments).
-#[tactic(auto, using(std::proofs::Common::append_assoc), unfolding(crate::specs::Layout::item_text, verilog_expr::specs::Text::expr_text))]
+#[tactic(auto, using(std::proofs::Common::append_assoc), unfolding(crate::specs::Layout::item_text, verilog_model::specs::Text::expr_text))]
 pub fn push_assign(out: &mut Text, name: &[u8], value: &[u8]) -> Result<(), AllocError>
     ensures { OnOk result (out.new ≡ out.old ++ item_text (assign name.now (verbatim value.now)) []) }
 {

@@ -13,13 +13,13 @@ ghost use Rattle.export_verilog.specs.EmissionViews.{emission_seen};
 ghost use Rattle.export_verilog.specs.ScopeModules.{scope_module};
 
 use crate::assigns::push_net;
-use crate::connections::{InstanceHead, push_instance};
 use crate::declarations::push_declared;
+use crate::instances::{InstanceHead, push_instance};
 use crate::legal_names::port_names;
 use crate::module_writer::ModuleWriter;
 use crate::name_hints::Emission;
 use crate::named_design::{NamedDesign, names_in};
-use crate::register_blocks::push_register;
+use crate::register_statements::push_register;
 use crate::values::name_text;
 use hw_model::kinds::OpKind;
 use io_edge::byte_text::Text;

@@ -1,12 +1,12 @@
 -- An element of an array that was made of elements: the operand that is it stands for it.
-use Rattle.std.proofs.Common.{◌≡◌, ℕ, zero, suc, ◌+◌, ◌*◌, ◌<◌, ◌≤◌, Bool, true, false, cond, nat_eq, List, [], ◌∷◌, ◌++◌, length, map, Option, Some, slice_get, refl, sym, ap, ap₂, subst, ◌∙◌, inl, inr, arith, length-append, add_comm, zero-mul}
+use Rattle.std.proofs.Common.{◌≡◌, ℕ, zero, suc, ◌+◌, ◌*◌, ◌<◌, ◌≤◌, Bool, true, false, cond, nat_eq, List, [], ◌∷◌, ◌++◌, length, map, Option, Some, slice_get, refl, sym, ap, ap₂, subst, ◌∙◌, inl}
+use Rattle.std.proofs.Common.{inr, arith, length-append, add_comm, zero-mul, option_and_then}
 use Rattle.std.proofs.Math.Nat.{suc-mul, mul-le-mul_right}
 use Rattle.std.proofs.lemmas.Bool.{lt-ltb}
 use Rattle.std.proofs.lemmas.List.{length-map}
-use Rattle.wiring.specs.Options.{bind}
 use Rattle.wiring.specs.Wiring.{In}
 use Rattle.wiring.proofs.Members.{In-map}
-use Rattle.wiring.proofs.Options.{bind_some}
+use Rattle.wiring.proofs.Options.{and_then_some}
 use Rattle.bits_core.specs.Word.{Word, number, zeros, extract as bits_from}
 use Rattle.bits_core.proofs.First.{extract-append}
 use Rattle.hw_model.specs.Equality.{number_from}
@@ -104,8 +104,8 @@ indexed : (os : List Op) (rs : List Ref) (x : Ref) → element_of_made os rs ≡
 indexed os [] x is = cc
 indexed os (a ∷ []) x is = cc
 indexed os (a ∷ i ∷ []) x is =
-    let word = bind_some (constant_at os i) (λ (w : Word). bind (maker os a) (λ (c : Op). created_element (number w) c.kind c.operands)) is in
-    let found = bind_some (maker os a) (λ (c : Op). created_element (number word.0) c.kind c.operands) word.2 in
+    let word = and_then_some (constant_at os i) (λ (w : Word). option_and_then (λ (c : Op). created_element (number w) c.kind c.operands) (maker os a)) is in
+    let found = and_then_some (maker os a) (λ (c : Op). created_element (number word.0) c.kind c.operands) word.2 in
     let place = made_result os a found.0 found.1 in
     let parts = create_is (number word.0) found.0.kind found.0.operands x found.2 in
     record {

@@ -1,7 +1,6 @@
 -- A mux with a constant condition, of one value, or of true and false: what stands for it.
-use Rattle.std.proofs.Common.{◌≡◌, Bool, true, false, cond, ◌&&◌, List, [], ◌∷◌, length, Option, Some, refl, sym, ap, ap₂, subst, ◌∙◌, inl, inr, arith}
-use Rattle.wiring.specs.Options.{omap}
-use Rattle.wiring.proofs.Options.{omap_some}
+use Rattle.std.proofs.Common.{◌≡◌, Bool, true, false, cond, ◌&&◌, List, [], ◌∷◌, length, Option, Some, refl, sym, ap, ap₂, subst, ◌∙◌, inl, inr, arith, option_map}
+use Rattle.wiring.proofs.Options.{option_map_some}
 use Rattle.bits_core.specs.Word.{Word, flag}
 use Rattle.bits_core.specs.SameWord.{same_from_test}
 use Rattle.hw_model.specs.Equality.{both_of, number_from}
@@ -32,9 +31,9 @@ mux_types c x y t same = record { condition = cc; first = cc; second = cc }
 -- ---- a constant condition
 
 constant_stands : (os : List Op) (ts : List HwType) (c x y v : Ref) (type_of : Ref → Option HwType) (t : HwType)
-    → omap (λ w. cond (is_high w) x y) (constant_at os c) ≡ Some v → Known os mux ts (c ∷ x ∷ y ∷ []) type_of t → Stands os mux ts (c ∷ x ∷ y ∷ []) v type_of t
+    → option_map (λ w. cond (is_high w) x y) (constant_at os c) ≡ Some v → Known os mux ts (c ∷ x ∷ y ∷ []) type_of t → Stands os mux ts (c ∷ x ∷ y ∷ []) v type_of t
 constant_stands os ts c x y v type_of t is known =
-    let word = omap_some (λ w. cond (is_high w) x y) (constant_at os c) is in
+    let word = option_map_some (λ w. cond (is_high w) x y) (constant_at os c) is in
     let types = mux_types (type_of c) (type_of x) (type_of y) t known.fits in
     go word.0 word.1 types (is_high word.0) refl word.2
   where
@@ -61,7 +60,7 @@ mux_constant_stands = record { made = made; stands = stands }
     stands : (os : List Op) (kind : Kind) (ts : List HwType) (rs : List Ref) (x : Ref) (type_of : Ref → Option HwType) (t : HwType)
         → mux_constant os kind ts rs ≡ Some x → Known os kind ts rs type_of t → Stands os kind ts rs x type_of t
     stands os mux ts rs x type_of t is known =
-        let three = three_are (λ c x y. omap (λ w. cond (is_high w) x y) (constant_at os c)) rs x is in
+        let three = three_are (λ c x y. option_map (λ w. cond (is_high w) x y) (constant_at os c)) rs x is in
         subst (λ q. Stands os mux ts q x type_of t) (sym three.operands)
         (constant_stands os ts three.condition three.first three.second x type_of t three.chosen (subst (λ q. Known os mux ts q type_of t) three.operands known))
     stands os _ ts rs x type_of t is known = cc

@@ -1,12 +1,11 @@
 -- A constant before another operand may be moved to the end: the value stays, and fewer constants stand before other operands.
-use Rattle.std.proofs.Common.{◌≡◌, ℕ, zero, suc, ◌+◌, ◌<◌, ◌≤◌, Bool, true, false, cond, not, ◌&&◌, ◌||◌, List, [], ◌∷◌, ◌++◌, length, map, set, Some, slice_get, refl, sym, ap, ap₂, subst, ◌∙◌, inl, inr, arith, length-append}
+use Rattle.std.proofs.Common.{◌≡◌, ℕ, zero, suc, ◌+◌, ◌<◌, ◌≤◌, Bool, true, false, cond, not, ◌&&◌, ◌||◌, List, [], ◌∷◌, ◌++◌, length, map, set, Some, slice_get, refl, sym, ap, ap₂, subst, ◌∙◌, inl, inr, arith, length-append, option_map}
 use Rattle.std.specs.Prelude.{is_some}
 use Rattle.std.proofs.lemmas.List.{map-append}
 use mathlib.Core.Path.{fun_ext}
-use Rattle.wiring.specs.Options.{omap}
 use Rattle.wiring.specs.Wiring.{In}
 use Rattle.wiring.proofs.Members.{In-append_cases}
-use Rattle.wiring.proofs.Options.{omap_some}
+use Rattle.wiring.proofs.Options.{option_map_some}
 use Rattle.bits_core.specs.Word.{Word}
 use Rattle.hw_model.specs.Equality.{both_of}
 use Rattle.hw_model.specs.Kinds.{Variadic}
@@ -90,14 +89,14 @@ module _ (test : Ref → Bool) where
   moves_last [] rs' is = cc
   moves_last (x ∷ xs) rs' is = go (test x && has_other test xs) refl is (moves_last xs)
     where
-      go : (b : Bool) → (test x && has_other test xs) ≡ b → cond b (Some (xs ++ x ∷ [])) (omap (λ (ys : List Ref). x ∷ ys) (with_first_last test xs)) ≡ Some rs'
+      go : (b : Bool) → (test x && has_other test xs) ≡ b → cond b (Some (xs ++ x ∷ [])) (option_map (λ (ys : List Ref). x ∷ ys) (with_first_last test xs)) ≡ Some rs'
           → ((ys : List Ref) → with_first_last test xs ≡ Some ys → MovesLast test xs ys) → MovesLast test (x ∷ xs) rs'
       go true both h later =
           let parts = both_of (test x) (has_other test xs) both in
           let same : xs ++ x ∷ [] ≡ rs' = cc in
           subst (MovesLast test (x ∷ xs)) same (moved_here x xs parts.0 parts.1)
       go false both h later =
-          let rest = omap_some (λ (ys : List Ref). x ∷ ys) (with_first_last test xs) h in
+          let rest = option_map_some (λ (ys : List Ref). x ∷ ys) (with_first_last test xs) h in
           subst (MovesLast test (x ∷ xs)) rest.2 (moved_later x xs rest.0 (later rest.0 rest.1))
 
 -- ---- the body

@@ -1,6 +1,5 @@
 -- Values that are constants: their types, and that every map under which the body holds has their words.
-use Rattle.std.proofs.Common.{◌≡◌, ℕ, zero, suc, ◌+◌, ◌^◌, ◌≤◌, ℤ, Bool, true, false, List, length, map, Option, Some, None, slice_get, refl, sym, ap, ◌∙◌, arith}
-use Rattle.wiring.specs.Options.{bind}
+use Rattle.std.proofs.Common.{◌≡◌, ℕ, zero, suc, ◌+◌, ◌^◌, ◌≤◌, ℤ, Bool, true, false, List, length, map, Option, Some, None, slice_get, refl, sym, ap, ◌∙◌, arith, option_and_then}
 use Rattle.wiring.specs.Wiring.{greatest}
 use Rattle.bits_core.specs.Word.{Word, number, bits, bits_of_ℤ, zeros, ones}
 use Rattle.bits_core.proofs.Complement.{length-bits_of_ℤ}
@@ -15,9 +14,9 @@ use Rattle.hw_model.specs.Design.{Ref, Port, Op, result_type}
 use Rattle.hw_model.specs.Design.Ref.{port, result, undefined}
 use Rattle.hw_model.specs.Value.{op_value}
 use Rattle.hw_model.specs.Sound.{type_in}
-use Rattle.hw_edits.specs.Edit.{result_word, word_of, HoldsBut}
-use Rattle.hw_edits.specs.Falls.{LocalHeight}
-use Rattle.hw_edits.proofs.ChangeInPlace.{plain_word}
+use Rattle.edit_laws.specs.Edit.{result_word, word_of, HoldsBut}
+use Rattle.edit_laws.specs.Falls.{LocalHeight}
+use Rattle.edit_laws.proofs.ChangeInPlace.{plain_word}
 use Rattle.fold_laws.specs.Constants.{constant_word, first_result_word, constant_at, meets, is_zero, is_one, is_ones}
 use Rattle.fold_laws.proofs.MadeKinds.{is_made, anchors_kind}
 
@@ -44,7 +43,7 @@ constant_typed ports os undefined w is = cc
 constant_typed ports os (result j (suc k)) w is = cc
 constant_typed ports os (result j zero) w is = go (slice_get os j) is
   where
-    go : (x : Option Op) → first_result_word x ≡ Some w → bind x (λ (o : Op). result_type o 0) ≡ Some (int (length w))
+    go : (x : Option Op) → first_result_word x ≡ Some w → option_and_then (λ (o : Op). result_type o 0) x ≡ Some (int (length w))
     go None is = cc
     go (Some o) is =
         let here = integer_of o.kind (result_type o 0) w is in

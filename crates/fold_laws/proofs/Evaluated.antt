@@ -1,8 +1,7 @@
 -- An operation on integers whose operands all are constants may become the constant of its value.
-use Rattle.std.proofs.Common.{◌≡◌, ℕ, ◌^◌, ◌<◌, ◌≤◌, max, Bool, true, false, cond, List, [], ◌∷◌, length, map, Option, Some, None, refl, sym, ap, ap₂, subst, ◌∙◌, arith}
+use Rattle.std.proofs.Common.{◌≡◌, ℕ, ◌^◌, ◌<◌, ◌≤◌, max, Bool, true, false, cond, List, [], ◌∷◌, length, map, Option, Some, None, refl, sym, ap, ap₂, subst, ◌∙◌, arith, option_map}
 use Rattle.std.specs.List.{list_any}
-use Rattle.wiring.specs.Options.{omap}
-use Rattle.wiring.proofs.Options.{bind_some, omap_some}
+use Rattle.wiring.proofs.Options.{and_then_some, option_map_some}
 use Rattle.bits_core.specs.Word.{Word, number, bits}
 use Rattle.bits_core.proofs.Numbers.{bits-number, number_below}
 use Rattle.hw_model.specs.Types.{Name, HwType, width}
@@ -15,7 +14,7 @@ use Rattle.hw_model.specs.Value.{op_value}
 use Rattle.hw_model.specs.Weight.{kind_weight}
 use Rattle.hw_model.proofs.Widths.{fits_width}
 use Rattle.ir_store.specs.ResultTypes.{first_type, result_type as type_of_result}
-use Rattle.canonical_form.specs.ResultTypes.{type_or_none}
+use Rattle.stored_form.specs.ResultTypes.{type_or_none}
 use Rattle.op_checks.specs.CountChecks.{operands_written, type_count}
 use Rattle.op_checks.specs.LimitChecks.{has_wide_concat}
 use Rattle.op_checks.specs.OperandChecks.{has_other_form}
@@ -50,8 +49,8 @@ constants_wide : (os : List Op) (type_of : Ref → Option HwType) → ((r : Ref)
     → (rs : List Ref) (ws : List Word) → constants_at os rs ≡ Some ws → HaveWidths (map type_of rs) ws
 constants_wide os type_of typed [] ws is = let none : [] ≡ ws = cc in subst (HaveWidths []) none tt
 constants_wide os type_of typed (r ∷ rs) ws is =
-    let word = bind_some (constant_at os r) (λ (w : Word). omap (λ (vs : List Word). w ∷ vs) (constants_at os rs)) is in
-    let rest = omap_some (λ (vs : List Word). word.0 ∷ vs) (constants_at os rs) word.2 in
+    let word = and_then_some (constant_at os r) (λ (w : Word). option_map (λ (vs : List Word). w ∷ vs) (constants_at os rs)) is in
+    let rest = option_map_some (λ (vs : List Word). word.0 ∷ vs) (constants_at os rs) word.2 in
     subst (HaveWidths (map type_of (r ∷ rs))) rest.2
     (subst (λ t. HasWidth t word.0) (sym (typed r word.0 word.1)) refl, constants_wide os type_of typed rs rest.0 rest.1)
 
@@ -60,8 +59,8 @@ constants_are : (os : List Op) (τ : Ref → Word) → ((r : Ref) (w : Word) →
     → (rs : List Ref) (ws : List Word) → constants_at os rs ≡ Some ws → map τ rs ≡ ws
 constants_are os τ held [] ws is = let none : [] ≡ ws = cc in none
 constants_are os τ held (r ∷ rs) ws is =
-    let word = bind_some (constant_at os r) (λ (w : Word). omap (λ (vs : List Word). w ∷ vs) (constants_at os rs)) is in
-    let rest = omap_some (λ (vs : List Word). word.0 ∷ vs) (constants_at os rs) word.2 in
+    let word = and_then_some (constant_at os r) (λ (w : Word). option_map (λ (vs : List Word). w ∷ vs) (constants_at os rs)) is in
+    let rest = option_map_some (λ (vs : List Word). word.0 ∷ vs) (constants_at os rs) word.2 in
     ap₂ (λ v vs. v ∷ vs) (held r word.0 word.1) (constants_are os τ held rs rest.0 rest.1) ∙ rest.2
 
 -- ---- the result
@@ -82,9 +81,9 @@ integer_branch : (os : List Op) (type_of : Ref → Option HwType) (t : HwType) �
 integer_branch os type_of t typed [] ws are fits = cc
 integer_branch os type_of t typed (c ∷ []) ws are fits = cc
 integer_branch os type_of t typed (c ∷ x ∷ rs) ws are fits =
-    let first = bind_some (constant_at os c) (λ (w : Word). omap (λ (vs : List Word). w ∷ vs) (constants_at os (x ∷ rs))) are in
-    let rest = omap_some (λ (vs : List Word). first.0 ∷ vs) (constants_at os (x ∷ rs)) first.2 in
-    let word = bind_some (constant_at os x) (λ (w : Word). omap (λ (vs : List Word). w ∷ vs) (constants_at os rs)) rest.1 in
+    let first = and_then_some (constant_at os c) (λ (w : Word). option_map (λ (vs : List Word). w ∷ vs) (constants_at os (x ∷ rs))) are in
+    let rest = option_map_some (λ (vs : List Word). first.0 ∷ vs) (constants_at os (x ∷ rs)) first.2 in
+    let word = and_then_some (constant_at os x) (λ (w : Word). option_map (λ (vs : List Word). w ∷ vs) (constants_at os rs)) rest.1 in
     let branch : type_of x ≡ Some t = cc in
     let both : Some t ≡ Some (int (length word.0)) = sym branch ∙ typed x word.0 word.1 in
     (length word.0, cc)
@@ -136,7 +135,7 @@ evaluated_makes = record { made = made; makes = makes }
     made : (os : List Op) (kind : Kind) (ts : List HwType) (t : HwType) (rs : List Ref) (n : ℕ) → value_of_constants os kind ts t rs ≡ Some n → is_made kind ≡ true
     made os kind ts t rs n is = go (is_comb kind) refl is
       where
-        go : (b : Bool) → is_comb kind ≡ b → cond b (omap (λ (ws : List Word). number (op_value kind ts t 0 ws)) (constants_at os rs)) None ≡ Some n → is_made kind ≡ true
+        go : (b : Bool) → is_comb kind ≡ b → cond b (option_map (λ (ws : List Word). number (op_value kind ts t 0 ws)) (constants_at os rs)) None ≡ Some n → is_made kind ≡ true
         go true comb h = (comb_made kind comb).0
         go false comb h = cc
 
@@ -161,8 +160,8 @@ evaluated_makes = record { made = made; makes = makes }
         → value_of_constants os kind ts t rs ≡ Some n → Known os kind ts rs type_of t → Makes os kind ts rs n type_of t
     makes os kind ts rs n type_of t is known = go (is_comb kind) refl is
       where
-        go : (b : Bool) → is_comb kind ≡ b → cond b (omap (λ (ws : List Word). number (op_value kind ts t 0 ws)) (constants_at os rs)) None ≡ Some n → Makes os kind ts rs n type_of t
+        go : (b : Bool) → is_comb kind ≡ b → cond b (option_map (λ (ws : List Word). number (op_value kind ts t 0 ws)) (constants_at os rs)) None ≡ Some n → Makes os kind ts rs n type_of t
         go true comb h =
-            let words = omap_some (λ (ws : List Word). number (op_value kind ts t 0 ws)) (constants_at os rs) h in
+            let words = option_map_some (λ (ws : List Word). number (op_value kind ts t 0 ws)) (constants_at os rs) h in
             of_comb os kind ts rs n type_of t comb words.0 words.1 words.2 known
         go false comb h = cc

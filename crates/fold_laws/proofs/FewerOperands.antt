@@ -4,7 +4,7 @@ use Rattle.std.specs.Prelude.{is_some}
 use Rattle.std.proofs.lemmas.List.{length-map}
 use Rattle.wiring.specs.Wiring.{In}
 use Rattle.wiring.proofs.Members.{In-map, from_In-map}
-use Rattle.wiring.proofs.Options.{bind_some, omap_some}
+use Rattle.wiring.proofs.Options.{and_then_some, option_map_some}
 use Rattle.bits_core.specs.Word.{Word}
 use Rattle.hw_model.specs.Types.{Name, HwType, width}
 use Rattle.hw_model.specs.Kinds.{Kind, Variadic}
@@ -20,19 +20,19 @@ use Rattle.op_checks.specs.OwnChecks.{own_cause}
 use Rattle.op_checks.proofs.NoOwnCause.{NoOwnCause}
 use Rattle.op_verifier.specs.OpChecks.{has_again, has_undefined, settled_type, divides_by_constant, value_cause, alone_cause}
 use Rattle.op_verifier.proofs.NoCauseAlone.{types_of}
-use Rattle.printable_designs.specs.Printable.{IsPrintableOp, settled_result}
-use Rattle.printable_designs.proofs.VerifiedDesigns.{all_defined}
-use Rattle.hw_edits.specs.Edit.{result_word, HoldsBut}
-use Rattle.hw_edits.specs.Falls.{LocalHeight}
-use Rattle.hw_edits.specs.Follows.{Wide}
-use Rattle.hw_edits.specs.Laws.{with_body, InPlace}
-use Rattle.hw_edits.proofs.ChangeInPlace.{replace_op_preserves}
-use Rattle.hw_edits.proofs.Uses.{operand_lower}
-use Rattle.hw_edits.proofs.Weights.{place_is_lighter}
-use Rattle.accepted_edits.specs.Forms.{InPlaceFits}
-use Rattle.accepted_edits.specs.Keeps.{IsFit}
-use Rattle.accepted_edits.proofs.ChangedInPlace.{fit_in_place}
-use Rattle.accepted_edits.proofs.FitBodies.{operand_there, settled_here}
+use Rattle.printing_laws.specs.Printable.{IsPrintableOp, settled_result}
+use Rattle.printing_laws.proofs.VerifiedDesigns.{all_defined}
+use Rattle.edit_laws.specs.Edit.{result_word, HoldsBut}
+use Rattle.edit_laws.specs.Falls.{LocalHeight}
+use Rattle.edit_laws.specs.Follows.{Wide}
+use Rattle.edit_laws.specs.Laws.{with_body, InPlace}
+use Rattle.edit_laws.proofs.ChangeInPlace.{replace_op_preserves}
+use Rattle.edit_laws.proofs.Uses.{operand_lower}
+use Rattle.edit_laws.proofs.Weights.{place_is_lighter}
+use Rattle.acceptance_laws.specs.Forms.{InPlaceFits}
+use Rattle.acceptance_laws.specs.Keeps.{IsFit}
+use Rattle.acceptance_laws.proofs.ChangedInPlace.{fit_in_place}
+use Rattle.acceptance_laws.proofs.FitBodies.{operand_there, settled_here}
 use Rattle.pass_laws.specs.Steady.{IsSteady}
 use Rattle.pass_laws.proofs.Shapes.{shape_set}
 use Rattle.pass_laws.proofs.Steady.{steady_with_body}
@@ -44,7 +44,7 @@ use Rattle.fold_laws.specs.Fold.{kind_measure, IsSmaller, IsFold, FoldLaw}
 use Rattle.fold_laws.proofs.Constants.{constant_held}
 use Rattle.fold_laws.proofs.MadeKinds.{is_made, made_no_constant, made_no_number}
 use Rattle.fold_laws.proofs.Measures.{measure_changed}
-use Rattle.fold_laws.proofs.Rows.{RowLaw, row_is_fold}
+use Rattle.fold_laws.proofs.Patterns.{PatternLaw, pattern_is_fold}
 use Rattle.fold_laws.proofs.Stands.{op_found, op_plain, op_own, op_printable, op_results}
 use Rattle.fold_laws.proofs.VariadicCauses.{variadic_none}
 
@@ -235,20 +235,20 @@ abbrev pub OperandsLaw : Operands → Type 0
 OperandsLaw change = (ports : List Port) (os : List Op) (i : ℕ) (o : Op) (v : Variadic) (rs : List Ref) → slice_get os i ≡ Some o → o.kind ≡ variadic v
     → change os v o.operands ≡ Some rs → KeepsValue ports v os o.operands rs × IsSmaller (set os i (record o { operands = rs })) os
 
-operands_row : (change : Operands) → OperandsLaw change → RowLaw (by_operands change)
-operands_row change shown d k md i es fit at is =
-    let found = bind_some (slice_get md.body i) (λ (o : Op). with_fewer change md.body i o o.kind) is in
+operands_pattern : (change : Operands) → OperandsLaw change → PatternLaw (by_operands change)
+operands_pattern change shown d k md i es fit at is =
+    let found = and_then_some (slice_get md.body i) (λ (o : Op). with_fewer change md.body i o o.kind) is in
     by_kind found.0 found.1 found.0.kind refl found.2
   where
     by_kind : (o : Op) → slice_get md.body i ≡ Some o → (kind : Kind) → o.kind ≡ kind → with_fewer change md.body i o kind ≡ Some es → IsFold d k md (edited_by es md.body)
     by_kind o there (variadic v) kind made =
-        let given = omap_some (λ (rs : List Ref). changed i (record o { operands = rs }) ∷ []) (change md.body v o.operands) made in
+        let given = option_map_some (λ (rs : List Ref). changed i (record o { operands = rs }) ∷ []) (change md.body v o.operands) made in
         let owed = shown md.ports md.body i o v given.0 there kind given.1 in
         subst (λ (qs : List Edit). IsFold d k md (edited_by qs md.body)) given.2 (operands_put d fit k md at i o there v kind given.0 owed.0 owed.1)
     by_kind o there _ kind made = cc
 
 pub operands_are_fold : (change : Operands) → OperandsLaw change → FoldLaw (fold_by (by_operands change))
-operands_are_fold change shown = row_is_fold (by_operands change) (operands_row change shown)
+operands_are_fold change shown = pattern_is_fold (by_operands change) (operands_pattern change shown)
 
 pub reduction_is_fold : (change : Operands) → IsReduction change → FoldLaw (fold_by (by_operands change))
 reduction_is_fold change shown =

@@ -7,7 +7,7 @@ use Rattle.wiring.specs.Lists.{total}
 use Rattle.hw_model.specs.Types.{HwType, width}
 use Rattle.hw_model.specs.Types.HwType.{int, clock, array, struct}
 use Rattle.ir_store.specs.ResultTypes.{first_type, second_type, joined_width, kept_size, as_int}
-use Rattle.canonical_form.specs.ResultTypes.{type_or_none}
+use Rattle.stored_form.specs.ResultTypes.{type_or_none}
 use Rattle.op_checks.specs.LimitChecks.{is_too_wide}
 use Rattle.op_checks.specs.TypeChecks.{is_int, is_outside}
 use Rattle.op_checks.proofs.FitIntegers.{joined_sum}

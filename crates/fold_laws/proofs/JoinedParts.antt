@@ -1,11 +1,12 @@
 -- Bits of joined values that are one of them: that value stands for them.
-use Rattle.std.proofs.Common.{◌≡◌, ℕ, zero, suc, ◌+◌, ◌-◌, ◌≤◌, Bool, true, false, cond, not, ◌&&◌, nat_eq, List, [], ◌∷◌, ◌++◌, length, map, take, drop, Option, Some, slice_get, refl, sym, ap, ap₂, subst, ◌∙◌, inl, inr, arith, length-append}
+use Rattle.std.proofs.Common.{◌≡◌, ℕ, zero, suc, ◌+◌, ◌-◌, ◌≤◌, Bool, true, false, cond, not, ◌&&◌, nat_eq, List, [], ◌∷◌, ◌++◌, length, map, take, drop, Option, Some, slice_get, refl, sym, ap, ap₂}
+use Rattle.std.proofs.Common.{subst, ◌∙◌, inl, inr, arith, length-append}
 use Rattle.std.specs.List.{list_any}
 use Rattle.std.proofs.Math.Seq.{drop-append-add}
 use Rattle.std.proofs.lemmas.List.{length-map}
 use Rattle.wiring.specs.Lists.{total}
 use Rattle.wiring.specs.Wiring.{In}
-use Rattle.wiring.proofs.Options.{bind_some}
+use Rattle.wiring.proofs.Options.{and_then_some}
 use Rattle.bits_core.specs.Word.{Word, extract as bits_from}
 use Rattle.bits_core.proofs.First.{extract-append}
 use Rattle.hw_model.specs.Equality.{both_of, number_from}
@@ -17,7 +18,7 @@ use Rattle.hw_model.specs.Design.{Ref, Op}
 use Rattle.hw_model.specs.Design.Ref.{port, result, undefined}
 use Rattle.hw_model.specs.Value.{concat_words, nth_type, op_value}
 use Rattle.ir_store.specs.ResultTypes.{second_type, result_type as type_of_result}
-use Rattle.canonical_form.specs.ResultTypes.{type_or_none}
+use Rattle.stored_form.specs.ResultTypes.{type_or_none}
 use Rattle.op_checks.specs.CountChecks.{type_count}
 use Rattle.op_checks.specs.OperandChecks.{has_other_form, has_other_operand}
 use Rattle.op_checks.specs.TypeChecks.{is_int}
@@ -165,7 +166,7 @@ joined os low w (port j ∷ []) x is = cc
 joined os low w (undefined ∷ []) x is = cc
 joined os low w (result j (suc k) ∷ []) x is = cc
 joined os low w (result j zero ∷ []) x is =
-    let found = bind_some (slice_get os j) (λ (c : Op). joined_operand low w c.kind c.types c.operands) is in
+    let found = and_then_some (slice_get os j) (λ (c : Op). joined_operand low w c.kind c.types c.operands) is in
     let parts = joined_is low w found.0.kind found.0.types found.0.operands x found.2 in
     record { position = j; op = found.0; there = found.1; operands = refl; kind = parts.0; part_is = parts.1 }
 joined os low w (r ∷ s ∷ rs) x is = cc

@@ -1,7 +1,7 @@
 -- Lemmas.
 pub mod Measures
 pub mod Descent
-pub mod Rows
+pub mod Patterns
 pub mod MadeKinds
 pub mod Constants
 pub mod Stands
@@ -13,18 +13,18 @@ pub mod WholeValues
 pub mod Unused
 pub mod VariadicCauses
 pub mod FewerOperands
-pub mod FewerRows
+pub mod FewerPatterns
 pub mod VariadicValues
 pub mod ConstantLast
 pub mod PutIn
 pub mod TwoConstants
 pub mod Table
-pub mod AllRows
+pub mod AllPatterns
 pub mod Pairs
 pub mod NumberOps
 pub mod Numbered
 pub mod IntegerTypes
-pub mod NumberRows
+pub mod NumberPatterns
 pub mod Evaluated
 pub mod MakerOperands
 pub mod Parts

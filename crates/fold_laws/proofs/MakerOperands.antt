@@ -1,9 +1,8 @@
 -- An operand of the operation that made an operand, in the place of an only result: what must be shown of it, and that it makes a
 -- fold.
-use Rattle.std.proofs.Common.{◌≡◌, ℕ, zero, suc, ◌<◌, true, false, List, [], ◌∷◌, length, map, Option, Some, None, slice_get, sym, ap, subst, ◌∙◌, inl, arith}
-use Rattle.wiring.specs.Options.{bind, omap}
+use Rattle.std.proofs.Common.{◌≡◌, ℕ, zero, suc, ◌<◌, true, false, List, [], ◌∷◌, length, map, Option, Some, None, slice_get, sym, ap, subst, ◌∙◌, inl, arith, option_and_then, option_map}
 use Rattle.wiring.specs.Wiring.{In}
-use Rattle.wiring.proofs.Options.{bind_some, omap_some}
+use Rattle.wiring.proofs.Options.{and_then_some, option_map_some}
 use Rattle.bits_core.specs.Word.{Word}
 use Rattle.hw_model.specs.Types.{HwType}
 use Rattle.hw_model.specs.Kinds.{Kind}
@@ -12,17 +11,17 @@ use Rattle.hw_model.specs.Design.Ref.{result}
 use Rattle.hw_model.specs.Sound.{type_in}
 use Rattle.hw_model.specs.Value.{op_value}
 use Rattle.ir_store.specs.ResultTypes.{result_type as type_of_result}
-use Rattle.canonical_form.specs.ResultTypes.{type_or_none}
-use Rattle.hw_edits.specs.Edit.{result_word, word_of, HoldsBut}
-use Rattle.hw_edits.specs.Falls.{LocalHeight}
-use Rattle.hw_edits.specs.Laws.{IsNotOf, erase_op, Erased}
-use Rattle.hw_edits.proofs.ChangeInPlace.{plain_word}
-use Rattle.hw_edits.proofs.TakeOut.{erase_op_preserves}
-use Rattle.hw_edits.proofs.Uses.{own_height, operand_lower, operand_other}
-use Rattle.hw_edits.proofs.Weights.{out_is_lighter}
-use Rattle.accepted_edits.specs.Forms.{ErasedFits}
-use Rattle.accepted_edits.specs.Keeps.{IsFit}
-use Rattle.accepted_edits.proofs.TakenOut.{fit_erased}
+use Rattle.stored_form.specs.ResultTypes.{type_or_none}
+use Rattle.edit_laws.specs.Edit.{result_word, word_of, HoldsBut}
+use Rattle.edit_laws.specs.Falls.{LocalHeight}
+use Rattle.edit_laws.specs.Laws.{IsNotOf, erase_op, Erased}
+use Rattle.edit_laws.proofs.ChangeInPlace.{plain_word}
+use Rattle.edit_laws.proofs.TakeOut.{erase_op_preserves}
+use Rattle.edit_laws.proofs.Uses.{own_height, operand_lower, operand_other}
+use Rattle.edit_laws.proofs.Weights.{out_is_lighter}
+use Rattle.acceptance_laws.specs.Forms.{ErasedFits}
+use Rattle.acceptance_laws.specs.Keeps.{IsFit}
+use Rattle.acceptance_laws.proofs.TakenOut.{fit_erased}
 use Rattle.pass_laws.proofs.Shapes.{shape_erase}
 use Rattle.pass_laws.proofs.Steady.{steady_with_body}
 use Rattle.fold_laws.specs.Edits.{Edit, edited_by, fold_by}
@@ -31,7 +30,7 @@ use Rattle.fold_laws.specs.Fold.{IsFold, FoldLaw}
 use Rattle.fold_laws.specs.Standing.{Stand, by_stand}
 use Rattle.fold_laws.proofs.MadeKinds.{is_made, made_plain, made_no_constant, made_no_number}
 use Rattle.fold_laws.proofs.Measures.{measure_taken_out}
-use Rattle.fold_laws.proofs.Rows.{RowLaw, row_is_fold}
+use Rattle.fold_laws.proofs.Patterns.{PatternLaw, pattern_is_fold}
 use Rattle.fold_laws.proofs.Stands.{Known, Held, op_found, op_plain, op_typed, op_has_one, op_known, op_held}
 
 -- ---- what must be shown
@@ -65,7 +64,7 @@ module _ (d : Design) (fit : IsFit d) (k : ℕ) (md : Module) (at : slice_get d 
     (made : is_made o.kind ≡ true) (t : HwType) (typed : result_type o 0 ≡ Some t) (x : Ref) (maker : Maker md.body o.operands x) (u : HwType)
     (maker_typed : type_in md.ports md.body (result maker.position 0) ≡ Some u) where
   made_type : result_type maker.op 0 ≡ Some u
-  made_type = sym (ap (λ z. bind z (λ (y : Op). result_type y 0)) maker.there) ∙ maker_typed
+  made_type = sym (ap (λ z. option_and_then (λ (y : Op). result_type y 0) z) maker.there) ∙ maker_typed
 
   maker_other : IsNotOf i (result maker.position 0)
   maker_other =
@@ -90,7 +89,7 @@ module _ (d : Design) (fit : IsFit d) (k : ℕ) (md : Module) (at : slice_get d 
             absurd (omega arith)
         go (suc n) is =
             let clash : Some t ≡ None =
-            sym stands.typed ∙ ap (type_in md.ports md.body) is ∙ ap (λ z. bind z (λ (y : Op). result_type y (suc n))) there ∙ op_has_one d fit k md at i o there made n in
+            sym stands.typed ∙ ap (type_in md.ports md.body) is ∙ ap (λ z. option_and_then (λ (y : Op). result_type y (suc n)) z) there ∙ op_has_one d fit k md at i o there made n in
             cc
 
     maker_word : (τ : Ref → Word) → HoldsBut md.body τ (λ j. j ≡ i) → τ (result maker.position 0) ≡ result_word τ maker.op 0 (Some u)
@@ -126,10 +125,10 @@ module _ (d : Design) (fit : IsFit d) (k : ℕ) (md : Module) (at : slice_get d 
 
 -- ---- the law
 
-after_row : (stand : Stand) → IsMakerOperand stand → RowLaw (by_stand stand)
-after_row stand shown d k md i es fit at is =
-    let found = bind_some (slice_get md.body i) (λ (o : Op). omap (λ (x : Ref). erased i x ∷ []) (stand md.body o.kind o.types o.operands)) is in
-    let taken = omap_some (λ (x : Ref). erased i x ∷ []) (stand md.body found.0.kind found.0.types found.0.operands) found.2 in
+after_pattern : (stand : Stand) → IsMakerOperand stand → PatternLaw (by_stand stand)
+after_pattern stand shown d k md i es fit at is =
+    let found = and_then_some (slice_get md.body i) (λ (o : Op). option_map (λ (x : Ref). erased i x ∷ []) (stand md.body o.kind o.types o.operands)) is in
+    let taken = option_map_some (λ (x : Ref). erased i x ∷ []) (stand md.body found.0.kind found.0.types found.0.operands) found.2 in
     subst (λ (qs : List Edit). IsFold d k md (edited_by qs md.body)) taken.2 (of_op found.0 found.1 taken.0 taken.1)
   where
     of_op : (o : Op) → slice_get md.body i ≡ Some o → (x : Ref) → stand md.body o.kind o.types o.operands ≡ Some x → IsFold d k md (erase_op i x md.body)
@@ -138,7 +137,7 @@ after_row stand shown d k md i es fit at is =
         let maker = shown.maker md.body o.kind o.types o.operands x chosen in
         let typed = op_typed d fit k md at i o there made in
         let maker_type = op_typed d fit k md at maker.position maker.op maker.there maker.made in
-        let maker_typed = ap (λ z. bind z (λ (y : Op). result_type y 0)) maker.there ∙ maker_type in
+        let maker_typed = ap (λ z. option_and_then (λ (y : Op). result_type y 0) z) maker.there ∙ maker_type in
         after_taken d fit k md at i o there made (type_or_none (type_of_result o.kind o.types (length o.operands))) typed x maker
         (type_or_none (type_of_result maker.op.kind maker.op.types (length maker.op.operands))) maker_typed
         (shown.stands md.body o.kind o.types o.operands x (type_in md.ports md.body) (type_or_none (type_of_result o.kind o.types (length o.operands)))
@@ -146,4 +145,4 @@ after_row stand shown d k md i es fit at is =
         (op_known d fit k md at i o there made) maker_typed (op_known d fit k md at maker.position maker.op maker.there maker.made))
 
 pub maker_operand_is_fold : (stand : Stand) → IsMakerOperand stand → FoldLaw (fold_by (by_stand stand))
-maker_operand_is_fold stand shown = row_is_fold (by_stand stand) (after_row stand shown)
+maker_operand_is_fold stand shown = pattern_is_fold (by_stand stand) (after_pattern stand shown)

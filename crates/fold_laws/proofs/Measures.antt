@@ -5,8 +5,8 @@ use Rattle.hw_model.specs.Kinds.{Kind}
 use Rattle.hw_model.specs.Kinds.Kind.{constant}
 use Rattle.hw_model.specs.Design.{Ref, Op}
 use Rattle.hw_model.specs.Design.Ref.{undefined}
-use Rattle.hw_edits.specs.Edit.{retarget}
-use Rattle.hw_edits.specs.Laws.{without, erase_op}
+use Rattle.edit_laws.specs.Edit.{retarget}
+use Rattle.edit_laws.specs.Laws.{without, erase_op}
 use Rattle.fold_laws.specs.Fold.{kind_measure, op_measure, measure}
 
 kind_counts : (kind : Kind) (n : ℕ) → 1 ≤ kind_measure kind n

@@ -15,18 +15,18 @@ use Rattle.hw_model.specs.Sound.{type_in, Fits, OpFits}
 use Rattle.hw_model.specs.Value.{op_value}
 use Rattle.hw_model.specs.Weight.{kind_weight, body_weight}
 use Rattle.op_verifier.specs.OpChecks.{has_again, has_undefined, value_cause, alone_cause}
-use Rattle.printable_designs.specs.Printable.{IsPrintableOp}
-use Rattle.hw_edits.specs.Edit.{is_anchor, result_word, word_of, HoldsBut}
-use Rattle.hw_edits.specs.Falls.{LocalHeight}
-use Rattle.hw_edits.specs.Follows.{Wide}
-use Rattle.hw_edits.specs.Laws.{erase_op, with_body, without, InPlace}
-use Rattle.hw_edits.proofs.ChangeInPlace.{plain_word, replace_op_preserves}
-use Rattle.hw_edits.proofs.Uses.{operand_lower}
-use Rattle.hw_edits.proofs.Weights.{weight-set, weight_with_body, weight_taken_out}
-use Rattle.accepted_edits.specs.Forms.{InPlaceFits}
-use Rattle.accepted_edits.specs.Keeps.{IsFit}
-use Rattle.accepted_edits.proofs.ChangedInPlace.{fit_in_place}
-use Rattle.accepted_edits.proofs.FitBodies.{operand_there}
+use Rattle.printing_laws.specs.Printable.{IsPrintableOp}
+use Rattle.edit_laws.specs.Edit.{is_anchor, result_word, word_of, HoldsBut}
+use Rattle.edit_laws.specs.Falls.{LocalHeight}
+use Rattle.edit_laws.specs.Follows.{Wide}
+use Rattle.edit_laws.specs.Laws.{erase_op, with_body, without, InPlace}
+use Rattle.edit_laws.proofs.ChangeInPlace.{plain_word, replace_op_preserves}
+use Rattle.edit_laws.proofs.Uses.{operand_lower}
+use Rattle.edit_laws.proofs.Weights.{weight-set, weight_with_body, weight_taken_out}
+use Rattle.acceptance_laws.specs.Forms.{InPlaceFits}
+use Rattle.acceptance_laws.specs.Keeps.{IsFit}
+use Rattle.acceptance_laws.proofs.ChangedInPlace.{fit_in_place}
+use Rattle.acceptance_laws.proofs.FitBodies.{operand_there}
 use Rattle.pass_laws.specs.Steady.{IsSteady}
 use Rattle.pass_laws.proofs.Shapes.{shape_set}
 use Rattle.pass_laws.proofs.Steady.{steady_then, steady_with_body}

@@ -1,13 +1,12 @@
 -- A concat takes in an operand's concat that has no other use.
-use Rattle.std.proofs.Common.{◌≡◌, ◌⊎◌, ℕ, zero, suc, ◌+◌, ◌*◌, ◌≤◌, max, Bool, true, false, not, List, [], ◌∷◌, length, map, Option, Some, None, slice_get, refl, sym, ap, ap₂, subst, ◌∙◌, inl, inr, arith}
+use Rattle.std.proofs.Common.{◌≡◌, ◌⊎◌, ℕ, zero, suc, ◌+◌, ◌*◌, ◌≤◌, max, Bool, true, false, not, List, [], ◌∷◌, length, map, Option, Some, None, slice_get, refl, sym, ap, ap₂, subst, ◌∙◌, inl, inr, arith, option_and_then, option_map}
 use Rattle.std.specs.List.{list_any}
 use Rattle.std.proofs.lemmas.List.{length-map}
 use Rattle.std.proofs.lemmas.Option.{slice_get-map}
 use Rattle.wiring.specs.Lists.{total}
-use Rattle.wiring.specs.Options.{bind, omap}
 use Rattle.wiring.specs.Wiring.{In}
 use Rattle.wiring.proofs.Members.{position_of_In, map_same}
-use Rattle.wiring.proofs.Options.{bind_some, omap_some}
+use Rattle.wiring.proofs.Options.{and_then_some, option_map_some}
 use Rattle.bits_core.specs.Word.{Word}
 use Rattle.hw_model.specs.Opcodes.{opcode_of}
 use Rattle.hw_model.specs.SameType.{type_self}
@@ -20,8 +19,8 @@ use Rattle.hw_model.specs.Sound.{type_in, Fits}
 use Rattle.hw_model.specs.Value.{concat_words, op_value}
 use Rattle.hw_model.specs.Weight.{kind_weight}
 use Rattle.ir_store.specs.ResultTypes.{as_int, joined_width, result_type as type_of_result, result_types, result_count}
-use Rattle.canonical_form.specs.Limits.{IsAnyType}
-use Rattle.canonical_form.specs.ResultTypes.{type_or_none}
+use Rattle.stored_form.specs.Limits.{IsAnyType}
+use Rattle.stored_form.specs.ResultTypes.{type_or_none}
 use Rattle.op_checks.specs.CountChecks.{operands_written, operand_count, type_count, has_miscounted_parts}
 use Rattle.op_checks.specs.LimitChecks.{of_type, is_too_wide, has_constant_outside, has_extract_outside, has_broken_copy, has_wide_concat, has_unknown_divisor, has_wrong_index, has_unequal_widths, has_clock_operand}
 use Rattle.op_checks.specs.OperandChecks.{has_other_form, has_other_operand}
@@ -31,10 +30,10 @@ use Rattle.op_checks.proofs.FitIntegers.{joined_sum}
 use Rattle.op_checks.proofs.NoOwnCause.{NoOwnCause}
 use Rattle.op_verifier.specs.OpChecks.{settled_type, divides_by_constant, alone_cause}
 use Rattle.op_verifier.proofs.NoCauseAlone.{types_of}
-use Rattle.printable_designs.specs.Printable.{IsDefined, IsPrintableOp}
-use Rattle.accepted_edits.specs.Keeps.{IsFit}
-use Rattle.accepted_edits.proofs.Accepted.{each_at}
-use Rattle.accepted_edits.proofs.FitBodies.{settled_here}
+use Rattle.printing_laws.specs.Printable.{IsDefined, IsPrintableOp}
+use Rattle.acceptance_laws.specs.Keeps.{IsFit}
+use Rattle.acceptance_laws.proofs.Accepted.{each_at}
+use Rattle.acceptance_laws.proofs.FitBodies.{settled_here}
 use Rattle.fold_laws.specs.Edits.{Edit, edited_by, fold_by}
 use Rattle.fold_laws.specs.Edits.Edit.{replaced, erased}
 use Rattle.fold_laws.specs.Fold.{kind_measure, IsFold, FoldLaw}
@@ -86,7 +85,7 @@ joins_types n us ts u inner outer at size = record {
     same : total (map width (splice n us ts)) ≡ total (map width ts)
     same =
         ap total (map-splice width n us ts)
-        ∙ total-splice n (map width us) (map width ts) (slice_get-map width ts n ∙ ap (omap width) at ∙ ap Some size)
+        ∙ total-splice n (map width us) (map width ts) (slice_get-map width ts n ∙ ap (option_map width) at ∙ ap Some size)
 
 -- joined types settle a type that is there
 some_joined : (ts : List HwType) (t : HwType) → list_any (λ (v : HwType). not (is_int v)) ts ≡ false → t ≡ type_or_none (as_int (joined_width ts)) → as_int (joined_width ts) ≡ Some t
@@ -194,10 +193,10 @@ module _ (d : Design) (fit : IsFit d) (k : ℕ) (md : Module) (at : slice_get d 
   written_at =
       go (slice_get o.types n.number)
       (sym (slice_get-map (λ (v : HwType). Some v) o.types n.number) ∙ ap (λ z. slice_get z n.number) (sym own_types)
-      ∙ slice_get-map (type_in md.ports md.body) o.operands n.number ∙ ap (omap (type_in md.ports md.body)) found.named
-      ∙ ap Some (ap (λ z. bind z (λ (y : Op). result_type y 0)) found.there ∙ result_typed))
+      ∙ slice_get-map (type_in md.ports md.body) o.operands n.number ∙ ap (option_map (type_in md.ports md.body)) found.named
+      ∙ ap Some (ap (λ z. option_and_then (λ (y : Op). result_type y 0) z) found.there ∙ result_typed))
     where
-      go : (x : Option HwType) → omap (λ (v : HwType). Some v) x ≡ Some (Some inner_type) → x ≡ Some inner_type
+      go : (x : Option HwType) → option_map (λ (v : HwType). Some v) x ≡ Some (Some inner_type) → x ≡ Some inner_type
       go (Some v) is = let same : Some v ≡ Some inner_type = cc in same
       go None is = cc
 
@@ -232,7 +231,7 @@ module _ (d : Design) (fit : IsFit d) (k : ℕ) (md : Module) (at : slice_get d 
       → op_value o.kind o.types t 0 (map τ o.operands) ≡ concat_words (map τ joined)
   words τ held inner =
       ap (λ z. op_value z o.types t 0 (map τ o.operands)) kind
-      ∙ words-splice n.number (map τ n.inner.operands) (map τ o.operands) (slice_get-map τ o.operands n.number ∙ ap (omap τ) found.named ∙ ap Some word)
+      ∙ words-splice n.number (map τ n.inner.operands) (map τ o.operands) (slice_get-map τ o.operands n.number ∙ ap (option_map τ) found.named ∙ ap Some word)
       ∙ ap concat_words (sym (map-splice τ n.number n.inner.operands o.operands))
     where
       word : τ (result n.position 0) ≡ concat_words (map τ n.inner.operands)
@@ -341,15 +340,15 @@ module _ (d : Design) (fit : IsFit d) (k : ℕ) (md : Module) (at : slice_get d 
 
 pub nested_concat_is_fold : FoldLaw (fold_by fold_nested_concat)
 nested_concat_is_fold d k md i os fit at is =
-    let edits = omap_some (λ (es : List Edit). edited_by es md.body) (fold_nested_concat md.body i) is in
-    let found = bind_some (slice_get md.body i) (λ (o : Op). bind (result_type o 0) (concat_edits md.body i o o.kind)) edits.1 in
-    let typed = bind_some (result_type found.0 0) (concat_edits md.body i found.0 found.0.kind) found.2 in
+    let edits = option_map_some (λ (es : List Edit). edited_by es md.body) (fold_nested_concat md.body i) is in
+    let found = and_then_some (slice_get md.body i) (λ (o : Op). option_and_then (concat_edits md.body i o o.kind) (result_type o 0)) edits.1 in
+    let typed = and_then_some (result_type found.0 0) (concat_edits md.body i found.0 found.0.kind) found.2 in
     subst (IsFold d k md) edits.2 (by_kind found.0 found.1 found.0.kind refl typed.0 typed.1 edits.0 typed.2)
   where
     by_kind : (o : Op) → slice_get md.body i ≡ Some o → (kind : Kind) → o.kind ≡ kind → (t : HwType) → result_type o 0 ≡ Some t → (es : List Edit)
         → concat_edits md.body i o kind t ≡ Some es → IsFold d k md (edited_by es md.body)
     by_kind o there concat kind t typed es made =
-        let given = omap_some (λ (n : Nested). replaced i (joined_concat o t n) ∷ erased n.position undefined ∷ []) (first_nested (is_concat) md.body i o.operands) made in
+        let given = option_map_some (λ (n : Nested). replaced i (joined_concat o t n) ∷ erased n.position undefined ∷ []) (first_nested (is_concat) md.body i o.operands) made in
         subst (λ z. IsFold d k md (edited_by z md.body)) given.2
         (concat_joined d fit k md at i o there kind t typed given.0 (first_nested_is (is_concat) md.body i o.operands given.0 given.1))
     by_kind o there _ kind t typed es made = cc

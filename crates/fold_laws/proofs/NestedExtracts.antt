@@ -1,12 +1,11 @@
 -- An extract of an extract that has no other use becomes one extract.
-use Rattle.std.proofs.Common.{◌≡◌, ℕ, zero, suc, ◌+◌, ◌*◌, ◌<◌, ◌≤◌, ◌^◌, Bool, true, false, not, ◌||◌, List, [], ◌∷◌, length, map, Option, Some, None, slice_get, refl, sym, ap, ap₂, subst, ◌∙◌, inl, arith}
+use Rattle.std.proofs.Common.{◌≡◌, ℕ, zero, suc, ◌+◌, ◌*◌, ◌<◌, ◌≤◌, ◌^◌, Bool, true, false, not, ◌||◌, List, [], ◌∷◌, length, map, Option, Some, None, slice_get, refl, sym, ap, ap₂, subst, ◌∙◌, inl, arith, option_and_then, option_map}
 use Rattle.std.specs.List.{list_any}
 use Rattle.std.proofs.lemmas.Bool.{le-ltb}
 use Rattle.std.proofs.lemmas.List.{length-map}
-use Rattle.wiring.specs.Options.{bind, omap}
 use Rattle.wiring.specs.Wiring.{In}
 use Rattle.wiring.proofs.Members.{position_of_In}
-use Rattle.wiring.proofs.Options.{bind_some, omap_some}
+use Rattle.wiring.proofs.Options.{and_then_some, option_map_some}
 use Rattle.bits_core.specs.Word.{Word, bit, extract as bits_from}
 use Rattle.bits_core.proofs.First.{extract-extract}
 use Rattle.hw_model.specs.SameType.{type_self}
@@ -21,9 +20,9 @@ use Rattle.hw_model.specs.Sound.{type_in}
 use Rattle.hw_model.specs.Value.{nth_type, op_value}
 use Rattle.hw_model.specs.Weight.{kind_weight}
 use Rattle.ir_store.specs.ResultTypes.{second_type, result_type as type_of_result, result_types, result_count}
-use Rattle.canonical_form.specs.Bytes.{Each}
-use Rattle.canonical_form.specs.Limits.{IsAnyType}
-use Rattle.canonical_form.specs.ResultTypes.{type_or_none}
+use Rattle.stored_form.specs.Bytes.{Each}
+use Rattle.stored_form.specs.Limits.{IsAnyType}
+use Rattle.stored_form.specs.ResultTypes.{type_or_none}
 use Rattle.op_checks.specs.CountChecks.{operands_written, operand_count, type_count, has_miscounted_parts}
 use Rattle.op_checks.specs.LimitChecks.{of_both, reaches_past, has_constant_outside, has_extract_outside, has_broken_copy, has_wide_concat, has_unknown_divisor, has_wrong_index, has_unequal_widths, has_clock_operand}
 use Rattle.op_checks.specs.OperandChecks.{has_other_form, has_other_operand}
@@ -34,9 +33,9 @@ use Rattle.op_checks.proofs.NoOwnCause.{NoOwnCause}
 use Rattle.op_checks.proofs.Widths.{neither, bits_within}
 use Rattle.op_verifier.specs.OpChecks.{settled_type, divides_by_constant, alone_cause}
 use Rattle.op_verifier.proofs.NoCauseAlone.{types_of}
-use Rattle.printable_designs.specs.Printable.{IsDefined, IsPrintableOp}
-use Rattle.accepted_edits.specs.Keeps.{IsFit}
-use Rattle.accepted_edits.proofs.Accepted.{each_at}
+use Rattle.printing_laws.specs.Printable.{IsDefined, IsPrintableOp}
+use Rattle.acceptance_laws.specs.Keeps.{IsFit}
+use Rattle.acceptance_laws.proofs.Accepted.{each_at}
 use Rattle.fold_laws.specs.Edits.{Edit, edited_by, fold_by}
 use Rattle.fold_laws.specs.Edits.Edit.{replaced, erased}
 use Rattle.fold_laws.specs.Fold.{kind_measure, IsFold, FoldLaw}
@@ -224,7 +223,7 @@ module _ (d : Design) (fit : IsFit d) (k : ℕ) (md : Module) (at : slice_get d 
   between : nth_type o.types 0 ≡ inner_type
   between =
       let both : Some (nth_type o.types 0) ≡ Some inner_type =
-      sym own.typed ∙ ap (λ z. bind z (λ (y : Op). result_type y 0)) found.there ∙ result_typed in
+      sym own.typed ∙ ap (λ z. option_and_then (λ (y : Op). result_type y 0) z) found.there ∙ result_typed in
       cc
 
   own_room : low + width t ≤ width inner_type
@@ -348,17 +347,17 @@ module _ (d : Design) (fit : IsFit d) (k : ℕ) (md : Module) (at : slice_get d 
 
 pub extract_extract_is_fold : FoldLaw (fold_by fold_extract_extract)
 extract_extract_is_fold d k md i os fit at is =
-    let edits = omap_some (λ (es : List Edit). edited_by es md.body) (fold_extract_extract md.body i) is in
-    let found = bind_some (slice_get md.body i) (λ (o : Op). bind (result_type o 0) (extract_edits md.body i o o.kind)) edits.1 in
-    let typed = bind_some (result_type found.0 0) (extract_edits md.body i found.0 found.0.kind) found.2 in
+    let edits = option_map_some (λ (es : List Edit). edited_by es md.body) (fold_extract_extract md.body i) is in
+    let found = and_then_some (slice_get md.body i) (λ (o : Op). option_and_then (extract_edits md.body i o o.kind) (result_type o 0)) edits.1 in
+    let typed = and_then_some (result_type found.0 0) (extract_edits md.body i found.0 found.0.kind) found.2 in
     subst (IsFold d k md) edits.2 (by_kind found.0 found.1 found.0.kind refl typed.0 typed.1 edits.0 typed.2)
   where
     by_kind : (o : Op) → slice_get md.body i ≡ Some o → (kind : Kind) → o.kind ≡ kind → (t : HwType) → result_type o 0 ≡ Some t → (es : List Edit)
         → extract_edits md.body i o kind t ≡ Some es → IsFold d k md (edited_by es md.body)
     by_kind o there (extract low) kind t typed es made =
-        let given = bind_some (first_nested is_extract md.body i o.operands)
-        (λ (n : Nested). omap (λ (m : ℕ). replaced i (joined_extract o t low n m) ∷ erased n.position undefined ∷ []) (lowest_bit n.inner.kind)) made in
-        let bits = omap_some (λ (m : ℕ). replaced i (joined_extract o t low given.0 m) ∷ erased given.0.position undefined ∷ []) (lowest_bit given.0.inner.kind) given.2 in
+        let given = and_then_some (first_nested is_extract md.body i o.operands)
+        (λ (n : Nested). option_map (λ (m : ℕ). replaced i (joined_extract o t low n m) ∷ erased n.position undefined ∷ []) (lowest_bit n.inner.kind)) made in
+        let bits = option_map_some (λ (m : ℕ). replaced i (joined_extract o t low given.0 m) ∷ erased given.0.position undefined ∷ []) (lowest_bit given.0.inner.kind) given.2 in
         subst (λ z. IsFold d k md (edited_by z md.body)) bits.2
         (extract_joined d fit k md at i o there low kind t typed given.0 (first_nested_is is_extract md.body i o.operands given.0 given.1) bits.0
         (lowest_is given.0.inner.kind bits.0 bits.1))

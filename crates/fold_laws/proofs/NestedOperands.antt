@@ -1,11 +1,10 @@
 -- An operation of any number of operands takes in an operand's operation of its kind that has no other use.
-use Rattle.std.proofs.Common.{◌≡◌, ◌⊎◌, ℕ, ◌+◌, ◌*◌, ◌≤◌, true, List, [], ◌∷◌, length, map, Option, Some, None, slice_get, refl, sym, ap, subst, ◌∙◌, inl, inr, arith}
+use Rattle.std.proofs.Common.{◌≡◌, ◌⊎◌, ℕ, ◌+◌, ◌*◌, ◌≤◌, true, List, [], ◌∷◌, length, map, Option, Some, None, slice_get, refl, sym, ap, subst, ◌∙◌, inl, inr, arith, option_and_then, option_map}
 use Rattle.std.proofs.lemmas.List.{length-map}
 use Rattle.std.proofs.lemmas.Option.{slice_get-map}
-use Rattle.wiring.specs.Options.{bind, omap}
 use Rattle.wiring.specs.Wiring.{In}
 use Rattle.wiring.proofs.Members.{In-map, from_In-map, In-slice_get, position_of_In}
-use Rattle.wiring.proofs.Options.{bind_some, omap_some}
+use Rattle.wiring.proofs.Options.{and_then_some, option_map_some}
 use Rattle.bits_core.specs.Word.{Word}
 use Rattle.hw_model.specs.Types.{HwType, width}
 use Rattle.hw_model.specs.Kinds.{Kind, Variadic}
@@ -17,16 +16,16 @@ use Rattle.hw_model.specs.Sound.{type_in, Fits}
 use Rattle.hw_model.specs.Value.{variadic_value, op_value}
 use Rattle.hw_model.specs.Weight.{kind_weight}
 use Rattle.ir_store.specs.ResultTypes.{result_type as type_of_result, result_types}
-use Rattle.canonical_form.specs.ResultTypes.{type_or_none}
+use Rattle.stored_form.specs.ResultTypes.{type_or_none}
 use Rattle.op_checks.specs.CountChecks.{operands_written, type_count}
 use Rattle.op_checks.specs.OwnChecks.{own_cause}
 use Rattle.op_checks.proofs.NoOwnCause.{NoOwnCause}
 use Rattle.op_verifier.specs.OpChecks.{has_again, settled_type, divides_by_constant, alone_cause}
 use Rattle.op_verifier.proofs.NoCauseAlone.{types_of}
-use Rattle.printable_designs.specs.Printable.{IsDefined, IsPrintableOp, settled_result}
-use Rattle.accepted_edits.specs.Keeps.{IsFit}
-use Rattle.accepted_edits.proofs.Accepted.{each_at, each_from}
-use Rattle.accepted_edits.proofs.FitBodies.{settled_here}
+use Rattle.printing_laws.specs.Printable.{IsDefined, IsPrintableOp, settled_result}
+use Rattle.acceptance_laws.specs.Keeps.{IsFit}
+use Rattle.acceptance_laws.proofs.Accepted.{each_at, each_from}
+use Rattle.acceptance_laws.proofs.FitBodies.{settled_here}
 use Rattle.fold_laws.specs.Edits.{Edit, edited_by, fold_by}
 use Rattle.fold_laws.specs.Edits.Edit.{changed, erased}
 use Rattle.fold_laws.specs.Fold.{kind_measure, IsFold, FoldLaw}
@@ -107,7 +106,7 @@ module _ (d : Design) (fit : IsFit d) (k : ℕ) (md : Module) (at : slice_get d 
   same_type : inner_type ≡ own_type
   same_type =
       let both : Some inner_type ≡ Some own_type =
-      sym (ap (λ z. bind z (λ (y : Op). result_type y 0)) found.there ∙ result_typed) ∙ own_typed (result n.position 0) named in
+      sym (ap (λ z. option_and_then (λ (y : Op). result_type y 0) z) found.there ∙ result_typed) ∙ own_typed (result n.position 0) named in
       cc
 
   typed : (r : Ref) → In r joined → type_in md.ports md.body r ≡ Some own_type
@@ -128,7 +127,7 @@ module _ (d : Design) (fit : IsFit d) (k : ℕ) (md : Module) (at : slice_get d 
   words τ held inner =
       ap (λ z. op_value z o.types own_type 0 (map τ o.operands)) kind
       ∙ variadic-splice v (width own_type) n.number (map τ n.inner.operands) (map τ o.operands) each
-      (slice_get-map τ o.operands n.number ∙ ap (omap τ) found.named ∙ ap Some word)
+      (slice_get-map τ o.operands n.number ∙ ap (option_map τ) found.named ∙ ap Some word)
       ∙ ap (variadic_value v (width own_type)) (sym (map-splice τ n.number n.inner.operands o.operands))
       ∙ sym (ap (λ z. op_value z o.types own_type 0 (map τ joined)) kind)
     where
@@ -246,14 +245,14 @@ module _ (d : Design) (fit : IsFit d) (k : ℕ) (md : Module) (at : slice_get d 
 
 pub nested_operand_is_fold : FoldLaw (fold_by fold_nested_operand)
 nested_operand_is_fold d k md i os fit at is =
-    let edits = omap_some (λ (es : List Edit). edited_by es md.body) (fold_nested_operand md.body i) is in
-    let found = bind_some (slice_get md.body i) (λ (o : Op). operand_edits md.body i o o.kind) edits.1 in
+    let edits = option_map_some (λ (es : List Edit). edited_by es md.body) (fold_nested_operand md.body i) is in
+    let found = and_then_some (slice_get md.body i) (λ (o : Op). operand_edits md.body i o o.kind) edits.1 in
     subst (IsFold d k md) edits.2 (by_kind found.0 found.1 found.0.kind refl edits.0 found.2)
   where
     by_kind : (o : Op) → slice_get md.body i ≡ Some o → (kind : Kind) → o.kind ≡ kind → (es : List Edit) → operand_edits md.body i o kind ≡ Some es
         → IsFold d k md (edited_by es md.body)
     by_kind o there (variadic v) kind es made =
-        let given = omap_some (λ (n : Nested). changed i (joined_operation o n) ∷ erased n.position undefined ∷ []) (first_nested (is_variadic v) md.body i o.operands) made in
+        let given = option_map_some (λ (n : Nested). changed i (joined_operation o n) ∷ erased n.position undefined ∷ []) (first_nested (is_variadic v) md.body i o.operands) made in
         subst (λ z. IsFold d k md (edited_by z md.body)) given.2
         (operand_joined d fit k md at i o there v kind given.0 (first_nested_is (is_variadic v) md.body i o.operands given.0 given.1))
     by_kind o there _ kind es made = cc

@@ -1,7 +1,7 @@
 -- How often the results of an operation are used, and what is found among operands.
 use Rattle.std.proofs.Common.{◌≡◌, ℕ, zero, suc, ◌+◌, ◌≤◌, Bool, true, false, cond, not, ◌&&◌, ◌||◌, nat_eq, List, [], ◌∷◌, ◌++◌, set, Option, Some, None, slice_get, refl, sym, ap, subst, ◌∙◌, arith}
 use Rattle.std.specs.List.{list_any}
-use Rattle.wiring.proofs.Options.{bind_some, omap_some}
+use Rattle.wiring.proofs.Options.{and_then_some, option_map_some}
 use Rattle.bits_core.specs.Word.{bit}
 use Rattle.hw_model.specs.Equality.{both_of, number_self, number_from}
 use Rattle.hw_model.specs.Kinds.{Kind}
@@ -127,7 +127,7 @@ module _ (test : Kind → Bool) (os : List Op) (i : ℕ) where
   nested_is undefined rs n is = cc
   nested_is (result j (suc k)) rs n is = cc
   nested_is (result j zero) rs n is =
-      let found = bind_some (slice_get os j) (nested_result test os i j) is in
+      let found = and_then_some (slice_get os j) (nested_result test os i j) is in
       made_is j found.0 n rs found.1 found.2
 
   later_is : (r : Ref) (rs : List Ref) (n : Nested) → IsNested test os i rs n → IsNested test os i (r ∷ rs) (one_later n)
@@ -141,5 +141,5 @@ module _ (test : Kind → Bool) (os : List Op) (i : ℕ) where
           → ((m : Nested) → first_nested test os i rs ≡ Some m → IsNested test os i rs m) → IsNested test os i (r ∷ rs) n
       go (Some m) here h later = nested_is r rs n (here ∙ h)
       go None here h later =
-          let rest = omap_some one_later (first_nested test os i rs) h in
+          let rest = option_map_some one_later (first_nested test os i rs) h in
           subst (IsNested test os i (r ∷ rs)) rest.2 (later_is r rs rest.0 (later rest.0 rest.1))

@@ -9,19 +9,19 @@ use Rattle.hw_model.specs.Types.{HwType}
 use Rattle.hw_model.specs.Kinds.{Kind}
 use Rattle.hw_model.specs.Design.{Ref, Port, Op}
 use Rattle.ir_store.specs.ResultTypes.{result_type as type_of_result, result_count}
-use Rattle.canonical_form.specs.Bytes.{Each}
-use Rattle.canonical_form.specs.Dictionaries.{takes_bin, string_keys, IsKeptDictionary}
-use Rattle.canonical_form.specs.Kinds.{KeepsConstants, IsWritten}
-use Rattle.canonical_form.specs.Limits.{IsAnyType}
-use Rattle.canonical_form.specs.ResultTypes.{type_or_none}
+use Rattle.stored_form.specs.Bytes.{Each}
+use Rattle.stored_form.specs.Dictionaries.{takes_bin, string_keys, IsKeptDictionary}
+use Rattle.stored_form.specs.Kinds.{KeepsConstants, IsWritten}
+use Rattle.stored_form.specs.Limits.{IsAnyType}
+use Rattle.stored_form.specs.ResultTypes.{type_or_none}
 use Rattle.op_checks.specs.CountChecks.{operands_written, operand_count, type_count, has_wrong_operands, has_wrong_results, has_wrong_count}
 use Rattle.op_checks.specs.LimitChecks.{has_type_outside, has_wrong_field, has_clock_value}
 use Rattle.op_checks.specs.OperandChecks.{has_other_result, has_mismatch}
 use Rattle.op_checks.specs.OwnChecks.{cause_if, own_cause}
 use Rattle.op_checks.proofs.NoOwnCause.{NoOwnCause}
-use Rattle.printable_designs.specs.NameHints.{is_pack}
-use Rattle.printable_designs.specs.Printable.{IsDefined, IsPrintableOp, settled_result}
-use Rattle.accepted_edits.proofs.Accepted.{each_from}
+use Rattle.printing_laws.specs.NameHints.{is_pack}
+use Rattle.printing_laws.specs.Printable.{IsDefined, IsPrintableOp, settled_result}
+use Rattle.acceptance_laws.proofs.Accepted.{each_from}
 use Rattle.fold_laws.specs.Nested.{new_op}
 use Rattle.fold_laws.proofs.MadeKinds.{is_made, made_one_result}
 

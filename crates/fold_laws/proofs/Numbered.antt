@@ -1,7 +1,6 @@
 -- A number that an operation always gives: what must be shown of it, and that the constant in its place makes a fold.
-use Rattle.std.proofs.Common.{◌≡◌, ℕ, zero, suc, ◌^◌, ◌<◌, ◌≤◌, true, false, List, [], ◌∷◌, length, map, set, Option, Some, None, slice_get, refl, sym, ap, subst, ◌∙◌, inl, arith}
-use Rattle.wiring.specs.Options.{bind}
-use Rattle.wiring.proofs.Options.{bind_some, omap_some}
+use Rattle.std.proofs.Common.{◌≡◌, ℕ, zero, suc, ◌^◌, ◌<◌, ◌≤◌, true, false, List, [], ◌∷◌, length, map, set, Option, Some, None, slice_get, refl, sym, ap, subst, ◌∙◌, inl, arith, option_and_then}
+use Rattle.wiring.proofs.Options.{and_then_some, option_map_some}
 use Rattle.bits_core.specs.Word.{Word, bits}
 use Rattle.hw_model.specs.Types.{Name, HwType, width}
 use Rattle.hw_model.specs.Types.HwType.{int}
@@ -12,16 +11,16 @@ use Rattle.hw_model.specs.Sound.{type_in}
 use Rattle.hw_model.specs.Value.{op_value}
 use Rattle.hw_model.specs.Weight.{kind_weight}
 use Rattle.ir_store.specs.ResultTypes.{result_type as type_of_result}
-use Rattle.canonical_form.specs.ResultTypes.{type_or_none}
+use Rattle.stored_form.specs.ResultTypes.{type_or_none}
 use Rattle.op_checks.specs.TypeChecks.{is_outside}
-use Rattle.hw_edits.specs.Edit.{result_word, HoldsBut}
-use Rattle.hw_edits.specs.Follows.{Wide}
-use Rattle.hw_edits.specs.Laws.{InPlace}
-use Rattle.hw_edits.proofs.ChangeInPlace.{replace_op_preserves}
-use Rattle.hw_edits.proofs.Weights.{place_is_lighter}
-use Rattle.accepted_edits.specs.Forms.{InPlaceFits}
-use Rattle.accepted_edits.specs.Keeps.{IsFitting, IsFit}
-use Rattle.accepted_edits.proofs.ChangedInPlace.{fit_in_place}
+use Rattle.edit_laws.specs.Edit.{result_word, HoldsBut}
+use Rattle.edit_laws.specs.Follows.{Wide}
+use Rattle.edit_laws.specs.Laws.{InPlace}
+use Rattle.edit_laws.proofs.ChangeInPlace.{replace_op_preserves}
+use Rattle.edit_laws.proofs.Weights.{place_is_lighter}
+use Rattle.acceptance_laws.specs.Forms.{InPlaceFits}
+use Rattle.acceptance_laws.specs.Keeps.{IsFitting, IsFit}
+use Rattle.acceptance_laws.proofs.ChangedInPlace.{fit_in_place}
 use Rattle.pass_laws.proofs.Shapes.{shape_set}
 use Rattle.pass_laws.proofs.Steady.{steady_with_body}
 use Rattle.fold_laws.specs.Edits.{Edit, edited_by, fold_by}
@@ -31,7 +30,7 @@ use Rattle.fold_laws.specs.Numbers.{Numbering, number_op, with_number, by_number
 use Rattle.fold_laws.proofs.MadeKinds.{is_made, made_no_number}
 use Rattle.fold_laws.proofs.Measures.{measure_changed}
 use Rattle.fold_laws.proofs.NumberOps.{number_fits}
-use Rattle.fold_laws.proofs.Rows.{RowLaw, row_is_fold}
+use Rattle.fold_laws.proofs.Patterns.{PatternLaw, pattern_is_fold}
 use Rattle.fold_laws.proofs.Stands.{Known, Held, op_plain, op_typed, op_has_one, op_known, op_held}
 
 -- ---- what must be shown
@@ -61,12 +60,12 @@ more_than_constant _ n made = omega arith
 module _ (d : Design) (fit : IsFit d) (k : ℕ) (md : Module) (at : slice_get d k ≡ Some md) (i : ℕ) (o : Op) (there : slice_get md.body i ≡ Some o)
     (made : is_made o.kind ≡ true) (t : HwType) (typed : result_type o 0 ≡ Some t) (n : ℕ)
     (makes : Makes md.body o.kind o.types o.operands n (type_in md.ports md.body) t) where
-  new_types : (j : ℕ) → result_type (number_op n t o.place) j ≡ result_type o j
+  new_types : (j : ℕ) → result_type (number_op n t o.location) j ≡ result_type o j
   new_types zero = sym typed
   new_types (suc j) = sym (op_has_one d fit k md at i o there made j)
 
   same_words : (τ : Ref → Word) → HoldsBut md.body τ (λ j. j ≡ i) → Wide md.ports md.body τ → (j : ℕ) (u : HwType) → result_type o j ≡ Some u
-      → result_word τ o j (Some u) ≡ result_word τ (number_op n t o.place) j (Some u)
+      → result_word τ o j (Some u) ≡ result_word τ (number_op n t o.location) j (Some u)
   same_words τ holds wide zero u is =
       let both : Some t ≡ Some u = sym typed ∙ is in
       let same : t ≡ u = cc in
@@ -74,7 +73,7 @@ module _ (d : Design) (fit : IsFit d) (k : ℕ) (md : Module) (at : slice_get d 
       (makes.words τ (op_held d fit k md at i o there made τ holds wide) ∙ ap (λ v. bits (width v) n) (sym makes.type_is))
   same_words τ holds wide (suc j) u is = let clash : None ≡ Some u = sym (op_has_one d fit k md at i o there made j) ∙ is in cc
 
-  change : InPlace md i o (number_op n t o.place)
+  change : InPlace md i o (number_op n t o.location)
   change = record {
     there = there;
     old_plain = op_plain d fit k md at i o there made;
@@ -85,29 +84,29 @@ module _ (d : Design) (fit : IsFit d) (k : ℕ) (md : Module) (at : slice_get d 
     words = same_words;
   }
 
-  fits : InPlaceFits md o (number_op n t o.place)
+  fits : InPlaceFits md o (number_op n t o.location)
   fits = record {
     known = λ is. let clash : true ≡ false = sym is ∙ made_no_number o.kind made in cc;
     constant = λ is. refl;
-    fits = subst (λ u. IsFitting md.ports md.body (number_op n u o.place)) (sym makes.type_is) (number_fits md.ports md.body makes.bits_of n o.place makes.within makes.small);
+    fits = subst (λ u. IsFitting md.ports md.body (number_op n u o.location)) (sym makes.type_is) (number_fits md.ports md.body makes.bits_of n o.location makes.within makes.small);
   }
 
-  pub number_put : IsFold d k md (set md.body i (number_op n t o.place))
+  pub number_put : IsFold d k md (set md.body i (number_op n t o.location))
   number_put = record {
-    steady = steady_with_body d k md (set md.body i (number_op n t o.place)) at (replace_op_preserves d k md i o (number_op n t o.place) fit.valid at change)
-        (fit_in_place d k md i o (number_op n t o.place) fit at change fits)
-        (shape_set md.body i o (number_op n t o.place) there (op_plain d fit k md at i o there made) refl);
-    lighter = place_is_lighter d k md i o (number_op n t o.place) at there (λ inner. makes.weighs inner);
-    smaller = inl (measure_changed md.body i o (number_op n t o.place) there (more_than_constant o.kind (length o.operands) made));
+    steady = steady_with_body d k md (set md.body i (number_op n t o.location)) at (replace_op_preserves d k md i o (number_op n t o.location) fit.valid at change)
+        (fit_in_place d k md i o (number_op n t o.location) fit at change fits)
+        (shape_set md.body i o (number_op n t o.location) there (op_plain d fit k md at i o there made) refl);
+    lighter = place_is_lighter d k md i o (number_op n t o.location) at there (λ inner. makes.weighs inner);
+    smaller = inl (measure_changed md.body i o (number_op n t o.location) there (more_than_constant o.kind (length o.operands) made));
   }
 
 -- ---- the law
 
-number_row : (numbering : Numbering) → IsNumbering numbering → RowLaw (by_number numbering)
-number_row numbering shown d k md i es fit at is =
-    let found = bind_some (slice_get md.body i) (λ (o : Op). bind (result_type o 0) (with_number numbering md.body i o)) is in
-    let typed = bind_some (result_type found.0 0) (with_number numbering md.body i found.0) found.2 in
-    let given = omap_some (λ (n : ℕ). replaced i (number_op n typed.0 found.0.place) ∷ []) (numbering md.body found.0.kind found.0.types typed.0 found.0.operands) typed.2 in
+number_pattern : (numbering : Numbering) → IsNumbering numbering → PatternLaw (by_number numbering)
+number_pattern numbering shown d k md i es fit at is =
+    let found = and_then_some (slice_get md.body i) (λ (o : Op). option_and_then (with_number numbering md.body i o) (result_type o 0)) is in
+    let typed = and_then_some (result_type found.0 0) (with_number numbering md.body i found.0) found.2 in
+    let given = option_map_some (λ (n : ℕ). replaced i (number_op n typed.0 found.0.location) ∷ []) (numbering md.body found.0.kind found.0.types typed.0 found.0.operands) typed.2 in
     let made = shown.made md.body found.0.kind found.0.types typed.0 found.0.operands given.0 given.1 in
     let settled : Some (type_or_none (type_of_result found.0.kind found.0.types (length found.0.operands))) ≡ Some typed.0 =
     sym (op_typed d fit k md at i found.0 found.1 made) ∙ typed.1 in
@@ -118,4 +117,4 @@ number_row numbering shown d k md i es fit at is =
     (subst (Known md.body found.0.kind found.0.types found.0.operands (type_in md.ports md.body)) same (op_known d fit k md at i found.0 found.1 made))))
 
 pub number_is_fold : (numbering : Numbering) → IsNumbering numbering → FoldLaw (fold_by (by_number numbering))
-number_is_fold numbering shown = row_is_fold (by_number numbering) (number_row numbering shown)
+number_is_fold numbering shown = pattern_is_fold (by_number numbering) (number_pattern numbering shown)

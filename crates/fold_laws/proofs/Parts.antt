@@ -2,7 +2,7 @@
 use Rattle.std.proofs.Common.{◌≡◌, ℕ, zero, suc, Bool, true, false, cond, List, [], ◌∷◌, ◌++◌, length, map, take, drop, Option, Some, slice_get, refl, sym, ap, subst, ◌∙◌, inl, inr}
 use Rattle.std.proofs.Math.Seq.{take-append_seam, drop-append_seam}
 use Rattle.wiring.specs.Wiring.{In}
-use Rattle.wiring.proofs.Options.{bind_some}
+use Rattle.wiring.proofs.Options.{and_then_some}
 use Rattle.bits_core.specs.Word.{Word}
 use Rattle.hw_model.specs.Types.{Name, HwType, FieldTypes, width}
 use Rattle.hw_model.specs.Types.HwType.{struct}
@@ -88,7 +88,7 @@ created os fs name (port j ∷ []) x is = cc
 created os fs name (undefined ∷ []) x is = cc
 created os fs name (result j (suc k) ∷ []) x is = cc
 created os fs name (result j zero ∷ []) x is =
-    let found = bind_some (slice_get os j) (λ (c : Op). created_field fs name c.kind c.operands) is in
+    let found = and_then_some (slice_get os j) (λ (c : Op). created_field fs name c.kind c.operands) is in
     let parts = create_is fs name found.0.kind found.0.operands x found.2 in
     record { position = j; op = found.0; there = found.1; operands = refl; kind = parts.0; field_is = parts.1 }
 created os fs name (r ∷ s ∷ rs) x is = cc

@@ -6,7 +6,7 @@ use Rattle.wiring.specs.Lists.{total}
 use Rattle.wiring.specs.Wiring.{In}
 use Rattle.wiring.proofs.Members.{In-append_cases}
 use Rattle.wiring.proofs.Totals.{total-append}
-use Rattle.canonical_form.specs.Bytes.{Each}
+use Rattle.stored_form.specs.Bytes.{Each}
 use Rattle.op_checks.proofs.Widths.{neither}
 use Rattle.fold_laws.specs.Nested.{splice}
 

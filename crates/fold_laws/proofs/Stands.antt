@@ -1,11 +1,10 @@
 -- A value that stands for the only result of an operation: what must be shown of it, and that it makes a fold.
-use Rattle.std.proofs.Common.{◌≡◌, ℕ, suc, ◌<◌, true, false, List, [], ◌∷◌, length, map, Option, Some, None, slice_get, refl, sym, ap, subst, ◌∙◌, inl, arith}
+use Rattle.std.proofs.Common.{◌≡◌, ℕ, suc, ◌<◌, true, false, List, [], ◌∷◌, length, map, Option, Some, None, slice_get, refl, sym, ap, subst, ◌∙◌, inl, arith, option_map}
 use Rattle.std.specs.Prelude.{is_some}
 use Rattle.std.specs.List.{list_any}
-use Rattle.wiring.specs.Options.{omap}
 use Rattle.wiring.specs.Wiring.{In}
 use Rattle.wiring.proofs.Members.{map_same}
-use Rattle.wiring.proofs.Options.{bind_some, omap_some}
+use Rattle.wiring.proofs.Options.{and_then_some, option_map_some}
 use Rattle.bits_core.specs.Word.{Word}
 use Rattle.hw_model.specs.Types.{HwType, width}
 use Rattle.hw_model.specs.Types.HwType.{int}
@@ -15,25 +14,25 @@ use Rattle.hw_model.specs.Design.Ref.{result}
 use Rattle.hw_model.specs.Sound.{HasWidth, type_in, Fits}
 use Rattle.hw_model.specs.Value.{op_value}
 use Rattle.ir_store.specs.ResultTypes.{result_type as type_of_result}
-use Rattle.canonical_form.specs.ResultTypes.{type_or_none}
+use Rattle.stored_form.specs.ResultTypes.{type_or_none}
 use Rattle.op_checks.specs.CountChecks.{operands_written, type_count}
 use Rattle.op_checks.specs.LimitChecks.{has_wide_concat}
 use Rattle.op_checks.specs.OperandChecks.{has_other_form, has_other_operand}
 use Rattle.op_checks.specs.TypeChecks.{is_outside}
 use Rattle.op_verifier.specs.OpChecks.{settled_type}
 use Rattle.op_verifier.proofs.NoCauseAlone.{NoCauseAlone, no_cause_alone}
-use Rattle.printable_designs.specs.Printable.{IsPrintableOp, settled_result}
-use Rattle.hw_edits.specs.Edit.{is_anchor, HoldsBut}
-use Rattle.hw_edits.specs.Follows.{Wide}
-use Rattle.hw_edits.specs.Laws.{erase_op, Erased}
-use Rattle.hw_edits.proofs.TakeOut.{erase_op_preserves}
-use Rattle.hw_edits.proofs.Uses.{operand_lower, operand_other}
-use Rattle.hw_edits.proofs.Weights.{out_is_lighter}
-use Rattle.accepted_edits.specs.Forms.{ErasedFits}
-use Rattle.accepted_edits.specs.Keeps.{IsPrintableBody, IsFit}
-use Rattle.accepted_edits.proofs.Accepted.{each_at, fit_found}
-use Rattle.accepted_edits.proofs.FitBodies.{own_cause_none, operand_there, settled_here}
-use Rattle.accepted_edits.proofs.TakenOut.{fit_erased}
+use Rattle.printing_laws.specs.Printable.{IsPrintableOp, settled_result}
+use Rattle.edit_laws.specs.Edit.{is_anchor, HoldsBut}
+use Rattle.edit_laws.specs.Follows.{Wide}
+use Rattle.edit_laws.specs.Laws.{erase_op, Erased}
+use Rattle.edit_laws.proofs.TakeOut.{erase_op_preserves}
+use Rattle.edit_laws.proofs.Uses.{operand_lower, operand_other}
+use Rattle.edit_laws.proofs.Weights.{out_is_lighter}
+use Rattle.acceptance_laws.specs.Forms.{ErasedFits}
+use Rattle.acceptance_laws.specs.Keeps.{IsPrintableBody, IsFit}
+use Rattle.acceptance_laws.proofs.Accepted.{each_at, fit_found}
+use Rattle.acceptance_laws.proofs.FitBodies.{own_cause_none, operand_there, settled_here}
+use Rattle.acceptance_laws.proofs.TakenOut.{fit_erased}
 use Rattle.pass_laws.proofs.Shapes.{shape_erase}
 use Rattle.pass_laws.proofs.Steady.{steady_with_body}
 use Rattle.fold_laws.specs.Constants.{constant_at}
@@ -44,7 +43,7 @@ use Rattle.fold_laws.specs.Standing.{Stand, by_stand}
 use Rattle.fold_laws.proofs.Constants.{constant_typed, constant_held}
 use Rattle.fold_laws.proofs.MadeKinds.{is_made, made_plain, made_no_constant, made_no_number, made_one_result}
 use Rattle.fold_laws.proofs.Measures.{measure_taken_out}
-use Rattle.fold_laws.proofs.Rows.{RowLaw, row_is_fold}
+use Rattle.fold_laws.proofs.Patterns.{PatternLaw, pattern_is_fold}
 
 -- ---- what is known
 
@@ -108,10 +107,10 @@ module _ (d : Design) (fit : IsFit d) (k : ℕ) (md : Module) (at : slice_get d 
   op_results = op_printable.results ∙ ap (map settled_result) (made_one_result o.kind o.types (length o.operands) made)
 
   pub op_typed : result_type o 0 ≡ Some (type_or_none (type_of_result o.kind o.types (length o.operands)))
-  op_typed = ap (λ (rs : List OpResult). omap (λ (r : OpResult). r.type) (slice_get rs 0)) op_results
+  op_typed = ap (λ (rs : List OpResult). option_map (λ (r : OpResult). r.type) (slice_get rs 0)) op_results
 
   pub op_has_one : (n : ℕ) → result_type o (suc n) ≡ None
-  op_has_one n = ap (λ (rs : List OpResult). omap (λ (r : OpResult). r.type) (slice_get rs (suc n))) op_results
+  op_has_one n = ap (λ (rs : List OpResult). option_map (λ (r : OpResult). r.type) (slice_get rs (suc n))) op_results
 
   pub op_known : Known md.body o.kind o.types o.operands (type_in md.ports md.body) (type_or_none (type_of_result o.kind o.types (length o.operands)))
   op_known = record {
@@ -162,10 +161,10 @@ module _ (d : Design) (fit : IsFit d) (k : ℕ) (md : Module) (at : slice_get d 
 
 -- ---- the law
 
-stand_row : (stand : Stand) → IsStand stand → RowLaw (by_stand stand)
-stand_row stand shown d k md i es fit at is =
-    let found = bind_some (slice_get md.body i) (λ (o : Op). omap (λ (x : Ref). erased i x ∷ []) (stand md.body o.kind o.types o.operands)) is in
-    let taken = omap_some (λ (x : Ref). erased i x ∷ []) (stand md.body found.0.kind found.0.types found.0.operands) found.2 in
+stand_pattern : (stand : Stand) → IsStand stand → PatternLaw (by_stand stand)
+stand_pattern stand shown d k md i es fit at is =
+    let found = and_then_some (slice_get md.body i) (λ (o : Op). option_map (λ (x : Ref). erased i x ∷ []) (stand md.body o.kind o.types o.operands)) is in
+    let taken = option_map_some (λ (x : Ref). erased i x ∷ []) (stand md.body found.0.kind found.0.types found.0.operands) found.2 in
     let made = shown.made md.body found.0.kind found.0.types found.0.operands taken.0 taken.1 in
     subst (λ (qs : List Edit). IsFold d k md (edited_by qs md.body)) taken.2
     (operand_taken d fit k md at i found.0 found.1 made taken.0
@@ -174,4 +173,4 @@ stand_row stand shown d k md i es fit at is =
     (op_known d fit k md at i found.0 found.1 made)))
 
 pub stand_is_fold : (stand : Stand) → IsStand stand → FoldLaw (fold_by (by_stand stand))
-stand_is_fold stand shown = row_is_fold (by_stand stand) (stand_row stand shown)
+stand_is_fold stand shown = pattern_is_fold (by_stand stand) (stand_pattern stand shown)

@@ -1,14 +1,13 @@
 -- Two constants among the operands of an operation of any number of them may be joined: the operation with the constant of their
 -- value in the place of the second one has the value that it had.
-use Rattle.std.proofs.Common.{◌≡◌, ◌⊎◌, ℕ, suc, pos, ◌+◌, ◌*◌, ◌^◌, ◌<◌, ◌≤◌, Bool, true, false, cond, List, [], ◌∷◌, length, map, set, Option, Some, None, slice_get, refl, sym, ap, subst, ◌∙◌, inl, inr, arith}
+use Rattle.std.proofs.Common.{◌≡◌, ◌⊎◌, ℕ, suc, pos, ◌+◌, ◌*◌, ◌^◌, ◌<◌, ◌≤◌, Bool, true, false, cond, List, [], ◌∷◌, length, map, set, Option, Some, None, slice_get, refl, sym, ap, subst, ◌∙◌, inl, inr, arith, option_and_then, option_map}
 use Rattle.std.specs.Prelude.{is_some}
 use Rattle.std.proofs.lemmas.List.{length-map, set-set}
 use Rattle.std.proofs.lemmas.Option.{slice_get_within}
-use Rattle.wiring.specs.Options.{bind, omap}
 use Rattle.wiring.specs.Wiring.{In}
 use Rattle.wiring.proofs.Lists.{slice_get-set_same}
 use Rattle.wiring.proofs.Members.{In-map, from_In-map}
-use Rattle.wiring.proofs.Options.{bind_some}
+use Rattle.wiring.proofs.Options.{and_then_some}
 use Rattle.bits_core.specs.Word.{Word, number, bits}
 use Rattle.bits_core.proofs.Numbers.{bits-number, number_below}
 use Rattle.hw_model.specs.Types.{Name, HwType}
@@ -21,15 +20,15 @@ use Rattle.hw_model.specs.Sound.{type_in, Fits}
 use Rattle.hw_model.specs.Value.{variadic_value}
 use Rattle.hw_model.specs.Weight.{kind_weight, body_weight, weight}
 use Rattle.ir_store.specs.ResultTypes.{result_type as type_of_result}
-use Rattle.canonical_form.specs.ResultTypes.{type_or_none}
+use Rattle.stored_form.specs.ResultTypes.{type_or_none}
 use Rattle.op_checks.specs.CountChecks.{type_count}
 use Rattle.op_checks.specs.OperandChecks.{has_other_form}
-use Rattle.hw_edits.specs.Edit.{retarget}
-use Rattle.hw_edits.specs.Laws.{up_ref, insert_op, with_body, Inserted}
-use Rattle.hw_edits.proofs.Inserted.{insert_op_preserves}
-use Rattle.hw_edits.proofs.Weights.{weight-set, weight_with_body}
-use Rattle.accepted_edits.specs.Keeps.{IsFitting, IsFit}
-use Rattle.accepted_edits.proofs.PutIn.{fit_inserted}
+use Rattle.edit_laws.specs.Edit.{retarget}
+use Rattle.edit_laws.specs.Laws.{up_ref, insert_op, with_body, Inserted}
+use Rattle.edit_laws.proofs.Inserted.{insert_op_preserves}
+use Rattle.edit_laws.proofs.Weights.{weight-set, weight_with_body}
+use Rattle.acceptance_laws.specs.Keeps.{IsFitting, IsFit}
+use Rattle.acceptance_laws.proofs.PutIn.{fit_inserted}
 use Rattle.pass_laws.specs.Steady.{IsSteady}
 use Rattle.pass_laws.proofs.Shapes.{shape_insert}
 use Rattle.pass_laws.proofs.Steady.{steady_then, steady_with_body}
@@ -46,7 +45,7 @@ use Rattle.fold_laws.proofs.MadeKinds.{is_made}
 use Rattle.fold_laws.proofs.Measures.{measure-set}
 use Rattle.fold_laws.proofs.NumberOps.{number_fits}
 use Rattle.fold_laws.proofs.PutIn.{new_op, next_op, old_constant, measure_put, weight_put}
-use Rattle.fold_laws.proofs.Rows.{RowLaw, row_is_fold}
+use Rattle.fold_laws.proofs.Patterns.{PatternLaw, pattern_is_fold}
 use Rattle.fold_laws.proofs.Stands.{Known, op_found, op_typed, op_known}
 use Rattle.fold_laws.proofs.VariadicValues.{value_more, value_turned, value_wide, value_joined}
 
@@ -217,15 +216,15 @@ module _ (d : Design) (fit : IsFit d) (k : ℕ) (md : Module) (at : slice_get d 
   -- ---- the constant is put in
 
   abbrev joined_op : Op
-  joined_op = number_op (number joined_word) t o.place
+  joined_op = number_op (number joined_word) t o.location
 
   within : i < length md.body
   within = slice_get_within md.body i o there
 
   joined_fits : IsFitting md.ports md.body joined_op
   joined_fits =
-      subst (λ u. IsFitting md.ports md.body (number_op (number joined_word) u o.place)) (sym integer.type_is)
-      (number_fits md.ports md.body integer.bits_of (number joined_word) o.place integer.within
+      subst (λ u. IsFitting md.ports md.body (number_op (number joined_word) u o.location)) (sym integer.type_is)
+      (number_fits md.ports md.body integer.bits_of (number joined_word) o.location integer.within
       (subst (λ m. number joined_word < 2 ^ m) joined_wide (number_below joined_word)))
 
   insertion : Inserted md i joined_op
@@ -329,20 +328,20 @@ module _ (d : Design) (fit : IsFit d) (k : ℕ) (md : Module) (at : slice_get d 
 
 -- ---- the law
 
-two_constants_row : RowLaw fold_two_constants
-two_constants_row d k md i es fit at is =
-    let found = bind_some (slice_get md.body i) (λ (o : Op). bind (result_type o 0) (λ (t : HwType). joining_edits md.body i o t o.kind)) is in
-    let typed = bind_some (result_type found.0 0) (λ (t : HwType). joining_edits md.body i found.0 t found.0.kind) found.2 in
+two_constants_pattern : PatternLaw fold_two_constants
+two_constants_pattern d k md i es fit at is =
+    let found = and_then_some (slice_get md.body i) (λ (o : Op). option_and_then (λ (t : HwType). joining_edits md.body i o t o.kind) (result_type o 0)) is in
+    let typed = and_then_some (result_type found.0 0) (λ (t : HwType). joining_edits md.body i found.0 t found.0.kind) found.2 in
     by_kind found.0 found.1 typed.0 typed.1 found.0.kind refl typed.2
   where
     by_words : (o : Op) → slice_get md.body i ≡ Some o → (t : HwType) → result_type o 0 ≡ Some t → (v : Variadic) → o.kind ≡ variadic v
         → (ws : List Word) → constants_among md.body o.operands ≡ ws
-        → omap (λ (n : ℕ). put_in i (number_op n t o.place) ∷ changed (suc i) (with_joined md.body i o) ∷ []) (joined_number v ws) ≡ Some es
+        → option_map (λ (n : ℕ). put_in i (number_op n t o.location) ∷ changed (suc i) (with_joined md.body i o) ∷ []) (joined_number v ws) ≡ Some es
         → IsFold d k md (edited_by es md.body)
     by_words o there t typed v kind [] are h = cc
     by_words o there t typed v kind (x ∷ []) are h = cc
     by_words o there t typed v kind (x ∷ y ∷ ws) are h =
-        let same : put_in i (number_op (number (variadic_value v (length x) (x ∷ y ∷ []))) t o.place) ∷ changed (suc i) (with_joined md.body i o) ∷ [] ≡ es = cc in
+        let same : put_in i (number_op (number (variadic_value v (length x) (x ∷ y ∷ []))) t o.location) ∷ changed (suc i) (with_joined md.body i o) ∷ [] ≡ es = cc in
         subst (λ (qs : List Edit). IsFold d k md (edited_by qs md.body)) same (two_joined d fit k md at i o there v kind t typed x y ws are)
 
     by_kind : (o : Op) → slice_get md.body i ≡ Some o → (t : HwType) → result_type o 0 ≡ Some t → (kind : Kind) → o.kind ≡ kind
@@ -351,4 +350,4 @@ two_constants_row d k md i es fit at is =
     by_kind o there t typed _ kind h = cc
 
 pub two_constants_are_fold : FoldLaw (fold_by fold_two_constants)
-two_constants_are_fold = row_is_fold fold_two_constants two_constants_row
+two_constants_are_fold = pattern_is_fold fold_two_constants two_constants_pattern

@@ -2,19 +2,19 @@
 use Rattle.std.proofs.Common.{◌≡◌, ℕ, zero, suc, Bool, true, false, cond, not, ◌&&◌, List, [], ◌∷◌, Some, None, slice_get, refl, sym, ap, subst, ◌∙◌, inl, inr}
 use Rattle.std.specs.List.{list_any}
 use Rattle.wiring.specs.Wiring.{In}
-use Rattle.wiring.proofs.Options.{bind_some}
+use Rattle.wiring.proofs.Options.{and_then_some}
 use Rattle.hw_model.specs.Equality.{both_of, number_self}
 use Rattle.hw_model.specs.Kinds.{Kind}
 use Rattle.hw_model.specs.Kinds.Kind.{instance, output, register, async_firreg}
 use Rattle.hw_model.specs.Design.{Ref, Op, Module, Design}
 use Rattle.hw_model.specs.Design.Ref.{undefined}
 use Rattle.op_checks.proofs.Widths.{neither}
-use Rattle.hw_edits.specs.Laws.{IsNotOf, erase_op, IsUnused}
-use Rattle.hw_edits.proofs.Unused.{erase_dead_op_preserves}
-use Rattle.hw_edits.proofs.Weights.{out_is_lighter}
-use Rattle.accepted_edits.specs.Keeps.{IsFit}
-use Rattle.accepted_edits.proofs.Accepted.{fit_found}
-use Rattle.accepted_edits.proofs.TakenOut.{fit_without_dead}
+use Rattle.edit_laws.specs.Laws.{IsNotOf, erase_op, IsUnused}
+use Rattle.edit_laws.proofs.Unused.{erase_dead_op_preserves}
+use Rattle.edit_laws.proofs.Weights.{out_is_lighter}
+use Rattle.acceptance_laws.specs.Keeps.{IsFit}
+use Rattle.acceptance_laws.proofs.Accepted.{fit_found}
+use Rattle.acceptance_laws.proofs.TakenOut.{fit_without_dead}
 use Rattle.pass_laws.proofs.Shapes.{shape_erase}
 use Rattle.pass_laws.proofs.Steady.{steady_with_body}
 use Rattle.fold_laws.specs.Edits.{Edit, edited_by, fold_by}
@@ -23,7 +23,7 @@ use Rattle.fold_laws.specs.Fold.{IsFold, FoldLaw}
 use Rattle.fold_laws.specs.Unused.{is_pure, is_result_of, is_used, fold_unused}
 use Rattle.fold_laws.proofs.MadeKinds.{anchors_kind}
 use Rattle.fold_laws.proofs.Measures.{measure_taken_out}
-use Rattle.fold_laws.proofs.Rows.{RowLaw, row_is_fold}
+use Rattle.fold_laws.proofs.Patterns.{PatternLaw, pattern_is_fold}
 
 pure_plain : (kind : Kind) → is_pure kind ≡ true → anchors_kind kind ≡ false
 pure_plain (instance i) is = cc
@@ -67,9 +67,9 @@ module _ (d : Design) (fit : IsFit d) (k : ℕ) (md : Module) (at : slice_get d 
     smaller = inl (measure_taken_out md.body i o undefined there);
   }
 
-unused_row : RowLaw fold_unused
-unused_row d k md i es fit at is =
-    let found = bind_some (slice_get md.body i) (λ (o : Op). cond (is_pure o.kind && not (is_used i md.body)) (Some (erased i undefined ∷ [])) None) is in
+unused_pattern : PatternLaw fold_unused
+unused_pattern d k md i es fit at is =
+    let found = and_then_some (slice_get md.body i) (λ (o : Op). cond (is_pure o.kind && not (is_used i md.body)) (Some (erased i undefined ∷ [])) None) is in
     go found.0 found.1 (is_pure found.0.kind && not (is_used i md.body)) refl found.2
   where
     go : (o : Op) → slice_get md.body i ≡ Some o → (b : Bool) → (is_pure o.kind && not (is_used i md.body)) ≡ b
@@ -85,4 +85,4 @@ unused_row d k md i es fit at is =
     go o there false both made = cc
 
 pub unused_is_fold : FoldLaw (fold_by fold_unused)
-unused_is_fold = row_is_fold fold_unused unused_row
+unused_is_fold = pattern_is_fold fold_unused unused_pattern

@@ -10,7 +10,8 @@ use Rattle.hw_model.specs.Kinds.Kind.{variadic}
 use Rattle.ir_store.specs.ResultTypes.{first_type, result_type as type_of_result, result_types, result_count}
 use Rattle.op_checks.specs.TypeLists.{known_types, differs, any_differs, differ}
 use Rattle.op_checks.specs.TypeChecks.{is_int, is_outside, has_bad_field, has_clock_part, is_clock}
-use Rattle.op_checks.specs.LimitChecks.{of_type, has_type_outside, has_constant_outside, has_extract_outside, has_broken_copy, has_wide_concat, has_unknown_divisor, has_wrong_index, has_wrong_field, has_unequal_widths, has_clock_operand, has_clock_value}
+use Rattle.op_checks.specs.LimitChecks.{of_type, has_type_outside, has_constant_outside, has_extract_outside, has_broken_copy, has_wide_concat, has_unknown_divisor, has_wrong_index, has_wrong_field}
+use Rattle.op_checks.specs.LimitChecks.{has_unequal_widths, has_clock_operand, has_clock_value}
 use Rattle.op_checks.specs.CountChecks.{operands_written, operand_count, type_count, has_miscounted_parts, has_wrong_operands, has_wrong_results, has_wrong_count}
 use Rattle.op_checks.specs.OperandChecks.{has_other_form, has_other_operand, has_other_result, has_mismatch}
 use Rattle.op_checks.specs.OwnChecks.{cause_if, own_cause}

@@ -1,7 +1,6 @@
--- Rows by which constants among the operands of an operation of any number of them are joined, or moved after the others (CIRCT,
+-- Patterns by which constants among the operands of an operation of any number of them are joined, or moved after the others (CIRCT,
 -- Comb dialect: canonicalization of its operations).
-use Rattle.std.specs.Prelude.{ℕ, suc, Bool, false, cond, not, ◌&&◌, ◌||◌, map, List, [], ◌∷◌, ◌++◌, length, Option, Some, None, slice_get}
-use Rattle.wiring.specs.Options.{bind, omap}
+use Rattle.std.specs.Prelude.{ℕ, suc, Bool, false, cond, not, ◌&&◌, ◌||◌, map, List, [], ◌∷◌, ◌++◌, length, Option, Some, None, slice_get, option_and_then, option_map}
 use Rattle.bits_core.specs.Word.{Word, number}
 use Rattle.hw_model.specs.Types.{HwType}
 use Rattle.hw_model.specs.Kinds.{Kind, Variadic}
@@ -9,9 +8,9 @@ use Rattle.hw_model.specs.Kinds.Kind.{variadic}
 use Rattle.hw_model.specs.Design.{Ref, Op, result_type}
 use Rattle.hw_model.specs.Design.Ref.{result}
 use Rattle.hw_model.specs.Value.{variadic_value}
-use Rattle.hw_edits.specs.Laws.{up_ref}
+use Rattle.edit_laws.specs.Laws.{up_ref}
 use Rattle.fold_laws.specs.Constants.{constant_at}
-use Rattle.fold_laws.specs.Edits.{Edit, Row}
+use Rattle.fold_laws.specs.Edits.{Edit, FoldPattern}
 use Rattle.fold_laws.specs.Edits.Edit.{changed, put_in}
 use Rattle.fold_laws.specs.Fewer.{Operands, by_operands}
 use Rattle.fold_laws.specs.Fold.{is_constant_in}
@@ -27,7 +26,7 @@ has_other test (x ∷ xs) = not (test x) || has_other test xs
 -- a list with the first value that meets a test before one that does not moved to the end; None where there is none
 abbrev pub with_first_last : (Ref → Bool) → List Ref → Option (List Ref)
 with_first_last test [] = None
-with_first_last test (x ∷ xs) = cond (test x && has_other test xs) (Some (xs ++ x ∷ [])) (omap (λ (ys : List Ref). x ∷ ys) (with_first_last test xs))
+with_first_last test (x ∷ xs) = cond (test x && has_other test xs) (Some (xs ++ x ∷ [])) (option_map (λ (ys : List Ref). x ∷ ys) (with_first_last test xs))
 
 -- the first constant before another operand, as the last operand
 abbrev pub constant_last : Operands
@@ -66,15 +65,15 @@ with_joined os i o = record o { operands = with_two_as (is_constant_in os) (up_r
 -- the edits by which an operation with a result of type t has one constant in the place of two
 abbrev pub joining_edits : List Op → ℕ → Op → HwType → Kind → Option (List Edit)
 joining_edits os i o t (variadic v) =
-    omap (λ (n : ℕ). put_in i (number_op n t o.place) ∷ changed (suc i) (with_joined os i o) ∷ []) (joined_number v (constants_among os o.operands))
+    option_map (λ (n : ℕ). put_in i (number_op n t o.location) ∷ changed (suc i) (with_joined os i o) ∷ []) (joined_number v (constants_among os o.operands))
 joining_edits os i o t _ = None
 
--- ---- the rows
+-- ---- the patterns
 
 -- add, mul, and, or, xor with two constants has the constant of their value in the place of the second one
-abbrev pub fold_two_constants : Row
-fold_two_constants os i = bind (slice_get os i) (λ (o : Op). bind (result_type o 0) (λ (t : HwType). joining_edits os i o t o.kind))
+abbrev pub fold_two_constants : FoldPattern
+fold_two_constants os i = option_and_then (λ (o : Op). option_and_then (λ (t : HwType). joining_edits os i o t o.kind) (result_type o 0)) (slice_get os i)
 
 -- add, mul, and, or, xor with a constant before another operand has the first such constant as its last operand
-abbrev pub fold_constant_last : Row
+abbrev pub fold_constant_last : FoldPattern
 fold_constant_last = by_operands constant_last

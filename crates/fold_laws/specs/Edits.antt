@@ -1,9 +1,8 @@
--- Edits of a body, as the rows of the table of folds make them (MLIR documentation, "Pattern Rewriting": replace, erase,
+-- Edits of a body, as the patterns of the table of folds make them (MLIR documentation, "Pattern Rewriting": replace, erase,
 -- update in place, create).
-use Rattle.std.specs.Prelude.{ℕ, List, [], ◌∷◌, set, Option}
-use Rattle.wiring.specs.Options.{omap}
+use Rattle.std.specs.Prelude.{ℕ, List, [], ◌∷◌, set, Option, option_map}
 use Rattle.hw_model.specs.Design.{Ref, Op}
-use Rattle.hw_edits.specs.Laws.{erase_op, insert_op}
+use Rattle.edit_laws.specs.Laws.{erase_op, insert_op}
 use Rattle.fold_laws.specs.Fold.{Fold}
 
 -- one edit, by the position of its operation
@@ -26,10 +25,10 @@ abbrev pub edited_by : List Edit → List Op → List Op
 edited_by [] os = os
 edited_by (e ∷ es) os = edited_by es (edited e os)
 
--- a row of the table: the edits that it makes of a body at the operation of a position; None where it does not match
-abbrev pub Row : Type 0
-Row = List Op → ℕ → Option (List Edit)
+-- a pattern of the table: the edits that it makes of a body at the operation of a position; None where it does not match
+abbrev pub FoldPattern : Type 0
+FoldPattern = List Op → ℕ → Option (List Edit)
 
--- the fold of a row
-abbrev pub fold_by : Row → Fold
-fold_by row md i = omap (λ (es : List Edit). edited_by es md.body) (row md.body i)
+-- the fold of a pattern
+abbrev pub fold_by : FoldPattern → Fold
+fold_by pattern md i = option_map (λ (es : List Edit). edited_by es md.body) (pattern md.body i)

@@ -6,12 +6,12 @@ use Rattle.hw_model.specs.Kinds.{Kind}
 use Rattle.hw_model.specs.Kinds.Kind.{variadic, constant}
 use Rattle.hw_model.specs.Design.{Ref, Op, Module, Design}
 use Rattle.hw_model.specs.Weight.{weight}
-use Rattle.hw_edits.specs.Laws.{with_body}
-use Rattle.accepted_edits.specs.Keeps.{IsFit}
+use Rattle.edit_laws.specs.Laws.{with_body}
+use Rattle.acceptance_laws.specs.Keeps.{IsFit}
 use Rattle.pass_laws.specs.Steady.{IsSteady}
 use Rattle.fold_laws.specs.Constants.{constant_at}
 
--- a row of the table of folds: what it makes of a module's body at the operation of a position; None where it does not
+-- a pattern of the table of folds: what it makes of a module's body at the operation of a position; None where it does not
 -- match
 abbrev pub Fold : Type 0
 Fold = Module → ℕ → Option (List Op)
@@ -74,6 +74,6 @@ pub record IsFold (d : Design) (k : ℕ) (md : Module) (os : List Op) : Type 0 w
   pub lighter : (s : Name) → weight (with_body d k md os) s ≤ weight d s
   pub smaller : IsSmaller os md.body
 
--- what a row makes of a body of a fit design is a fold of it
+-- what a pattern makes of a body of a fit design is a fold of it
 abbrev pub FoldLaw : Fold → Type 0
-FoldLaw row = (d : Design) (k : ℕ) (md : Module) (i : ℕ) (os : List Op) → IsFit d → slice_get d k ≡ Some md → row md i ≡ Some os → IsFold d k md os
+FoldLaw pattern = (d : Design) (k : ℕ) (md : Module) (i : ℕ) (os : List Op) → IsFit d → slice_get d k ≡ Some md → pattern md i ≡ Some os → IsFold d k md os

@@ -1,7 +1,6 @@
 -- Folds by which an operation takes in another one that made an operand of it and has no other use (CIRCT, Comb dialect:
 -- canonicalization of comb.add, comb.mul, comb.and, comb.or, comb.xor, comb.extract and comb.concat).
-use Rattle.std.specs.Prelude.{ℕ, zero, suc, ◌+◌, Bool, true, false, cond, not, ◌&&◌, nat_eq, List, [], ◌∷◌, ◌++◌, Option, Some, None, slice_get}
-use Rattle.wiring.specs.Options.{bind, omap}
+use Rattle.std.specs.Prelude.{ℕ, zero, suc, ◌+◌, Bool, true, false, cond, not, ◌&&◌, nat_eq, List, [], ◌∷◌, ◌++◌, Option, Some, None, slice_get, option_and_then, option_map}
 use Rattle.bits_core.specs.Word.{bit}
 use Rattle.hw_model.specs.Types.{HwType}
 use Rattle.hw_model.specs.Kinds.{Kind, Variadic}
@@ -10,7 +9,7 @@ use Rattle.hw_model.specs.Kinds.Kind.{variadic, extract, concat}
 use Rattle.hw_model.specs.Design.{Ref, Op, result_type}
 use Rattle.hw_model.specs.Design.Ref.{result, undefined}
 use Rattle.hw_model.specs.Value.{nth_type}
-use Rattle.fold_laws.specs.Edits.{Edit, Row}
+use Rattle.fold_laws.specs.Edits.{Edit, FoldPattern}
 use Rattle.fold_laws.specs.Edits.Edit.{changed, replaced, erased}
 use Rattle.fold_laws.specs.Unused.{is_result_of}
 
@@ -46,7 +45,7 @@ nested_result test os i j c =
 
 -- the same of any value
 abbrev pub nested_at : (Kind → Bool) → List Op → ℕ → Ref → Option Nested
-nested_at test os i (result j zero) = bind (slice_get os j) (nested_result test os i j)
+nested_at test os i (result j zero) = option_and_then (nested_result test os i j) (slice_get os j)
 nested_at test os i _ = None
 
 -- what stands one operand later
@@ -56,7 +55,7 @@ one_later n = record n { number = suc n.number }
 -- the first, or else what stands later
 abbrev pub first_or_later : Option Nested → Option Nested → Option Nested
 first_or_later (Some n) later = Some n
-first_or_later None later = omap one_later later
+first_or_later None later = option_map one_later later
 
 -- the one with the lowest number among the operands
 abbrev pub first_nested : (Kind → Bool) → List Op → ℕ → List Ref → Option Nested
@@ -82,7 +81,7 @@ new_op o kind rs ts t = record {
   name = [];
   dictionary = o.dictionary;
   bin = o.bin;
-  place = o.place;
+  location = o.location;
 }
 
 -- o with the operands of the inner operation in the place of the operand that it made
@@ -128,35 +127,35 @@ abbrev pub lowest_bit : Kind → Option ℕ
 lowest_bit (extract low) = Some low
 lowest_bit _ = None
 
--- ---- the rows
+-- ---- the patterns
 
 -- the edits of an operation o of a kind at position i that takes in the inner one, of the same kind
 abbrev pub operand_edits : List Op → ℕ → Op → Kind → Option (List Edit)
 operand_edits os i o (variadic v) =
-    omap (λ (n : Nested). changed i (joined_operation o n) ∷ erased n.position undefined ∷ []) (first_nested (is_variadic v) os i o.operands)
+    option_map (λ (n : Nested). changed i (joined_operation o n) ∷ erased n.position undefined ∷ []) (first_nested (is_variadic v) os i o.operands)
 operand_edits os i o _ = None
 
 -- add, mul, and, or, xor takes the operands of the first operand's operation of its kind with one use
-abbrev pub fold_nested_operand : Row
-fold_nested_operand os i = bind (slice_get os i) (λ (o : Op). operand_edits os i o o.kind)
+abbrev pub fold_nested_operand : FoldPattern
+fold_nested_operand os i = option_and_then (λ (o : Op). operand_edits os i o o.kind) (slice_get os i)
 
 -- those of an extract o with a result of type t
 abbrev pub extract_edits : List Op → ℕ → Op → Kind → HwType → Option (List Edit)
 extract_edits os i o (extract low) t =
-    bind (first_nested is_extract os i o.operands) (λ (n : Nested).
-    omap (λ (m : ℕ). replaced i (joined_extract o t low n m) ∷ erased n.position undefined ∷ []) (lowest_bit n.inner.kind))
+    option_and_then (λ (n : Nested).
+    option_map (λ (m : ℕ). replaced i (joined_extract o t low n m) ∷ erased n.position undefined ∷ []) (lowest_bit n.inner.kind)) (first_nested is_extract os i o.operands)
 extract_edits os i o _ t = None
 
 -- an extract of an extract with one use becomes one extract
-abbrev pub fold_extract_extract : Row
-fold_extract_extract os i = bind (slice_get os i) (λ (o : Op). bind (result_type o 0) (extract_edits os i o o.kind))
+abbrev pub fold_extract_extract : FoldPattern
+fold_extract_extract os i = option_and_then (λ (o : Op). option_and_then (extract_edits os i o o.kind) (result_type o 0)) (slice_get os i)
 
 -- those of a concat o with a result of type t
 abbrev pub concat_edits : List Op → ℕ → Op → Kind → HwType → Option (List Edit)
 concat_edits os i o concat t =
-    omap (λ (n : Nested). replaced i (joined_concat o t n) ∷ erased n.position undefined ∷ []) (first_nested (is_concat) os i o.operands)
+    option_map (λ (n : Nested). replaced i (joined_concat o t n) ∷ erased n.position undefined ∷ []) (first_nested (is_concat) os i o.operands)
 concat_edits os i o _ t = None
 
 -- a concat takes the operands of the first operand's concat with one use
-abbrev pub fold_nested_concat : Row
-fold_nested_concat os i = bind (slice_get os i) (λ (o : Op). bind (result_type o 0) (concat_edits os i o o.kind))
+abbrev pub fold_nested_concat : FoldPattern
+fold_nested_concat os i = option_and_then (λ (o : Op). option_and_then (concat_edits os i o o.kind) (result_type o 0)) (slice_get os i)

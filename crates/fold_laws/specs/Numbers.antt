@@ -1,6 +1,5 @@
 -- Folds by which an operation becomes a constant (CIRCT, Comb dialect: folds of its operations).
-use Rattle.std.specs.Prelude.{ℕ, pos, Bool, true, false, cond, List, [], ◌∷◌, Option, Some, None, slice_get}
-use Rattle.wiring.specs.Options.{bind, omap}
+use Rattle.std.specs.Prelude.{ℕ, pos, Bool, true, false, cond, List, [], ◌∷◌, Option, Some, None, slice_get, option_and_then, option_map}
 use Rattle.bits_core.specs.Word.{bit}
 use Rattle.hw_model.specs.Types.{HwType}
 use Rattle.hw_model.specs.Kinds.{Kind, Predicate}
@@ -9,17 +8,17 @@ use Rattle.hw_model.specs.Kinds.Division.{modu, mods}
 use Rattle.hw_model.specs.Kinds.Shift.{shl, shru}
 use Rattle.hw_model.specs.Kinds.Variadic.{xor}
 use Rattle.hw_model.specs.Kinds.Kind.{variadic, sub, division, shift, icmp, constant}
-use Rattle.hw_model.specs.Design.{Place, Ref, Op, result_type}
+use Rattle.hw_model.specs.Design.{Location, Ref, Op, result_type}
 use Rattle.ir_store.specs.Positions.{same_ref}
 use Rattle.fold_laws.specs.Constants.{is_constant_where, is_one, shifts_out}
-use Rattle.fold_laws.specs.Edits.{Edit, Row}
+use Rattle.fold_laws.specs.Edits.{Edit, FoldPattern}
 use Rattle.fold_laws.specs.Edits.Edit.{replaced}
 
 -- ---- constants that stand in the place of operations
 
--- the hw.constant of a number and a type, at a place of the text, without a dictionary
-abbrev pub number_op : ℕ → HwType → Place → Op
-number_op n t place = record {
+-- the hw.constant of a number and a type, at a location of the text, without a dictionary
+abbrev pub number_op : ℕ → HwType → Location → Op
+number_op n t location = record {
   kind = constant (pos n);
   operands = [];
   types = t ∷ [];
@@ -28,7 +27,7 @@ number_op n t place = record {
   name = [];
   dictionary = [];
   bin = false;
-  place = place;
+  location = location;
 }
 
 -- the number that a constant in the place of an operation has, by its kind, the types that it writes, the type of its
@@ -38,11 +37,11 @@ Numbering = List Op → Kind → List HwType → HwType → List Ref → Option 
 
 -- the operation o with a result of type t becomes the constant
 abbrev pub with_number : Numbering → List Op → ℕ → Op → HwType → Option (List Edit)
-with_number numbering os i o t = omap (λ (n : ℕ). replaced i (number_op n t o.place) ∷ []) (numbering os o.kind o.types t o.operands)
+with_number numbering os i o t = option_map (λ (n : ℕ). replaced i (number_op n t o.location) ∷ []) (numbering os o.kind o.types t o.operands)
 
--- the row by which it does
-abbrev pub by_number : Numbering → Row
-by_number numbering os i = bind (slice_get os i) (λ (o : Op). bind (result_type o 0) (with_number numbering os i o))
+-- the pattern by which it does
+abbrev pub by_number : Numbering → FoldPattern
+by_number numbering os i = option_and_then (λ (o : Op). option_and_then (with_number numbering os i o) (result_type o 0)) (slice_get os i)
 
 -- ---- operands
 
@@ -97,24 +96,24 @@ abbrev pub icmp_self : Numbering
 icmp_self os (icmp p) ts t rs = number_where same_ref (bit (holds_of_equals p)) rs
 icmp_self os _ ts t rs = None
 
--- ---- the rows
+-- ---- the patterns
 
 -- sub x, x becomes 0
-abbrev pub fold_sub_self : Row
+abbrev pub fold_sub_self : FoldPattern
 fold_sub_self = by_number sub_self
 
 -- xor x, x becomes 0
-abbrev pub fold_xor_self : Row
+abbrev pub fold_xor_self : FoldPattern
 fold_xor_self = by_number xor_self
 
 -- shl, shru by a constant of the width or more becomes 0
-abbrev pub fold_shift_out : Row
+abbrev pub fold_shift_out : FoldPattern
 fold_shift_out = by_number shift_out
 
 -- modu, mods by 1 becomes 0
-abbrev pub fold_mod_one : Row
+abbrev pub fold_mod_one : FoldPattern
 fold_mod_one = by_number rest_by_one
 
 -- icmp x, x becomes true for eq, ceq, weq, sle, sge, ule, uge, false for other predicates
-abbrev pub fold_icmp_self : Row
+abbrev pub fold_icmp_self : FoldPattern
 fold_icmp_self = by_number icmp_self

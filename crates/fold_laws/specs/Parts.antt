@@ -1,7 +1,6 @@
 -- Folds by which a part of what was made of parts is that part (CIRCT, Comb and HW dialects: folds of their operations).
-use Rattle.std.specs.Prelude.{ℕ, zero, cond, ◌&&◌, nat_eq, map, length, List, [], ◌∷◌, Option, Some, None, slice_get}
+use Rattle.std.specs.Prelude.{ℕ, zero, cond, ◌&&◌, nat_eq, map, length, List, [], ◌∷◌, Option, Some, None, slice_get, option_and_then}
 use Rattle.wiring.specs.Lists.{total}
-use Rattle.wiring.specs.Options.{bind}
 use Rattle.bits_core.specs.Word.{Word, number}
 use Rattle.hw_model.specs.Types.{Name, HwType, FieldTypes, width}
 use Rattle.hw_model.specs.Types.FieldTypes.{no_fields, field}
@@ -13,7 +12,7 @@ use Rattle.hw_model.specs.Design.{Ref, Op, same_name}
 use Rattle.hw_model.specs.Design.Ref.{result}
 use Rattle.hw_model.specs.Value.{fields, nth_type}
 use Rattle.fold_laws.specs.Constants.{constant_at}
-use Rattle.fold_laws.specs.Edits.{Row}
+use Rattle.fold_laws.specs.Edits.{FoldPattern}
 use Rattle.fold_laws.specs.Standing.{Stand, by_stand}
 
 -- the operation of which a value is the first result
@@ -34,7 +33,7 @@ created_field fs name _ rs = None
 
 -- the field of a name of the value that is the only operand, where it was made of fields
 abbrev pub field_of_made : List Op → FieldTypes → Name → List Ref → Option Ref
-field_of_made os fs name (s ∷ []) = bind (maker os s) (λ (c : Op). created_field fs name c.kind c.operands)
+field_of_made os fs name (s ∷ []) = option_and_then (λ (c : Op). created_field fs name c.kind c.operands) (maker os s)
 field_of_made os fs name _ = None
 
 -- an operand of hw.struct_create stands for the field that it is
@@ -43,7 +42,7 @@ struct_part os (on_struct (struct_extract name)) ts rs = field_of_made os (field
 struct_part os _ ts rs = None
 
 -- struct_extract of struct_create becomes the operand
-abbrev pub fold_struct_part : Row
+abbrev pub fold_struct_part : FoldPattern
 fold_struct_part = by_stand struct_part
 
 -- ---- bits of what was joined
@@ -61,7 +60,7 @@ joined_operand low w _ us rs = None
 
 -- the operand that these bits are of the value that is the only operand, where it was joined
 abbrev pub covered_of_made : List Op → ℕ → ℕ → List Ref → Option Ref
-covered_of_made os low w (s ∷ []) = bind (maker os s) (λ (c : Op). joined_operand low w c.kind c.types c.operands)
+covered_of_made os low w (s ∷ []) = option_and_then (λ (c : Op). joined_operand low w c.kind c.types c.operands) (maker os s)
 covered_of_made os low w _ = None
 
 -- an operand of comb.concat stands for the bits that it is
@@ -70,7 +69,7 @@ extract_part os (extract low) ts rs = covered_of_made os low (width (nth_type ts
 extract_part os _ ts rs = None
 
 -- an extract that covers exactly one operand of a concat becomes that operand
-abbrev pub fold_extract_part : Row
+abbrev pub fold_extract_part : FoldPattern
 fold_extract_part = by_stand extract_part
 
 -- ---- elements of an array that was made of elements
@@ -87,7 +86,7 @@ created_element n _ rs = None
 
 -- the element of an array at an index that is a constant, where the array was made of elements
 abbrev pub element_of_made : List Op → List Ref → Option Ref
-element_of_made os (a ∷ i ∷ []) = bind (constant_at os i) (λ (w : Word). bind (maker os a) (λ (c : Op). created_element (number w) c.kind c.operands))
+element_of_made os (a ∷ i ∷ []) = option_and_then (λ (w : Word). option_and_then (λ (c : Op). created_element (number w) c.kind c.operands) (maker os a)) (constant_at os i)
 element_of_made os _ = None
 
 -- an operand of hw.array_create stands for the element that it is
@@ -96,5 +95,5 @@ array_part os (on_array array_get) ts rs = element_of_made os rs
 array_part os _ ts rs = None
 
 -- array_get of array_create at a constant within the array becomes the operand
-abbrev pub fold_array_part : Row
+abbrev pub fold_array_part : FoldPattern
 fold_array_part = by_stand array_part

@@ -1,7 +1,6 @@
 -- Folds by which a value stands for the only result of an operation, which goes (CIRCT, Comb and HW dialects: folds of
 -- their operations).
-use Rattle.std.specs.Prelude.{Bool, true, false, cond, ◌&&◌, List, [], ◌∷◌, Option, Some, None, slice_get}
-use Rattle.wiring.specs.Options.{bind, omap}
+use Rattle.std.specs.Prelude.{Bool, true, false, cond, ◌&&◌, List, [], ◌∷◌, Option, Some, None, slice_get, option_and_then, option_map}
 use Rattle.hw_model.specs.Types.{HwType}
 use Rattle.hw_model.specs.SameType.{same_type}
 use Rattle.hw_model.specs.Kinds.{Kind}
@@ -12,7 +11,7 @@ use Rattle.hw_model.specs.Design.{Ref, Op}
 use Rattle.hw_model.specs.Value.{is_high}
 use Rattle.ir_store.specs.Positions.{same_ref}
 use Rattle.fold_laws.specs.Constants.{constant_at, is_constant_where, is_zero, is_one, is_ones, is_true, is_false}
-use Rattle.fold_laws.specs.Edits.{Row}
+use Rattle.fold_laws.specs.Edits.{FoldPattern}
 use Rattle.fold_laws.specs.Edits.Edit.{erased}
 
 -- ---- values that stand for results
@@ -22,9 +21,9 @@ use Rattle.fold_laws.specs.Edits.Edit.{erased}
 abbrev pub Stand : Type 0
 Stand = List Op → Kind → List HwType → List Ref → Option Ref
 
--- the row by which the value stands for the result, and the operation goes
-abbrev pub by_stand : Stand → Row
-by_stand stand os i = bind (slice_get os i) (λ (o : Op). omap (λ (x : Ref). erased i x ∷ []) (stand os o.kind o.types o.operands))
+-- the pattern by which the value stands for the result, and the operation goes
+abbrev pub by_stand : Stand → FoldPattern
+by_stand stand os i = option_and_then (λ (o : Op). option_map (λ (x : Ref). erased i x ∷ []) (stand os o.kind o.types o.operands)) (slice_get os i)
 
 -- ---- operands
 
@@ -100,7 +99,7 @@ div_one os _ ts rs = None
 
 -- the chosen value stands for a mux with a constant condition
 abbrev pub mux_constant : Stand
-mux_constant os mux ts rs = of_three_operands (λ c x y. omap (λ w. cond (is_high w) x y) (constant_at os c)) rs
+mux_constant os mux ts rs = of_three_operands (λ c x y. option_map (λ w. cond (is_high w) x y) (constant_at os c)) rs
 mux_constant os _ ts rs = None
 
 -- x stands for a mux of x and x
@@ -135,60 +134,60 @@ abbrev pub trivial_bitcast : Stand
 trivial_bitcast os bitcast ts rs = when (writes_one_type ts) (only_operand rs)
 trivial_bitcast os _ ts rs = None
 
--- ---- the rows
+-- ---- the patterns
 
 -- add, mul, and, or, xor of one operand becomes that operand
-abbrev pub fold_single_operand : Row
+abbrev pub fold_single_operand : FoldPattern
 fold_single_operand = by_stand single_operand
 
 -- and with an operand 0 becomes that operand
-abbrev pub fold_and_zero : Row
+abbrev pub fold_and_zero : FoldPattern
 fold_and_zero = by_stand absorbing_and
 
 -- or with an operand of ones becomes that operand
-abbrev pub fold_or_ones : Row
+abbrev pub fold_or_ones : FoldPattern
 fold_or_ones = by_stand absorbing_or
 
 -- mul with an operand 0 becomes that operand
-abbrev pub fold_mul_zero : Row
+abbrev pub fold_mul_zero : FoldPattern
 fold_mul_zero = by_stand absorbing_mul
 
 -- sub x, 0 becomes x
-abbrev pub fold_sub_zero : Row
+abbrev pub fold_sub_zero : FoldPattern
 fold_sub_zero = by_stand sub_zero
 
 -- shl, shru, shrs of x by 0 becomes x
-abbrev pub fold_shift_zero : Row
+abbrev pub fold_shift_zero : FoldPattern
 fold_shift_zero = by_stand shift_zero
 
 -- divu, divs of x by 1 becomes x
-abbrev pub fold_div_one : Row
+abbrev pub fold_div_one : FoldPattern
 fold_div_one = by_stand div_one
 
 -- mux with a constant condition becomes the chosen operand
-abbrev pub fold_mux_constant : Row
+abbrev pub fold_mux_constant : FoldPattern
 fold_mux_constant = by_stand mux_constant
 
 -- mux c, x, x becomes x
-abbrev pub fold_mux_same : Row
+abbrev pub fold_mux_same : FoldPattern
 fold_mux_same = by_stand mux_same
 
 -- mux c, true, false becomes c
-abbrev pub fold_mux_bool : Row
+abbrev pub fold_mux_bool : FoldPattern
 fold_mux_bool = by_stand mux_bool
 
 -- an extract of the whole width of x becomes x
-abbrev pub fold_full_extract : Row
+abbrev pub fold_full_extract : FoldPattern
 fold_full_extract = by_stand full_extract
 
 -- concat of one operand becomes that operand
-abbrev pub fold_trivial_concat : Row
+abbrev pub fold_trivial_concat : FoldPattern
 fold_trivial_concat = by_stand trivial_concat
 
 -- replicate of x to its own width becomes x
-abbrev pub fold_trivial_replicate : Row
+abbrev pub fold_trivial_replicate : FoldPattern
 fold_trivial_replicate = by_stand trivial_replicate
 
 -- bitcast of x to its own type becomes x
-abbrev pub fold_trivial_bitcast : Row
+abbrev pub fold_trivial_bitcast : FoldPattern
 fold_trivial_bitcast = by_stand trivial_bitcast

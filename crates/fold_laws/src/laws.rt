@@ -9,7 +9,7 @@ ghost use Rattle.fold_laws.specs.Nested.{fold_nested_operand, fold_extract_extra
 ghost use Rattle.fold_laws.specs.Numbers.{fold_sub_self, fold_xor_self, fold_shift_out, fold_mod_one, fold_icmp_self};
 ghost use Rattle.fold_laws.specs.Parts.{fold_struct_part, fold_extract_part, fold_array_part};
 ghost use Rattle.fold_laws.specs.Standing.{fold_single_operand, fold_and_zero, fold_or_ones, fold_mul_zero, fold_sub_zero, fold_shift_zero, fold_div_one, fold_mux_constant, fold_mux_same, fold_mux_bool, fold_full_extract, fold_trivial_concat, fold_trivial_replicate, fold_trivial_bitcast};
-ghost use Rattle.fold_laws.specs.Table.{first_row, rows, AllFold};
+ghost use Rattle.fold_laws.specs.Table.{first_pattern, patterns, AllFold};
 ghost use Rattle.fold_laws.specs.Unused.{fold_unused};
 
 /// Does nothing. Its clause says that it is a fold where an operation without uses goes.
@@ -17,7 +17,7 @@ pub fn unused_operations_go()
     ensures { FoldLaw (fold_by fold_unused) }
 {}
 
-/// Does nothing. Its clauses say of each row by which an operand stands for the result of an operation, which goes, that
+/// Does nothing. Its clauses say of each pattern by which an operand stands for the result of an operation, which goes, that
 /// it is a fold.
 pub fn operands_stand()
     ensures single_operand { FoldLaw (fold_by fold_single_operand) }
@@ -36,7 +36,7 @@ pub fn operands_stand()
     ensures trivial_bitcast { FoldLaw (fold_by fold_trivial_bitcast) }
 {}
 
-/// Does nothing. Its clauses say of each row by which an operation becomes a constant that it is a fold.
+/// Does nothing. Its clauses say of each pattern by which an operation becomes a constant that it is a fold.
 pub fn operations_become_constants()
     ensures value_of_constants { FoldLaw (fold_by fold_evaluated) }
     ensures sub_self { FoldLaw (fold_by fold_sub_self) }
@@ -46,7 +46,7 @@ pub fn operations_become_constants()
     ensures icmp_self { FoldLaw (fold_by fold_icmp_self) }
 {}
 
-/// Does nothing. Its clauses say of each row by which an operation of any number of operands loses some of them that it is
+/// Does nothing. Its clauses say of each pattern by which an operation of any number of operands loses some of them that it is
 /// a fold.
 pub fn operands_go()
     ensures add_zero { FoldLaw (fold_by fold_add_zero) }
@@ -58,7 +58,7 @@ pub fn operands_go()
     ensures xor_pair { FoldLaw (fold_by fold_xor_pair) }
 {}
 
-/// Does nothing. Its clauses say of each row by which an operand of the operation that made an operand stands for the
+/// Does nothing. Its clauses say of each pattern by which an operand of the operation that made an operand stands for the
 /// result that it is a fold.
 pub fn parts_stand()
     ensures struct_part { FoldLaw (fold_by fold_struct_part) }
@@ -66,7 +66,7 @@ pub fn parts_stand()
     ensures array_part { FoldLaw (fold_by fold_array_part) }
 {}
 
-/// Does nothing. Its clauses say of each row by which an operation takes in another one, which made an operand of it and has
+/// Does nothing. Its clauses say of each pattern by which an operation takes in another one, which made an operand of it and has
 /// no other use, that it is a fold.
 pub fn nested_operations_join()
     ensures nested_operand { FoldLaw (fold_by fold_nested_operand) }
@@ -74,15 +74,15 @@ pub fn nested_operations_join()
     ensures nested_concat { FoldLaw (fold_by fold_nested_concat) }
 {}
 
-/// Does nothing. Its clauses say of each row that changes constants among the operands of an operation of any number of them
+/// Does nothing. Its clauses say of each pattern that changes constants among the operands of an operation of any number of them
 /// that it is a fold.
 pub fn constants_join_and_go_last()
     ensures two_constants { FoldLaw (fold_by fold_two_constants) }
     ensures constant_last { FoldLaw (fold_by fold_constant_last) }
 {}
 
-/// Does nothing. Its clauses say of each row of the table that it is a fold, and of the first one that matches.
-pub fn each_row_folds()
-    ensures each { AllFold rows }
-    ensures first { FoldLaw (fold_by (first_row rows)) }
+/// Does nothing. Its clauses say of each pattern of the table that it is a fold, and of the first one that matches.
+pub fn each_pattern_folds()
+    ensures each { AllFold patterns }
+    ensures first { FoldLaw (fold_by (first_pattern patterns)) }
 {}

@@ -1,9 +1,9 @@
-//! Folds of operations: what each row of their table makes of a body, and that a design keeps what it does.
+//! Folds of operations: what each pattern of their table makes of a body, and that a design keeps what it does.
 #![tactic(auto)]
 
 mod laws;
 
 pub use laws::{
-    constants_join_and_go_last, each_row_folds, nested_operations_join, operands_go,
+    constants_join_and_go_last, each_pattern_folds, nested_operations_join, operands_go,
     operands_stand, operations_become_constants, parts_stand, unused_operations_go,
 };

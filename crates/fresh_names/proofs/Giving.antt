@@ -11,8 +11,8 @@ fresh_count ts [] = refl
 fresh_count ts (w ∷ ws) = ap suc (fresh_count (ts ++ free_name ts w ∷ []) ws)
 
 -- what is free of both lists together is free of the first
-pub free_front : (ts us : List Name) (q : Name) → is_taken (ts ++ us) q ≡ false → is_taken ts q ≡ false
-free_front ts us q e = go (is_taken ts q) refl
+pub free_prefix : (ts us : List Name) (q : Name) → is_taken (ts ++ us) q ≡ false → is_taken ts q ≡ false
+free_prefix ts us q e = go (is_taken ts q) refl
   where
     go : (b : Bool) → is_taken ts q ≡ b → is_taken ts q ≡ false
     go true t = absurd (true≢false (sym (taken_more ts us q t) ∙ e))
@@ -26,7 +26,7 @@ fresh_free ts [] i q small e = cc
 fresh_free ts (w ∷ ws) zero q small e =
     let s : free_name ts w ≡ q = cc in ap (is_taken ts) (sym s) ∙ name_free ts w (omega (arith, small))
 fresh_free ts (w ∷ ws) (suc i) q small e =
-    free_front ts (free_name ts w ∷ []) q (fresh_free (ts ++ free_name ts w ∷ []) ws i q (more_length ts (free_name ts w) (length ws) small) e)
+    free_prefix ts (free_name ts w ∷ []) q (fresh_free (ts ++ free_name ts w ∷ []) ws i q (more_length ts (free_name ts w) (length ws) small) e)
 
 -- what comes later is another one
 later : (ts ws : List Name) (w : Name) (i : ℕ) → length ts + suc (length ws) < 2 ^ 64

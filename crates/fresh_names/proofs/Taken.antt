@@ -122,11 +122,11 @@ tried_taken ts w n h = record { within = omega (arith, h.within, length-append {
 
 -- ---- tables
 
-pub get_front : {A : Type 0} (xs : List A) (x y : A) (i : ℕ) → slice_get (xs ++ x ∷ []) i ≡ Some y → (slice_get xs i ≡ Some y) ⊎ (i ≡ length xs) × (x ≡ y)
-get_front [] x y zero e = inr (refl, cc)
-get_front [] x y (suc i) e = cc
-get_front (z ∷ xs) x y zero e = inl e
-get_front (z ∷ xs) x y (suc i) e = go (get_front xs x y i e)
+pub get_prefix : {A : Type 0} (xs : List A) (x y : A) (i : ℕ) → slice_get (xs ++ x ∷ []) i ≡ Some y → (slice_get xs i ≡ Some y) ⊎ (i ≡ length xs) × (x ≡ y)
+get_prefix [] x y zero e = inr (refl, cc)
+get_prefix [] x y (suc i) e = cc
+get_prefix (z ∷ xs) x y zero e = inl e
+get_prefix (z ∷ xs) x y (suc i) e = go (get_prefix xs x y i e)
   where
     go : ((slice_get xs i ≡ Some y) ⊎ (i ≡ length xs) × (x ≡ y)) → (slice_get xs i ≡ Some y) ⊎ (suc i ≡ suc (length xs)) × (x ≡ y)
     go (inl h) = inl h
@@ -137,7 +137,7 @@ get_below xs i y e = slice_get_within xs i y e
 
 -- a name more, of which nothing is known
 pub table_more : (ts : List Name) (ns : List ℕ) (t : Name) → length ns ≡ length ts → AreTried ts ns → AreTried (ts ++ t ∷ []) (ns ++ 0 ∷ [])
-table_more ts ns t paired h i n w e f = go (get_front ts t w i e) (get_front ns 0 n i f)
+table_more ts ns t paired h i n w e f = go (get_prefix ts t w i e) (get_prefix ns 0 n i f)
   where
     go : ((slice_get ts i ≡ Some w) ⊎ (i ≡ length ts) × (t ≡ w)) → ((slice_get ns i ≡ Some n) ⊎ (i ≡ length ns) × (0 ≡ n)) → IsTried (ts ++ t ∷ []) w n
     go (inl a) (inl b) = tried_more ts (t ∷ []) w n (h i n w a b)

@@ -9,6 +9,7 @@ use std::test::Fail;
 
 /// Two words, and the values of operations on them.
 struct Row {
+    name: &'static str,
     width: u32,
     a: i64,
     b: i64,
@@ -17,6 +18,7 @@ struct Row {
 
 const ROWS: [Row; 20] = [
     Row {
+        name: "one bit: 1 and 1",
         width: 1,
         a: 1,
         b: 1,
@@ -37,6 +39,7 @@ const ROWS: [Row; 20] = [
         ],
     },
     Row {
+        name: "one bit: 1 and 0",
         width: 1,
         a: 1,
         b: 0,
@@ -57,6 +60,7 @@ const ROWS: [Row; 20] = [
         ],
     },
     Row {
+        name: "one bit: 0 and 1",
         width: 1,
         a: 0,
         b: 1,
@@ -71,8 +75,8 @@ const ROWS: [Row; 20] = [
             (SignedLess, 0),
         ],
     },
-    // the least signed word by -1
     Row {
+        name: "3 bits: the least signed word by -1",
         width: 3,
         a: 4,
         b: 7,
@@ -92,6 +96,7 @@ const ROWS: [Row; 20] = [
         ],
     },
     Row {
+        name: "3 bits: -3 and 2",
         width: 3,
         a: 5,
         b: 2,
@@ -111,8 +116,8 @@ const ROWS: [Row; 20] = [
             (Unlike, 1),
         ],
     },
-    // an amount that is the width
     Row {
+        name: "3 bits: an amount that is the width",
         width: 3,
         a: 6,
         b: 3,
@@ -127,6 +132,7 @@ const ROWS: [Row; 20] = [
         ],
     },
     Row {
+        name: "3 bits: 3 and 0",
         width: 3,
         a: 3,
         b: 0,
@@ -141,6 +147,7 @@ const ROWS: [Row; 20] = [
         ],
     },
     Row {
+        name: "8 bits: the least signed word by -1",
         width: 8,
         a: 0x80,
         b: 0xff,
@@ -161,6 +168,7 @@ const ROWS: [Row; 20] = [
         ],
     },
     Row {
+        name: "8 bits: -7 and 3",
         width: 8,
         a: 0xf9,
         b: 0x03,
@@ -178,62 +186,70 @@ const ROWS: [Row; 20] = [
         ],
     },
     Row {
+        name: "quotients of 7 by -3",
         width: 8,
         a: 0x07,
         b: 0xfd,
         values: &[(Divu, 0x00), (Modu, 0x07), (Divs, 0xfe), (Mods, 0x01)],
     },
     Row {
+        name: "quotients of -7 by -3",
         width: 8,
         a: 0xf9,
         b: 0xfd,
         values: &[(Divu, 0x00), (Modu, 0xf9), (Divs, 0x02), (Mods, 0xff)],
     },
     Row {
+        name: "sums that wrap: -1 and 2",
         width: 8,
         a: 0xff,
         b: 0x02,
         values: &[(Add, 0x01), (Sub, 0xfd), (Mul, 0xfe)],
     },
     Row {
+        name: "a difference below 0: 2 and 7",
         width: 8,
         a: 0x02,
         b: 0x07,
         values: &[(Add, 0x09), (Sub, 0xfb), (Mul, 0x0e)],
     },
     Row {
+        name: "bits of cc and aa",
         width: 8,
         a: 0xcc,
         b: 0xaa,
         values: &[(And, 0x88), (Or, 0xee), (Xor, 0x66)],
     },
-    // amounts below, at and above the width
     Row {
+        name: "an amount below the width",
         width: 8,
         a: 0x81,
         b: 0x07,
         values: &[(Shl, 0x80), (Shru, 0x01), (Shrs, 0xff)],
     },
     Row {
+        name: "an amount at the width",
         width: 8,
         a: 0x81,
         b: 0x08,
         values: &[(Shl, 0x00), (Shru, 0x00), (Shrs, 0xff)],
     },
     Row {
+        name: "an amount above the width",
         width: 8,
         a: 0x81,
         b: 0x09,
         values: &[(Shl, 0x00), (Shru, 0x00), (Shrs, 0xff)],
     },
     Row {
+        name: "an amount above the width, of a positive byte",
         width: 8,
         a: 0x41,
         b: 0x80,
         values: &[(Shl, 0x00), (Shru, 0x00), (Shrs, 0x00)],
     },
-    // a divisor of 0
     Row {
+        name: "a divisor of 0",
         width: 8,
         a: 0xda,
         b: 0x00,
@@ -248,6 +264,7 @@ const ROWS: [Row; 20] = [
         ],
     },
     Row {
+        name: "a byte and itself",
         width: 8,
         a: 0x5a,
         b: 0x5a,
@@ -272,11 +289,11 @@ fn is_well(alloc: Global, row: &Row) -> Result<bool, AllocError> {
     Ok(true)
 }
 
-/// The first row with another value, by its position.
-fn first_other(alloc: Global, rows: &[Row]) -> Result<Option<usize>, AllocError> {
-    for (at, row) in rows.iter().enumerate() {
+/// The name of the first row with another value.
+fn first_other(alloc: Global, rows: &[Row]) -> Result<Option<&'static str>, AllocError> {
+    for row in rows {
         if !is_well(alloc, row)? {
-            return Ok(Some(at));
+            return Ok(Some(row.name));
         }
     }
     Ok(None)

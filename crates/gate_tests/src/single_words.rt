@@ -28,6 +28,7 @@ use Operation::{Any, Flipped, Inverse, Masked, Negated, Parity};
 
 /// A word, and the value of an operation on it.
 struct Case {
+    name: &'static str,
     width: u32,
     number: i64,
     operation: Operation,
@@ -60,84 +61,98 @@ fn value_of(alloc: Global, case: &Case) -> Result<i64, AllocError> {
 
 const CASES: [Case; 14] = [
     Case {
+        name: "complement of one bit",
         width: 1,
         number: 1,
         operation: Inverse,
         value: 0,
     },
     Case {
+        name: "complement of a byte",
         width: 8,
         number: 0xb6,
         operation: Inverse,
         value: 0x49,
     },
     Case {
+        name: "parity of one bit",
         width: 1,
         number: 1,
         operation: Parity,
         value: 1,
     },
     Case {
+        name: "odd parity of a byte",
         width: 8,
         number: 0xb6,
         operation: Parity,
         value: 1,
     },
     Case {
+        name: "even parity of a byte",
         width: 8,
         number: 0xff,
         operation: Parity,
         value: 0,
     },
     Case {
+        name: "any bit of 0",
         width: 3,
         number: 0,
         operation: Any,
         value: 0,
     },
     Case {
+        name: "any bit of 4",
         width: 3,
         number: 4,
         operation: Any,
         value: 1,
     },
     Case {
+        name: "masked by 1",
         width: 3,
         number: 5,
         operation: Masked(true),
         value: 5,
     },
     Case {
+        name: "masked by 0",
         width: 3,
         number: 5,
         operation: Masked(false),
         value: 0,
     },
     Case {
+        name: "flipped by 1",
         width: 3,
         number: 5,
         operation: Flipped(true),
         value: 2,
     },
     Case {
+        name: "flipped by 0",
         width: 3,
         number: 5,
         operation: Flipped(false),
         value: 5,
     },
     Case {
+        name: "negated by 1",
         width: 8,
         number: 0x01,
         operation: Negated(true),
         value: 0xff,
     },
     Case {
+        name: "the least byte negated by 1",
         width: 8,
         number: 0x80,
         operation: Negated(true),
         value: 0x80,
     },
     Case {
+        name: "negated by 0",
         width: 8,
         number: 0x5a,
         operation: Negated(false),
@@ -145,11 +160,11 @@ const CASES: [Case; 14] = [
     },
 ];
 
-/// The first case with another value, by its position.
-fn first_other(alloc: Global, cases: &[Case]) -> Result<Option<usize>, AllocError> {
-    for (at, case) in cases.iter().enumerate() {
+/// The name of the first case with another value.
+fn first_other(alloc: Global, cases: &[Case]) -> Result<Option<&'static str>, AllocError> {
+    for case in cases {
         if value_of(alloc, case)? != case.value {
-            return Ok(Some(at));
+            return Ok(Some(case.name));
         }
     }
     Ok(None)

@@ -1,5 +1,6 @@
 -- Products by Horner's rule and quotients by restoring division, over bits, against those of numbers.
-use Rattle.std.proofs.Common.{◌≡◌, refl, sym, ap, ap₂, subst, ◌∙◌, ℕ, zero, suc, ◌+◌, ◌-◌, ◌*◌, ◌/◌, ◌%◌, ◌^◌, ◌≤◌, ◌<◌, Bool, true, false, not, cond, nat_lt, [], ◌∷◌, ◌++◌, length, drop, arith, pow-suc, pow_pos, mul_assoc, mul_comm, mul-add, add-mul, length-append, mod-eq_of_lt, mul-suc, lt_of_le_of_lt, div-le_self, pos, neg_ℤ, nat_abs}
+use Rattle.std.proofs.Common.{◌≡◌, refl, sym, ap, ap₂, subst, ◌∙◌, ℕ, zero, suc, ◌+◌, ◌-◌, ◌*◌, ◌/◌, ◌%◌, ◌^◌, ◌≤◌, ◌<◌, Bool, true, false, not, cond, nat_lt, [], ◌∷◌, ◌++◌, length, drop, arith}
+use Rattle.std.proofs.Common.{pow-suc, pow_pos, mul_assoc, mul_comm, mul-add, add-mul, length-append, mod-eq_of_lt, mul-suc, lt_of_le_of_lt, div-le_self, pos, neg_ℤ, nat_abs}
 use Rattle.std.proofs.Math.ListN.{length-replicate}
 use Rattle.std.proofs.Math.Nat.{mod-add-mod, mul-add-div_right, mul-add-mod_self_right, div-eq_of_lt, div-zero, mod-zero}
 use Rattle.std.proofs.lemmas.Bool.{lt-ltb}
@@ -10,8 +11,9 @@ use Rattle.bits_core.proofs.Numbers.{number-bits, number-bits-below, number_belo
 use Rattle.bits_core.proofs.Complement.{length-not, number-not, magnitude-signed, quotient_by_magnitude, is_below_zero, is_below_zero-signed, rest_by_sign}
 use Rattle.bits_core.proofs.Arithmetic.{bits_from_rest}
 use Rattle.bits_core.proofs.Storage.{bits-zero, number-negative}
-use Rattle.gate_words.proofs.WordRows.{BitTotal, bit_sum, mask_bits, any_bit}
-use Rattle.gate_words.proofs.LongRows.{bit_doubled, bit_product_from, bit_tried, bit_divided_from, bit_quotient, bit_rest, bit_negated, bit_signed_quotient, bit_signed_rest, length-bit_tried, length-quotient_bits, length-bit_quotient, length-bit_rest, length-bit_sum, length-bit_doubled, length-mask_bits, length-bit_negated}
+use Rattle.gate_words.proofs.WordGateLists.{BitTotal, bit_sum, mask_bits, any_bit}
+use Rattle.gate_words.proofs.LongGateLists.{bit_doubled, bit_product_from, bit_tried, bit_divided_from, bit_quotient, bit_rest, bit_negated, bit_signed_quotient, bit_signed_rest, length-bit_tried}
+use Rattle.gate_words.proofs.LongGateLists.{length-quotient_bits, length-bit_quotient, length-bit_rest, length-bit_sum, length-bit_doubled, length-mask_bits, length-bit_negated}
 use Rattle.gate_words.proofs.BitSums.{choose_is, mask_is, number-mask, number-sum, word-sum, carry_is_less, negated_is, negated_integer, any_is_some}
 
 -- ---- products

@@ -1,5 +1,6 @@
 -- Shifts stage by stage, over bits, against shifts by a number; and how many gates the stages take.
-use Rattle.std.proofs.Common.{◌≡◌, refl, sym, ap, ap₂, subst, ◌∙◌, ℕ, zero, suc, ◌+◌, ◌-◌, ◌*◌, ◌/◌, ◌^◌, ◌≤◌, min, Bool, true, false, not, cond, nat_lt, ◌||◌, [], ◌∷◌, ◌++◌, length, take, drop, replicate, arith, pow-add, pow_mono, mul_assoc, mul-suc, inl, inr, append-nil, length-append, length-take, le_refl, take_all}
+use Rattle.std.proofs.Common.{◌≡◌, refl, sym, ap, ap₂, subst, ◌∙◌, ℕ, zero, suc, ◌+◌, ◌-◌, ◌*◌, ◌/◌, ◌^◌, ◌≤◌, min, Bool, true, false, not, cond, nat_lt, ◌||◌, [], ◌∷◌, ◌++◌, length, take, drop}
+use Rattle.std.proofs.Common.{replicate, arith, pow-add, pow_mono, mul_assoc, mul-suc, inl, inr, append-nil, length-append, length-take, le_refl, take_all}
 use Rattle.std.proofs.Math.ListN.{length-replicate}
 use Rattle.std.proofs.Math.Nat.{min-eq_right, zero-min, sub-zero, mul-le-mul, div-div-eq-div-mul}
 use Rattle.std.proofs.lemmas.Bool.{cases_lt}
@@ -11,9 +12,9 @@ use Rattle.bits_core.proofs.Complement.{length-not, not-not_word}
 use Rattle.bits_core.proofs.Shifts.{length-shift_left, length-shift_right, shift_left_out, shift_left-zero, bits-shift_left, number-shift_right}
 use Rattle.gates.specs.declared.signal.Signal.{Signal}
 use Rattle.gates.proofs.Carrying.{Carrying}
-use Rattle.gate_words.specs.Rows.{no_bits, moved_up, moved_down}
+use Rattle.gate_words.specs.GateLists.{no_bits, moved_up, moved_down}
 use Rattle.gate_words.proofs.Words.{CarriesWord, word_length, word-append, word-drop, word-take, word-replicate, word-no_bits}
-use Rattle.gate_words.proofs.LongRows.{choose_bits, BitShifted, bit_moved_from, bit_moved, length-moved_from, stage_gates, Moves}
+use Rattle.gate_words.proofs.LongGateLists.{choose_bits, BitShifted, bit_moved_from, bit_moved, length-moved_from, stage_gates, Moves}
 use Rattle.gate_words.proofs.BitSums.{choose_first, choose_second, choose_is}
 use Rattle.gate_words.proofs.BitProducts.{bits_kept}
 

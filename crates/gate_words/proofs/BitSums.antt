@@ -1,4 +1,4 @@
--- What rows over bits make of words: sums, differences, comparisons, negations.
+-- What gate lists over bits make of words: sums, differences, comparisons, negations.
 use Rattle.std.proofs.Common.{◌≡◌, refl, sym, ap, ap₂, subst, ◌∙◌, ℕ, ◌+◌, ◌-◌, ◌*◌, ◌^◌, ◌≤◌, ◌<◌, Bool, true, false, not, cond, nat_lt, ◌&&◌, ◌||◌, [], ◌∷◌, length, arith, pow-suc, pow_pos, pos, neg_ℤ}
 use Rattle.std.specs.Prelude.{int_lt}
 use Rattle.std.proofs.Math.ListN.{length-replicate}
@@ -10,8 +10,8 @@ use Rattle.bits_core.proofs.Complement.{length-not, number-not, bits_of-differen
 use Rattle.bits_core.proofs.Order.{signed_less_same_sign}
 use Rattle.gates.proofs.SingleBits.{carry_bit}
 use Rattle.gate_words.proofs.Words.{top_flipped}
-use Rattle.gate_words.proofs.WordRows.{bit_sum, bit_carried, mask_bits, flip_bits, any_bit}
-use Rattle.gate_words.proofs.LongRows.{choose_bits, bit_less, bit_negated, length-bit_sum, length-flip_bits}
+use Rattle.gate_words.proofs.WordGateLists.{bit_sum, bit_carried, mask_bits, flip_bits, any_bit}
+use Rattle.gate_words.proofs.LongGateLists.{choose_bits, bit_less, bit_negated, length-bit_sum, length-flip_bits}
 
 -- ---- choices, masks, inversions
 

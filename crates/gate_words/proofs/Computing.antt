@@ -1,4 +1,4 @@
--- From what rows carry to what they compute.
+-- From what gate lists carry to what they compute.
 use Rattle.std.proofs.Common.{◌≡◌, refl, sym, ap, ap₂, subst, ◌∙◌, ℕ, suc, ◌+◌, ◌≤◌, Bool, List, [], ◌∷◌, length, le_trans}
 use Rattle.bits_core.specs.Word.{Word}
 use Rattle.gates.specs.declared.signal.Gate.{Gate}
@@ -11,7 +11,7 @@ use Rattle.gate_words.specs.Computes.{word_of, Computes, ComputesBit, ComputesOf
 use Rattle.gate_words.proofs.Words.CarriesWord.{none, more}
 use Rattle.gate_words.proofs.Words.{CarriesWord, IsWord}
 
--- signals of which nothing is asked carry any bits: by them a row's gates are counted
+-- signals of which nothing is asked carry any bits: by them a gate list's gates are counted
 abbrev pub counting : (inputs : ℕ) → Carrying inputs
 counting inputs = record {
   at = λ n s b. Unit {0};
@@ -41,20 +41,20 @@ own_word : (m : List Bool) (inputs n : ℕ) (w : Word) (ss : List Signal) → Ca
 own_word m inputs n _ _ none = refl
 own_word m inputs n _ _ (more b w s ss h t) = ap₂ (λ c v. c ∷ v) h (own_word m inputs n w ss t)
 
-pub computes : (row : Build (List Signal)) (m : List Bool) (inputs : ℕ) (gates : List Gate) (v w : Word) (most : ℕ) → v ≡ w
-    → Makes (bits_under m inputs) row (inputs + length gates) most (IsWord (bits_under m inputs) v)
-    → Makes (counting inputs) row (inputs + length gates) most (IsWord (counting inputs) v)
-    → Computes row m inputs gates w most
-computes row m inputs gates v w most e bits count = record {
+pub computes : (gate_list : Build (List Signal)) (m : List Bool) (inputs : ℕ) (gates : List Gate) (v w : Word) (most : ℕ) → v ≡ w
+    → Makes (bits_under m inputs) gate_list (inputs + length gates) most (IsWord (bits_under m inputs) v)
+    → Makes (counting inputs) gate_list (inputs + length gates) most (IsWord (counting inputs) v)
+    → Computes gate_list m inputs gates w most
+computes gate_list m inputs gates v w most e bits count = record {
   value = λ kept new. own_word m inputs _ v _ (bits.runs gates refl kept tt new).is ∙ e;
   few = (count.runs gates refl tt tt tt).few;
 }
 
-pub computes_bit : (row : Build Signal) (m : List Bool) (inputs : ℕ) (gates : List Gate) (a b : Bool) (most : ℕ) → a ≡ b
-    → Makes (bits_under m inputs) row (inputs + length gates) most (Carries (bits_under m inputs) a)
-    → Makes (counting inputs) row (inputs + length gates) most (Carries (counting inputs) a)
-    → ComputesBit row m inputs gates b most
-computes_bit row m inputs gates a b most e bits count = record {
+pub computes_bit : (gate_list : Build Signal) (m : List Bool) (inputs : ℕ) (gates : List Gate) (a b : Bool) (most : ℕ) → a ≡ b
+    → Makes (bits_under m inputs) gate_list (inputs + length gates) most (Carries (bits_under m inputs) a)
+    → Makes (counting inputs) gate_list (inputs + length gates) most (Carries (counting inputs) a)
+    → ComputesBit gate_list m inputs gates b most
+computes_bit gate_list m inputs gates a b most e bits count = record {
   value = λ kept new. (bits.runs gates refl kept tt new).is ∙ e;
   few = (count.runs gates refl tt tt tt).few;
 }
@@ -63,45 +63,45 @@ pub length-word_of : (m : List Bool) (ss : List Signal) → length (word_of m ss
 length-word_of m [] = refl
 length-word_of m (s ∷ ss) = ap suc (length-word_of m ss)
 
--- a row of two words makes what the row over bits does, whatever its signals carry
+-- a gate list of two words makes what the gate list over bits does, whatever its signals carry
 abbrev pub MakesOfTwo : (List Signal → List Signal → Build (List Signal)) → (Word → Word → Word) → (ℕ → ℕ) → Type 1
-MakesOfTwo row mirror most =
+MakesOfTwo gate_list mirror most =
     (inputs : ℕ) (c : Carrying inputs) (n : ℕ) (u : Word) (xs : List Signal) → CarriesWord c n u xs → (v : Word) (ys : List Signal) → CarriesWord c n v ys
-    → length u ≡ length v → Makes c (row xs ys) n (most (length u)) (IsWord c (mirror u v))
+    → length u ≡ length v → Makes c (gate_list xs ys) n (most (length u)) (IsWord c (mirror u v))
 
 abbrev pub MakesBitOfTwo : (List Signal → List Signal → Build Signal) → (Word → Word → Bool) → (ℕ → ℕ) → Type 1
-MakesBitOfTwo row mirror most =
+MakesBitOfTwo gate_list mirror most =
     (inputs : ℕ) (c : Carrying inputs) (n : ℕ) (u : Word) (xs : List Signal) → CarriesWord c n u xs → (v : Word) (ys : List Signal) → CarriesWord c n v ys
-    → length u ≡ length v → Makes c (row xs ys) n (most (length u)) (Carries c (mirror u v))
+    → length u ≡ length v → Makes c (gate_list xs ys) n (most (length u)) (Carries c (mirror u v))
 
 same_lengths : (m : List Bool) (xs ys : List Signal) → length xs ≡ length ys → length (word_of m xs) ≡ length (word_of m ys)
 same_lengths m xs ys e = length-word_of m xs ∙ e ∙ sym (length-word_of m ys)
 
-pub of_two : (row : List Signal → List Signal → Build (List Signal)) (mirror f : Word → Word → Word) (most : ℕ → ℕ) → MakesOfTwo row mirror most
-    → ((u v : Word) → length u ≡ length v → mirror u v ≡ f u v) → ComputesOfTwo row f most
-of_two row mirror f most makes is m inputs gates xs ys e =
+pub of_two : (gate_list : List Signal → List Signal → Build (List Signal)) (mirror f : Word → Word → Word) (most : ℕ → ℕ) → MakesOfTwo gate_list mirror most
+    → ((u v : Word) → length u ≡ length v → mirror u v ≡ f u v) → ComputesOfTwo gate_list f most
+of_two gate_list mirror f most makes is m inputs gates xs ys e =
     let u = word_of m xs in
     let v = word_of m ys in
     let same = same_lengths m xs ys e in
-    subst (λ n. Computes (row xs ys) m inputs gates (f u v) (most n)) (length-word_of m xs)
-    (computes (row xs ys) m inputs gates (mirror u v) (f u v) (most (length u)) (is u v same)
+    subst (λ n. Computes (gate_list xs ys) m inputs gates (f u v) (most n)) (length-word_of m xs)
+    (computes (gate_list xs ys) m inputs gates (mirror u v) (f u v) (most (length u)) (is u v same)
     (makes inputs (bits_under m inputs) (inputs + length gates) u xs (carries_own m inputs _ xs) v ys (carries_own m inputs _ ys) same)
     (makes inputs (counting inputs) (inputs + length gates) u xs (carries_any inputs _ m xs) v ys (carries_any inputs _ m ys) same))
 
-pub bit_of_two : (row : List Signal → List Signal → Build Signal) (mirror f : Word → Word → Bool) (most : ℕ → ℕ) → MakesBitOfTwo row mirror most
-    → ((u v : Word) → length u ≡ length v → mirror u v ≡ f u v) → ComputesBitOfTwo row f most
-bit_of_two row mirror f most makes is m inputs gates xs ys e =
+pub bit_of_two : (gate_list : List Signal → List Signal → Build Signal) (mirror f : Word → Word → Bool) (most : ℕ → ℕ) → MakesBitOfTwo gate_list mirror most
+    → ((u v : Word) → length u ≡ length v → mirror u v ≡ f u v) → ComputesBitOfTwo gate_list f most
+bit_of_two gate_list mirror f most makes is m inputs gates xs ys e =
     let u = word_of m xs in
     let v = word_of m ys in
     let same = same_lengths m xs ys e in
-    subst (λ n. ComputesBit (row xs ys) m inputs gates (f u v) (most n)) (length-word_of m xs)
-    (computes_bit (row xs ys) m inputs gates (mirror u v) (f u v) (most (length u)) (is u v same)
+    subst (λ n. ComputesBit (gate_list xs ys) m inputs gates (f u v) (most n)) (length-word_of m xs)
+    (computes_bit (gate_list xs ys) m inputs gates (mirror u v) (f u v) (most (length u)) (is u v same)
     (makes inputs (bits_under m inputs) (inputs + length gates) u xs (carries_own m inputs _ xs) v ys (carries_own m inputs _ ys) same)
     (makes inputs (counting inputs) (inputs + length gates) u xs (carries_any inputs _ m xs) v ys (carries_any inputs _ m ys) same))
 
--- a row within its number of gates for words of 128 bits at most
-pub of_short : (row : List Signal → List Signal → Build (List Signal)) (mirror f : Word → Word → Word) (most few : ℕ → ℕ) → MakesOfTwo row mirror most
-    → ((u v : Word) → length u ≡ length v → mirror u v ≡ f u v) → ((n : ℕ) → n ≤ 128 → most n ≤ few n) → ComputesOfShort row f few
-of_short row mirror f most few makes is bound m inputs gates xs ys e h =
-    let all = of_two row mirror f most makes is m inputs gates xs ys e in
+-- a gate list within its number of gates for words of 128 bits at most
+pub of_short : (gate_list : List Signal → List Signal → Build (List Signal)) (mirror f : Word → Word → Word) (most few : ℕ → ℕ) → MakesOfTwo gate_list mirror most
+    → ((u v : Word) → length u ≡ length v → mirror u v ≡ f u v) → ((n : ℕ) → n ≤ 128 → most n ≤ few n) → ComputesOfShort gate_list f few
+of_short gate_list mirror f most few makes is bound m inputs gates xs ys e h =
+    let all = of_two gate_list mirror f most makes is m inputs gates xs ys e in
     record { value = all.value; few = le_trans all.few (bound (length xs) h) }

@@ -1,6 +1,6 @@
 pub mod Words
-pub mod WordRows
-pub mod LongRows
+pub mod WordGateLists
+pub mod LongGateLists
 pub mod BitSums
 pub mod BitProducts
 pub mod BitShifts

@@ -1,4 +1,4 @@
--- Rows that were run from the least significant bit on.
+-- Gate lists that were run from the least significant bit on.
 use Rattle.std.proofs.Common.{◌≡◌, refl, ap, ◌∙◌, ℕ, zero, suc, ◌+◌, ◌-◌, ◌<◌, ◌≤◌, List, [], ◌∷◌, length, drop, set, get_or, arith, false}
 use Rattle.std.proofs.Math.Seq.{drop-cons}
 use Rattle.std.proofs.lemmas.List.{drop-set}
@@ -8,7 +8,7 @@ use Rattle.gates.specs.declared.signal.Sum.{Sum}
 use Rattle.gates.specs.Build.{Build, full, majority}
 use Rattle.gates.specs.Circuits.{Circuit, Runs}
 use Rattle.gates.proofs.Running.{runs-done, runs_then}
-use Rattle.gate_words.specs.Rows.{each, reduced, sum, carried}
+use Rattle.gate_words.specs.GateLists.{each, reduced, sum, carried}
 
 -- what stands before a position
 pub drop_before : (xs : List Signal) (i : ℕ) (d : Signal) → 0 < i → i ≤ length xs → drop (i - 1) xs ≡ get_or xs (i - 1) d ∷ drop i xs

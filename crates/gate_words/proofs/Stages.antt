@@ -1,5 +1,6 @@
 -- Shifts that were run stage by stage, from the least bit of the amount on.
-use Rattle.std.proofs.Common.{◌≡◌, refl, sym, ap, subst, ◌∙◌, ℕ, suc, ◌-◌, ◌*◌, ◌^◌, ◌<◌, ◌≤◌, min, Bool, true, false, cond, nat_lt, List, [], ◌∷◌, ◌++◌, length, take, drop, replicate, get_or, arith, inl, inr, pow-suc, length-append, length-drop, length-take}
+use Rattle.std.proofs.Common.{◌≡◌, refl, sym, ap, subst, ◌∙◌, ℕ, suc, ◌-◌, ◌*◌, ◌^◌, ◌<◌, ◌≤◌, min, Bool, true, false, cond, nat_lt, List, [], ◌∷◌, ◌++◌, length, take, drop, replicate, get_or, arith}
+use Rattle.std.proofs.Common.{inl, inr, pow-suc, length-append, length-drop, length-take}
 use Rattle.std.proofs.Math.ListN.{length-replicate}
 use Rattle.std.proofs.Math.Nat.{min-eq_left}
 use Rattle.std.proofs.lemmas.Bool.{cases_lt, lt-ltb, le-ltb}
@@ -8,7 +9,7 @@ use Rattle.gates.specs.declared.signal.Signal.TheVariants.{Fixed}
 use Rattle.gates.specs.Build.{Build, or}
 use Rattle.gates.specs.Circuits.{Circuit, Runs}
 use Rattle.gates.proofs.Running.{runs-done, runs_then}
-use Rattle.gate_words.specs.Rows.{choose, moved_up, moved_down, Shifted, stage, moved_from, no_bits, top_inverted}
+use Rattle.gate_words.specs.GateLists.{choose, moved_up, moved_down, Shifted, stage, moved_from, no_bits, top_inverted}
 use Rattle.gate_words.specs.Directions.{move_of}
 use Rattle.gate_words.specs.declared.shifts.Direction.{Direction}
 use Rattle.gate_words.specs.declared.shifts.Direction.TheVariants.{Up, Down}

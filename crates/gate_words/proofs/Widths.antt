@@ -1,4 +1,4 @@
--- The widths of what rows give, and rows told by other rows.
+-- The widths of what gate lists give, and gate lists told by other gate lists.
 use Rattle.std.proofs.Common.{◌≡◌, refl, sym, ap, subst, ◌∙◌, ℕ, suc, ◌+◌, ◌<◌, ◌≤◌, List, [], ◌∷◌, ◌++◌, length, replicate, drop, get_or, arith, length-append, true, false, Result, Ok, Err, IfOk}
 use Rattle.std.proofs.Math.ListN.{length-replicate}
 use Rattle.std.proofs.lemmas.List.{length-map}
@@ -10,7 +10,7 @@ use Rattle.gates.specs.declared.signal.Signal.{Signal}
 use Rattle.gates.specs.Build.{Build, and_then, done, and, exclusive}
 use Rattle.gates.specs.Circuits.{Circuit, Runs}
 use Rattle.gates.proofs.Running.{runs-done, runs_then}
-use Rattle.gate_words.specs.Rows.{each, masked, flipped, sum, doubled, product_step, product_from, tried, divided_from, inverses, no_bits, negated, top}
+use Rattle.gate_words.specs.GateLists.{each, masked, flipped, sum, doubled, product_step, product_from, tried, divided_from, inverses, no_bits, negated, top}
 use Rattle.gate_words.proofs.Loops.{drop_end}
 
 pub masked_is_each : (c : Signal) (xs : List Signal) → masked c xs ≡ each and (replicate (length xs) c) xs

@@ -4,7 +4,7 @@ use Rattle.bits_core.specs.Word.{Word, not_word, zeros, sign}
 use Rattle.gates.specs.declared.signal.Signal.{Signal}
 use Rattle.gates.specs.declared.signal.Signal.TheVariants.{Fixed}
 use Rattle.gates.proofs.Carrying.{Carrying}
-use Rattle.gate_words.specs.Rows.{inverses, no_bits, top, top_inverted}
+use Rattle.gate_words.specs.GateLists.{inverses, no_bits, top, top_inverted}
 
 -- with n variables so far the signals carry the bits
 pub data CarriesWord {inputs : ℕ} (c : Carrying inputs) (n : ℕ) : Word → List Signal → Type 0 where

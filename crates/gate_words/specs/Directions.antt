@@ -1,7 +1,7 @@
 -- The directions in which words are shifted (IEEE 1364-2005, 5.1.12).
 use Rattle.std.specs.Prelude.{ℕ, List}
 use Rattle.gates.specs.declared.signal.Signal.{Signal}
-use Rattle.gate_words.specs.Rows.{moved_up, moved_down}
+use Rattle.gate_words.specs.GateLists.{moved_up, moved_down}
 use Rattle.gate_words.specs.declared.shifts.Direction.{Direction}
 use Rattle.gate_words.specs.declared.shifts.Direction.TheVariants.{Up, Down}
 

@@ -1,4 +1,4 @@
-pub mod Rows
+pub mod GateLists
 pub mod Computes
 pub mod Bitwise
 pub mod Directions

@@ -1,8 +1,8 @@
-//! Rows that go bit by bit.
+//! Gate lists that go bit by bit.
 ghost use Rattle.std.specs.Prelude.{◌≡◌, length, replicate, IfOk};
 ghost use Rattle.gates.specs.Build.{and, or, exclusive, choice};
 ghost use Rattle.gates.specs.Circuits.{Runs};
-ghost use Rattle.gate_words.specs.Rows.{each, masked, flipped, inverses, reduced, unlike};
+ghost use Rattle.gate_words.specs.GateLists.{each, masked, flipped, inverses, reduced, unlike};
 ghost use Rattle.gate_words.specs.Bitwise.{building_of};
 
 use gates::circuit::Gates;
@@ -34,7 +34,7 @@ impl Bitwise {
     }
 }
 
-/// The row of two words of one width, bit by bit.
+/// The gate list of two words of one width, bit by bit.
 pub fn each(
     alloc: Global,
     gates: &mut Gates,

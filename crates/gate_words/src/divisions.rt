@@ -1,7 +1,7 @@
 //! Quotients and rests, by restoring division.
 ghost use Rattle.std.specs.Prelude.{◌≡◌, ◌++◌, ◌∷◌, [], true, drop, length, IfOk};
 ghost use Rattle.gates.specs.Circuits.{Runs};
-ghost use Rattle.gate_words.specs.Rows.{inverses, tried, divided, quotient, rest, top, signed_quotient, signed_rest};
+ghost use Rattle.gate_words.specs.GateLists.{inverses, tried, divided, quotient, rest, top, signed_quotient, signed_rest};
 
 use crate::bitwise::{Bitwise, copies, each, inverses, mask, reduce};
 use crate::sums::{negate, sum};

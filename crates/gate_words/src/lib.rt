@@ -1,4 +1,4 @@
-//! Rows of gates over words of signals, the most significant first: what hardware's arithmetic makes of words.
+//! Gate lists over words of signals, the most significant first: what hardware's arithmetic makes of words.
 #![tactic(auto)]
 
 pub mod bitwise;

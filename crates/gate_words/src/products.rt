@@ -1,7 +1,7 @@
 //! Products.
 ghost use Rattle.std.specs.Prelude.{◌≡◌, length, IfOk};
 ghost use Rattle.gates.specs.Circuits.{Runs};
-ghost use Rattle.gate_words.specs.Rows.{doubled, product_step, product};
+ghost use Rattle.gate_words.specs.GateLists.{doubled, product_step, product};
 
 use crate::bitwise::{copies, mask};
 use crate::sums::sum;

@@ -1,7 +1,7 @@
 //! Shifts.
 ghost use Rattle.std.specs.Prelude.{◌≡◌, ◌≤◌, length, IfOk};
 ghost use Rattle.gates.specs.Circuits.{Runs};
-ghost use Rattle.gate_words.specs.Rows.{moved_up, moved_down, stage, moved_from, moved, shifted_left, shifted_right, shifted_right_signed};
+ghost use Rattle.gate_words.specs.GateLists.{moved_up, moved_down, stage, moved_from, moved, shifted_left, shifted_right, shifted_right_signed};
 ghost use Rattle.gate_words.specs.Directions.{move_of};
 
 use crate::bitwise::{Bitwise, copies, each};

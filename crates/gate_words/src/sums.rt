@@ -1,7 +1,7 @@
 //! Sums and comparisons.
 ghost use Rattle.std.specs.Prelude.{◌≡◌, length, IfOk};
 ghost use Rattle.gates.specs.Circuits.{Runs};
-ghost use Rattle.gate_words.specs.Rows.{sum, carried, inverses, difference, added, subtracted, less, signed_less, top_inverted, negated};
+ghost use Rattle.gate_words.specs.GateLists.{sum, carried, inverses, difference, added, subtracted, less, signed_less, top_inverted, negated};
 
 use crate::bitwise::{copies, inverses, invert_if};
 use gates::circuit::Gates;

@@ -6,7 +6,7 @@ use Rattle.hw_model.specs.TypeViews.{type_of}
 use Rattle.hw_model.specs.declared.types.Ty.{Int, Clock, the_lemmas}
 use Rattle.hw_model.specs.Kinds.{Kind, Instance}
 use Rattle.hw_model.specs.Kinds.Kind.{instance}
-use Rattle.hw_model.specs.Design.{Place, Entry, Port, Op}
+use Rattle.hw_model.specs.Design.{Location, Entry, Port, Op}
 use Rattle.hw_model.specs.Design.Ref.{port}
 use Rattle.ir_store.specs.declared.operation.Value.{Value}
 use Rattle.ir_store.specs.declared.operation.Value.TheVariants.{Result}
@@ -14,7 +14,7 @@ use Rattle.ir_store.specs.Bodies.{op_id}
 use Rattle.ir_store.specs.BodyOps.{BodyOp, ids_in}
 use Rattle.ir_store.specs.Designs.{numbered_module}
 use Rattle.ir_store.specs.Numbered.{ref_by, op_by, ops_by_position}
-use Rattle.generator.specs.Generated.{word, first_place, generated_ports, module_symbol, word_op, instance_of_module, instance_op, first_ops, last_ops, generated_module}
+use Rattle.generator.specs.Generated.{word, first_location, generated_ports, module_symbol, word_op, instance_of_module, instance_op, first_ops, last_ops, generated_module}
 use Rattle.generator.specs.Views.{numbers_from}
 use Rattle.generator.proofs.NumberedBodies.{placed_ops}
 
@@ -35,11 +35,11 @@ types_seen =
 -- ---- parts
 
 -- an operation with a result
-pub word_built : (kind : Kind) (vs ws : List Value) (t : HwType) (name : Name) (entries : List Entry) (place : Place) → vs ≡ ws → t ≡ word → name ≡ [] → entries ≡ []
-    → place ≡ first_place
-    → record (word_op kind (map (ref_by (λ i. i)) vs)) { types = t ∷ []; results = record { type = t; again = false } ∷ []; name = name; dictionary = entries; place = place }
+pub word_built : (kind : Kind) (vs ws : List Value) (t : HwType) (name : Name) (entries : List Entry) (location : Location) → vs ≡ ws → t ≡ word → name ≡ [] → entries ≡ []
+    → location ≡ first_location
+    → record (word_op kind (map (ref_by (λ i. i)) vs)) { types = t ∷ []; results = record { type = t; again = false } ∷ []; name = name; dictionary = entries; location = location }
     ≡ word_op kind (map (ref_by (λ i. i)) ws)
-word_built kind vs ws t name entries place operands type named empty at = rw (operands, type, named, empty, at) refl
+word_built kind vs ws t name entries location operands type named empty at = rw (operands, type, named, empty, at) refl
 
 -- an instance
 pub instance_built : (o : Op) (i : Instance) (j : ℕ) (v w : Value) (ts : List HwType) → o ≡ word_op (instance i) (port 0 ∷ port 1 ∷ ref_by (λ i. i) v ∷ ref_by (λ i. i) w ∷ [])
@@ -47,9 +47,9 @@ pub instance_built : (o : Op) (i : Instance) (j : ℕ) (v w : Value) (ts : List 
 instance_built o i j v w ts is inner first second types = rw (is, inner, first, second, types) refl
 
 -- a module
-pub module_built : (n k x : ℕ) (symbol : Name) (ports : List Port) (entries : List Entry) (ops : List BodyOp) (place : Place) → symbol ≡ module_symbol k → ports ≡ generated_ports
-    → entries ≡ [] → ids_in ops ≡ numbers_from 0 (length (ids_in ops)) → map (op_by (λ i. i)) ops ≡ first_ops x ++ last_ops k → place ≡ first_place
-    → numbered_module (record { symbol = symbol; is_private = nat_lt (2 * k + 1) n; ports = ports; dictionary = entries; ops = ops; place = place }) ≡ generated_module n k x
-module_built n k x symbol ports entries ops place named header empty ids are at =
+pub module_built : (n k x : ℕ) (symbol : Name) (ports : List Port) (entries : List Entry) (ops : List BodyOp) (location : Location) → symbol ≡ module_symbol k → ports ≡ generated_ports
+    → entries ≡ [] → ids_in ops ≡ numbers_from 0 (length (ids_in ops)) → map (op_by (λ i. i)) ops ≡ first_ops x ++ last_ops k → location ≡ first_location
+    → numbered_module (record { symbol = symbol; is_private = nat_lt (2 * k + 1) n; ports = ports; dictionary = entries; ops = ops; location = location }) ≡ generated_module n k x
+module_built n k x symbol ports entries ops location named header empty ids are at =
     let body : ops_by_position ops ≡ first_ops x ++ last_ops k = placed_ops ops x k ids are in
     rw (named, header, empty, body, at) refl

@@ -75,8 +75,8 @@ module _ (seed n : ℕ) (few : n ≤ 10000) where
   none_recursive i j m o there at (x, inst, around) =
       let is = made_at seed n i m there in
       let low : i < n = is.0 in
-      let place : slice_get (made seed n i).body j ≡ Some o = ap (λ (y : Module). slice_get y.body j) (sym is.1) ∙ at in
-      let call = only_call (state_after seed (4 * i)) i o x (In-slice_get o (made seed n i).body j place) inst in
+      let location : slice_get (made seed n i).body j ≡ Some o = ap (λ (y : Module). slice_get y.body j) (sym is.1) ∙ at in
+      let call = only_call (state_after seed (4 * i)) i o x (In-slice_get o (made seed n i).body j location) inst in
       let half : call.before / 2 < i = let next : i ≡ suc call.before = call.is_next in omega (arith, next) in
       let named : Some x ≡ Some (instance_of_module (call.before / 2)) = sym inst ∙ ap (λ (y : Op). instance_in y.kind) call.is in
       let symbol_is : x.symbol ≡ module_symbol (call.before / 2) = let same : x ≡ instance_of_module (call.before / 2) = cc in ap (λ (y : Instance). y.symbol) same in

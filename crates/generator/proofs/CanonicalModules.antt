@@ -11,11 +11,11 @@ use Rattle.hw_model.specs.Kinds.Kind.{variadic, constant}
 use Rattle.hw_model.specs.Design.{Ref}
 use Rattle.hw_model.specs.Design.Ref.{port, result}
 use Rattle.ir_store.specs.ResultTypes.{result_type, result_types}
-use Rattle.canonical_form.specs.Bytes.{Each, AreBytes}
-use Rattle.canonical_form.specs.Canonical.{IsCanonicalOp, IsCanonicalPort, IsCanonicalModule, IsCanonical}
-use Rattle.canonical_form.specs.Dictionaries.{IsKeptDictionary}
-use Rattle.canonical_form.specs.Limits.{IsAnyType}
-use Rattle.canonical_form.specs.ResultTypes.{HaveTypes}
+use Rattle.stored_form.specs.Bytes.{Each, AreBytes}
+use Rattle.stored_form.specs.Canonical.{IsCanonicalOp, IsCanonicalPort, IsCanonicalModule, IsCanonical}
+use Rattle.stored_form.specs.Dictionaries.{IsKeptDictionary}
+use Rattle.stored_form.specs.Limits.{IsAnyType}
+use Rattle.stored_form.specs.ResultTypes.{HaveTypes}
 use Rattle.generator.specs.Draws.{state_after, number_drawn}
 use Rattle.generator.specs.Generated.{word, port_named, generated_ports, module_symbol, word_op, register_op, instance_op, xor_op, output_op, first_ops, last_ops, generated_module, first_modules, generated}
 use Rattle.generator.proofs.ChosenKinds.{IsBinary, binary_variadic}

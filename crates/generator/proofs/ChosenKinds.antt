@@ -10,10 +10,11 @@ use Rattle.hw_model.specs.Design.{instance_in, is_output_kind, register_form}
 use Rattle.hw_model.specs.Flat.{has_async_reset}
 use Rattle.hw_model.specs.Weight.{kind_weight}
 use Rattle.ir_store.specs.ResultTypes.{result_type, result_types, result_count}
-use Rattle.canonical_form.specs.Kinds.{KeepsConstants, IsWritten}
+use Rattle.stored_form.specs.Kinds.{KeepsConstants, IsWritten}
 use Rattle.op_checks.specs.TypeChecks.{is_outside}
 use Rattle.op_checks.specs.CountChecks.{operands_written, operand_count, type_count, has_miscounted_parts, has_wrong_operands, has_wrong_results, has_wrong_count}
-use Rattle.op_checks.specs.LimitChecks.{has_type_outside, has_constant_outside, has_extract_outside, has_broken_copy, has_wide_concat, has_unknown_divisor, has_wrong_index, has_wrong_field, has_unequal_widths, has_clock_operand, has_clock_value}
+use Rattle.op_checks.specs.LimitChecks.{has_type_outside, has_constant_outside, has_extract_outside, has_broken_copy, has_wide_concat, has_unknown_divisor, has_wrong_index, has_wrong_field}
+use Rattle.op_checks.specs.LimitChecks.{has_unequal_widths, has_clock_operand, has_clock_value}
 use Rattle.op_checks.specs.OperandChecks.{has_other_form, has_other_operand, has_other_result, has_mismatch}
 use Rattle.op_checks.specs.OwnChecks.{own_cause}
 use Rattle.generator.specs.Generated.{word, drawn_kinds, chosen_kind}

@@ -70,7 +70,7 @@ module _ (seed n : ℕ) where
       go (inr last) rest =
           ap (slice_get (first_modules seed n (suc k))) (last ∙ sym (count_first k)) ∙ last_at (first_modules seed n k) (made k) ∙ ap (λ j. Some (made j)) (sym last)
 
-  -- what stands in the design is the module of its place
+  -- what stands in the design is the module of its location
   pub made_at : (i : ℕ) (m : Module) → slice_get (generated seed n) i ≡ Some m → (i < n) × (m ≡ made i)
   made_at i m is = first_at n i m is
 

@@ -1,11 +1,11 @@
 -- No net of a generated module depends on itself without a register between: nets have numbers that fall along needs.
-use Rattle.std.proofs.Common.{◌≡◌, ◌⊎◌, ℕ, zero, suc, ◌+◌, ◌-◌, ◌*◌, ◌/◌, ◌<◌, ◌≤◌, Bool, true, false, cond, nat_lt, List, [], ◌∷◌, ◌++◌, length, take, slice_get, Option, Some, None, refl, sym, ap, subst, ◌∙◌, inl, inr, arith}
+use Rattle.std.proofs.Common.{◌≡◌, ◌⊎◌, ℕ, zero, suc, ◌+◌, ◌-◌, ◌*◌, ◌/◌, ◌<◌, ◌≤◌, Bool, true, false, cond, nat_lt, List, [], ◌∷◌, ◌++◌, length, take, slice_get, Option, Some, None, refl, sym, ap}
+use Rattle.std.proofs.Common.{subst, ◌∙◌, inl, inr, arith, option_and_then}
 use Rattle.std.proofs.lemmas.Bool.Decides.{nat_tests}
-use Rattle.wiring.specs.Options.{bind}
 use Rattle.wiring.specs.Wiring.{In, FallsAlong}
 use Rattle.wiring.proofs.Chains.{IsAcyclic-falling}
 use Rattle.wiring.proofs.Members.{from_In-map, In-slice_get}
-use Rattle.wiring.proofs.Options.{bind_some}
+use Rattle.wiring.proofs.Options.{and_then_some}
 use Rattle.hw_model.specs.Types.{Name, HwType}
 use Rattle.hw_model.specs.Kinds.{Instance}
 use Rattle.hw_model.specs.Design.{Ref, Op, Module, Design, find_module, instance_in, result_type, output_refs, callee}
@@ -19,7 +19,7 @@ use Rattle.hw_model.proofs.Paths.{op_in, result_in, result_here}
 use Rattle.hw_model.proofs.Gone.{from_In-instances}
 use Rattle.design_cycles.specs.InOrder.{StandsBefore}
 use Rattle.design_cycles.proofs.Inside.{copied, no_needs_port}
-use Rattle.canonical_form.specs.Bytes.{Each}
+use Rattle.stored_form.specs.Bytes.{Each}
 use Rattle.generator.specs.Draws.{state_after}
 use Rattle.generator.specs.Generated.{generated_ports, module_symbol, instance_op, first_ops, last_ops, generated}
 use Rattle.generator.proofs.FirstOps.{only_call, late_call, output_of}
@@ -185,7 +185,7 @@ module _ (seed n : ℕ) (few : n ≤ 10000) (top : ℕ) (within : top < n) where
 
   called : (k : ℕ) (o : Op) (m : Module) → k < n → In o (made seed n k).body → callee design o ≡ Some m → IsCalled k o m
   called k o m low here calls =
-      let inst = bind_some (instance_in o.kind) (λ (i : Instance). find_module design i.symbol) calls in
+      let inst = and_then_some (instance_in o.kind) (λ (i : Instance). find_module design i.symbol) calls in
       let call = only_call (state_after seed (4 * k)) k o inst.0 here inst.1 in
       let next : k ≡ suc call.before = call.is_next in
       let half : call.before / 2 < n = omega (arith, next) in
@@ -198,8 +198,8 @@ module _ (seed n : ℕ) (few : n ≤ 10000) (top : ℕ) (within : top < n) where
       let same : Some m ≡ Some (made seed n top) = sym is ∙ found seed n few top within in
       record { number = top; deep = omega arith; is = cc }
   module_there (u ∷ p) m is =
-      let outer = bind_some (module_at design symbol p) (λ (x : Module). bind (slice_get (instances x.body) u) (callee design)) is in
-      let inner = bind_some (slice_get (instances outer.0.body) u) (callee design) outer.2 in
+      let outer = and_then_some (module_at design symbol p) (λ (x : Module). option_and_then (callee design) (slice_get (instances x.body) u)) is in
+      let inner = and_then_some (slice_get (instances outer.0.body) u) (callee design) outer.2 in
       let made_outer = module_there p outer.0 outer.1 in
       let deep : made_outer.number + length p ≤ top = made_outer.deep in
       let here : In inner.0 (made seed n made_outer.number).body =
@@ -212,10 +212,10 @@ module _ (seed n : ℕ) (few : n ≤ 10000) (top : ℕ) (within : top < n) where
   falls_port : (p : Path) (j : ℕ) (b : Net) → In b (needs design symbol (net p (port j))) → height top b < height top (net p (port j))
   falls_port [] j b here = absurd (subst (In b) (no_needs_port design symbol j) here)
   falls_port (u ∷ p) j b here =
-      let copy = copied p (bind (module_at design symbol p) (joined_at design u j)) b here in
-      let outer = bind_some (module_at design symbol p) (joined_at design u j) copy.1 in
-      let inner = bind_some (slice_get (instances outer.0.body) u) (joined_ref design j) outer.2 in
-      let joins = bind_some (callee design inner.0) (λ (c : Module). port_ref c.ports inner.0.operands j) inner.2 in
+      let copy = copied p (option_and_then (joined_at design u j) (module_at design symbol p)) b here in
+      let outer = and_then_some (module_at design symbol p) (joined_at design u j) copy.1 in
+      let inner = and_then_some (slice_get (instances outer.0.body) u) (joined_ref design j) outer.2 in
+      let joins = and_then_some (callee design inner.0) (λ (c : Module). port_ref c.ports inner.0.operands j) inner.2 in
       let made_outer = module_there p outer.0 outer.1 in
       let deep : made_outer.number + length p ≤ top = made_outer.deep in
       let within_body : In inner.0 (made seed n made_outer.number).body =
@@ -246,14 +246,14 @@ module _ (seed n : ℕ) (few : n ≤ 10000) (top : ℕ) (within : top < n) where
           let copy = copied (length (instances (take i m.body)) ∷ p) (given_ref design k o) b need' in
           let made_outer = module_there p m is in
           let deep : made_outer.number + length p ≤ top = made_outer.deep in
-          let place : slice_get (made seed n made_outer.number).body i ≡ Some o = ap (λ (z : Module). slice_get z.body i) (sym made_outer.is) ∙ there in
-          let gives = bind_some (callee design o) (λ (c : Module). slice_get (output_refs c.body) k) copy.1 in
-          let made_inner = called made_outer.number o gives.0 (omega arith) (In-slice_get o (made seed n made_outer.number).body i place) gives.1 in
+          let location : slice_get (made seed n made_outer.number).body i ≡ Some o = ap (λ (z : Module). slice_get z.body i) (sym made_outer.is) ∙ there in
+          let gives = and_then_some (callee design o) (λ (c : Module). slice_get (output_refs c.body) k) copy.1 in
+          let made_inner = called made_outer.number o gives.0 (omega arith) (In-slice_get o (made seed n made_outer.number).body i location) gives.1 in
           let earlier : made_inner.number < made_outer.number = made_inner.earlier in
           let given : slice_get (output_refs (made seed n made_inner.number).body) k ≡ Some copy.0 =
           ap (λ (z : Module). slice_get (output_refs z.body) k) (sym made_inner.is) ∙ gives.2 in
           let low = output_of (state_after seed (4 * made_inner.number)) made_inner.number k copy.0 given in
-          let after : 5 ≤ i = late_call (state_after seed (4 * made_outer.number)) made_outer.number i o inst place x in
+          let after : 5 ≤ i = late_call (state_after seed (4 * made_outer.number)) made_outer.number i o inst location x in
           subst (λ (c : Net). height top c < result_height top (length p) i) (sym copy.2)
           (subst (λ (z : Ref). ref_height top (suc (length p)) z < result_height top (length p) i) (sym low.1)
           (lower_given top (length p) low.0 i (omega arith) low.2 after))
@@ -262,9 +262,9 @@ module _ (seed n : ℕ) (few : n ≤ 10000) (top : ℕ) (within : top < n) where
           let from = by_type o (result_type o k) (simp (r, x, y) at need) in
           let made_outer = module_there p m is in
           let deep : made_outer.number + length p ≤ top = made_outer.deep in
-          let place : slice_get (made seed n made_outer.number).body i ≡ Some o = ap (λ (z : Module). slice_get z.body i) (sym made_outer.is) ∙ there in
+          let location : slice_get (made seed n made_outer.number).body i ≡ Some o = ap (λ (z : Module). slice_get z.body i) (sym made_outer.is) ∙ there in
           subst (λ (c : Net). height top c < result_height top (length p) i) (sym from.2)
-          (lower_before top (length p) i k from.0 (omega arith) (before_op (state_after seed (4 * made_outer.number)) made_outer.number i o from.0 place from.1))
+          (lower_before top (length p) i k from.0 (omega arith) (before_op (state_after seed (4 * made_outer.number)) made_outer.number i o from.0 location from.1))
 
       by_op : (m : Module) (x : Option Op) → module_at design symbol p ≡ Some m → slice_get m.body i ≡ x → In b (needs_of (result_in design symbol p m.body i k x))
           → height top b < result_height top (length p) i

@@ -1,9 +1,8 @@
 -- No operation of a generated module is refused.
-use Rattle.std.proofs.Common.{◌≡◌, ℕ, zero, suc, ◌/◌, ◌<◌, ◌^◌, pos, Bool, true, false, cond, not, ◌&&◌, ◌||◌, List, [], ◌∷◌, ◌++◌, length, Option, Some, None, option_map, refl, ap, ap₂, ◌∙◌}
+use Rattle.std.proofs.Common.{◌≡◌, ℕ, zero, suc, ◌/◌, ◌<◌, ◌^◌, pos, Bool, true, false, cond, not, ◌&&◌, ◌||◌, List, [], ◌∷◌, ◌++◌, length, Option, Some, None, option_map, refl, ap, ap₂, ◌∙◌, option_and_then}
 use Rattle.std.specs.Prelude.{slice_index_or}
 use Rattle.std.proofs.lemmas.Bool.{lt-leb}
 use Rattle.std.specs.Cmp.Lexicographic.{pointwise}
-use Rattle.wiring.specs.Options.{bind}
 use Rattle.diag.specs.declared.cause.Cause.{Cause}
 use Rattle.diag.specs.declared.cause.Cause.TheVariants.{Redefined, Undefined, OutputMismatch, MissingOutput, AsyncReset, ConstantRange, InstancePorts}
 use Rattle.hw_model.specs.Types.{HwType}
@@ -23,7 +22,8 @@ use Rattle.port_checks.specs.ResetPorts.{is_reset_port}
 use Rattle.op_checks.specs.TypeChecks.{is_outside}
 use Rattle.op_checks.specs.LiteralChecks.{is_out_of_range}
 use Rattle.op_checks.specs.CountChecks.{operands_written, operand_count, type_count, has_miscounted_parts, has_wrong_operands, has_wrong_results, has_wrong_count}
-use Rattle.op_checks.specs.LimitChecks.{has_type_outside, has_constant_outside, has_extract_outside, has_broken_copy, has_wide_concat, has_unknown_divisor, has_wrong_index, has_wrong_field, has_unequal_widths, has_clock_operand, has_clock_value}
+use Rattle.op_checks.specs.LimitChecks.{has_type_outside, has_constant_outside, has_extract_outside, has_broken_copy, has_wide_concat, has_unknown_divisor, has_wrong_index, has_wrong_field}
+use Rattle.op_checks.specs.LimitChecks.{has_unequal_widths, has_clock_operand, has_clock_value}
 use Rattle.op_checks.specs.OperandChecks.{has_other_form, has_other_operand, has_other_result, has_mismatch}
 use Rattle.op_checks.specs.OwnChecks.{own_cause}
 use Rattle.op_verifier.specs.Answers.{when, or_else}
@@ -68,7 +68,7 @@ binary_cause d os last kind r s is left right =
       called = ap (instance_cause d (word ∷ [])) is.no_instance;
       ends = ap (λ b. b && not last) is.no_output;
       reset = ap (λ b. has_other_reset generated_ports os (cond b (async_parts (r ∷ s ∷ [])) None)) is.no_reset;
-      join = ap (λ x. has_other_join d generated_ports (r ∷ s ∷ []) (bind x (λ (i : Instance). find_module d i.symbol))) is.no_instance;
+      join = ap (λ x. has_other_join d generated_ports (r ∷ s ∷ []) (option_and_then (λ (i : Instance). find_module d i.symbol) x)) is.no_instance;
     })
 
 -- ---- constants

@@ -32,7 +32,7 @@ made kind operands types name = record {
   name = name;
   dictionary = [];
   bin = false;
-  place = record { line = 1; col = 1 };
+  location = record { line = 1; col = 1 };
 }
 
 abbrev plain : Kind → List Ref → Op
@@ -56,7 +56,7 @@ header symbol is_private body = record {
       ∷ [];
   dictionary = [];
   body = body;
-  place = record { line = 1; col = 1 };
+  location = record { line = 1; col = 1 };
 }
 
 -- one module alone is public, and has no instance

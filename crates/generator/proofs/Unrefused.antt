@@ -55,9 +55,9 @@ module _ (seed n : ℕ) (few : n ≤ 10000) where
 
   unreset : (m : Module) → In m design → (o : Op) → In o m.body → async_reset_in o ≡ None
   unreset m here o there =
-      let place = position_of_In m design here in
-      let is : m ≡ made seed n place.0 = (made_at seed n place.0 m place.1).1 in
-      no_async (state_after seed (4 * place.0)) place.0 o (subst (λ (x : Module). In o x.body) is there)
+      let position = position_of_In m design here in
+      let is : m ≡ made seed n position.0 = (made_at seed n position.0 m position.1).1 in
+      no_async (state_after seed (4 * position.0)) position.0 o (subst (λ (x : Module). In o x.body) is there)
 
   no_reset_port : (m : Module) → In m design → (j : ℕ) → is_reset_port design m j ≡ false
   no_reset_port m here j = go (is_reset_port design m j) refl

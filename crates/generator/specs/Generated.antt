@@ -9,7 +9,7 @@ use Rattle.hw_model.specs.Kinds.Shift.{shl, shrs}
 use Rattle.hw_model.specs.Kinds.RegisterOp.{compreg}
 use Rattle.hw_model.specs.Kinds.Reset.{sync_reset}
 use Rattle.hw_model.specs.Kinds.Kind.{variadic, sub, shift, constant, instance, output, register}
-use Rattle.hw_model.specs.Design.{Ref, Place, Port, Op, Module, Design}
+use Rattle.hw_model.specs.Design.{Ref, Location, Port, Op, Module, Design}
 use Rattle.hw_model.specs.Design.Ref.{port, result}
 use Rattle.generator.specs.Draws.{state_after, number_drawn}
 
@@ -23,15 +23,15 @@ drawn_kinds = variadic add ∷ sub ∷ variadic mul ∷ variadic and ∷ variadi
 abbrev pub chosen_kind : ℕ → Kind
 chosen_kind n = slice_index_or drawn_kinds (n % 8) sub
 
--- ---- ports and places
+-- ---- ports and locations
 
 -- values are of 16 bits
 abbrev pub word : HwType
 word = int 16
 
--- all stands at one place, since no text has it
-abbrev pub first_place : Place
-first_place = record { line = 1; col = 1 }
+-- all stands at one location, since no text has it
+abbrev pub first_location : Location
+first_location = record { line = 1; col = 1 }
 
 -- a port that no other has the name of
 abbrev pub port_named : Name → Bool → HwType → Port
@@ -64,7 +64,7 @@ word_op kind operands = record {
   name = [];
   dictionary = [];
   bin = false;
-  place = first_place;
+  location = first_location;
 }
 
 -- %q = seq.compreg %2, %clk reset %rst, %k : i16
@@ -123,7 +123,7 @@ generated_module n k x = record {
   ports = generated_ports;
   dictionary = [];
   body = first_ops x ++ last_ops k;
-  place = first_place;
+  location = first_location;
 }
 
 -- the first k modules of n, each of which draws four numbers

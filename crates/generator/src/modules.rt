@@ -9,7 +9,7 @@ use crate::bodies::body_with;
 use crate::draws::Draws;
 use crate::operations::{WIDTH, module_ops};
 use crate::symbols::module_symbol;
-use diag::refusal::Place;
+use diag::refusal::Location;
 use hw_model::types::Ty;
 use io_edge::byte_text::Text;
 use ir_store::design::{Module, Port, PortList};
@@ -34,7 +34,7 @@ pub fn generated_module(
         ports: generated_ports(alloc)?,
         dictionary: Dictionary::new(alloc),
         body: body_with(alloc, ops)?,
-        place: Place::start(),
+        location: Location::start(),
     })
 }
 

@@ -10,7 +10,7 @@ ghost use Rattle.generator.specs.Views.{op_seen};
 
 use crate::draws::Draws;
 use crate::symbols::module_symbol;
-use diag::refusal::Place;
+use diag::refusal::Location;
 use hw_model::kinds::{Instance, Integer, OpKind, Reset};
 use hw_model::types::Ty;
 use io_edge::byte_text::Text;
@@ -115,7 +115,7 @@ fn word_op(alloc: Global, kind: OpKind, operands: &[Value]) -> Result<NewOp, All
         name: Text::new(alloc),
         dictionary: Dictionary::new(alloc),
         bin: false,
-        place: Place::start(),
+        location: Location::start(),
     })
 }
 

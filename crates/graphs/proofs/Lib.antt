@@ -1,3 +1,6 @@
 -- Lemmas.
 pub mod Lists
 pub mod Marking
+pub mod Placing
+pub mod Ranked
+pub mod Repeated

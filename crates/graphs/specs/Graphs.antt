@@ -1,5 +1,5 @@
 -- Graphs: for each node, by its number, the nodes that it leads to.
-use Rattle.std.specs.Prelude.{◌≡◌, ℕ, ◌<◌, Bool, true, false, List, [], map, length, slice_index_or}
+use Rattle.std.specs.Prelude.{◌≡◌, ℕ, zero, suc, ◌<◌, Bool, true, false, List, [], ◌∷◌, map, length, slice_index_or}
 use Rattle.wiring.specs.Wiring.{In, Chain}
 use Rattle.graphs.specs.declared.graph.NodeList.{NodeList}
 
@@ -10,6 +10,11 @@ lists_of graph = map (λ (n : NodeList). n.nodes.items) graph
 -- what a node leads to; a node that is not there leads to nothing
 abbrev pub edges : List (List ℕ) → ℕ → List ℕ
 edges lists v = slice_index_or lists v []
+
+-- a list n times over
+abbrev pub times_over : ℕ → List ℕ → List (List ℕ)
+times_over zero xs = []
+times_over (suc n) xs = xs ∷ times_over n xs
 
 -- whether a node has its mark
 abbrev pub has_mark : List Bool → ℕ → Bool

@@ -1,7 +1,6 @@
 -- Values within a depth, a step at a time, and words that are padded.
 use Rattle.std.proofs.Common.{◌≡◌, ℕ, zero, suc, ◌-◌, ◌<◌, List, [], ◌∷◌, ◌++◌, false, Option, Some, None, map, take, length, option_map, slice_get, refl, ap, sym, ◌∙◌, arith}
 use Rattle.std.proofs.lemmas.Option.{slice_get-map}
-use Rattle.wiring.specs.Options.{omap}
 use Rattle.bits_core.specs.Word.{Word, first, zeros}
 use Rattle.bits_core.proofs.First.{first-nil}
 use Rattle.hw_model.specs.Types.{Name, HwType}
@@ -25,10 +24,10 @@ first_parts (suc w) (b ∷ x) =
     let e : suc w - length (b ∷ take w x) ≡ w - length (take w x) = omega arith in
     ap (λ z. b ∷ z) (first_parts w x) ∙ ap (λ z. (b ∷ take w x) ++ zeros z) (sym e)
 
-type_back : (t : Option HwType) → omap (λ (r : OpResult). r.type) (option_map result_of t) ≡ t
+type_back : (t : Option HwType) → option_map (λ (r : OpResult). r.type) (option_map result_of t) ≡ t
 type_back None = refl
 type_back (Some t) = refl
 
 -- the type of a result by its number
-pub result_at : (ts : List HwType) (k : ℕ) → omap (λ (r : OpResult). r.type) (slice_get (map result_of ts) k) ≡ slice_get ts k
-result_at ts k = ap (λ o. omap (λ (r : OpResult). r.type) o) (slice_get-map result_of ts k) ∙ type_back (slice_get ts k)
+pub result_at : (ts : List HwType) (k : ℕ) → option_map (λ (r : OpResult). r.type) (slice_get (map result_of ts) k) ≡ slice_get ts k
+result_at ts k = ap (λ o. option_map (λ (r : OpResult). r.type) o) (slice_get-map result_of ts k) ∙ type_back (slice_get ts k)

@@ -3,7 +3,7 @@ use Rattle.std.specs.Prelude.{false, [], List, map}
 use Rattle.hw_model.specs.TypeViews.{type_of}
 use Rattle.hw_model.specs.KindViews.{kind_of}
 use Rattle.hw_model.specs.Types.{HwType}
-use Rattle.hw_model.specs.Design.{Ref, Port as HwPort, OpResult as HwResult, Op, Module as HwModule, Design, nowhere_place}
+use Rattle.hw_model.specs.Design.{Ref, Port as HwPort, OpResult as HwResult, Op, Module as HwModule, Design, no_location}
 use Rattle.hw_model.specs.Design.Ref.{port, result, undefined}
 use Rattle.hw_interpreter.specs.declared.design.Operand.{Operand}
 use Rattle.hw_interpreter.specs.declared.design.Operand.TheVariants as operands
@@ -32,7 +32,7 @@ op_of o = record {
   name = [];
   dictionary = [];
   bin = false;
-  place = nowhere_place;
+  location = no_location;
 }
 
 abbrev pub module_of : Module → HwModule
@@ -42,7 +42,7 @@ module_of m = record {
   ports = map port_of m.ports.items;
   dictionary = [];
   body = map op_of m.body.items;
-  place = nowhere_place;
+  location = no_location;
 }
 
 abbrev pub design_of : List Module → Design

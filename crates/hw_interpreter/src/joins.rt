@@ -1,6 +1,5 @@
 //! What an instance joins to the ports of its module, and what its module gives to its results.
-ghost use Rattle.std.specs.Prelude.{◌≡◌, ◌≤◌, length, take, map, option_map};
-ghost use Rattle.wiring.specs.Options.{bind};
+ghost use Rattle.std.specs.Prelude.{◌≡◌, ◌≤◌, length, take, map, option_map, option_and_then};
 ghost use Rattle.hw_model.specs.Flat.{input_count, port_ref, joined_ref, joined_at, given_ref, module_at};
 ghost use Rattle.hw_interpreter.specs.DesignViews.{ref_of, op_of, port_of, module_of};
 
@@ -9,7 +8,7 @@ use crate::modules::{callee, instance_at, module_at, output_operands};
 
 // what an instance of the module at the end of a path joins to a port of its module
 pub(crate) fn joined_operand(at: &Setting, path: &[u32], number: u32, port: u32) -> Option<Operand>
-    ensures { option_map ref_of result ≡ bind (module_at (map module_of at.now.modules.now) at.now.top.now path.now) (joined_at (map module_of at.now.modules.now) number port) }
+    ensures { option_map ref_of result ≡ option_and_then (joined_at (map module_of at.now.modules.now) number port) (module_at (map module_of at.now.modules.now) at.now.top.now path.now) }
 {
     match module_at(at.modules, at.top, path) {
         None => None,

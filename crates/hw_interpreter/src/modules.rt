@@ -1,9 +1,8 @@
 //! Modules by symbol and by path, and the bits of content of modules.
-ghost use Rattle.std.specs.Prelude.{◌≡◌, ◌+◌, [], ◌≤◌, ◌<◌, length, take, map, IfOk, OnErr, ◌^◌, Option, Some, None, option_map, slice_get};
+ghost use Rattle.std.specs.Prelude.{◌≡◌, ◌+◌, [], ◌≤◌, ◌<◌, length, take, map, IfOk, OnErr, ◌^◌, Option, Some, None, option_map, slice_get, option_and_then};
 ghost use Rattle.hw_model.specs.KindViews.{kind_of, instance_of};
 ghost use Rattle.hw_model.specs.Design.{find_module, instance_in, is_instance, is_register, callee, output_refs};
 ghost use Rattle.hw_model.specs.Flat.{instances, before_instance, module_at, op_state, body_state, module_state, state, state_before, base, held_width, depth, offset};
-ghost use Rattle.wiring.specs.Options.{bind};
 ghost use Rattle.hw_interpreter.specs.DesignViews.{ref_of, op_of, module_of};
 ghost use Rattle.operation_values.specs.Suits.{IsCounted};
 
@@ -121,7 +120,7 @@ pub fn module_at<'a>(modules: &'a [Module], top: &[u8], path: &[u32]) -> Option<
 // the module that the instance of that number instances
 fn called_at<'a>(modules: &'a [Module], inside: &'a Module, number: u32) -> Option<&'a Module>
     ensures { option_map (λ m. module_of m.now) result
-        ≡ bind (slice_get (instances (map op_of inside.now.body.items)) number) (callee (map module_of modules.now)) }
+        ≡ option_and_then (callee (map module_of modules.now)) (slice_get (instances (map op_of inside.now.body.items)) number) }
 {
     match instance_at(inside.body.as_slice(), number) {
         None => None,

@@ -1,7 +1,6 @@
 -- Values computed to a depth of needs: what every settled map gives, and every run, where the nets asked for are reached
 -- within the depth.
-use Rattle.std.proofs.Common.{◌≡◌, ℕ, zero, suc, Bool, true, false, cond, List, [], ◌∷◌, ◌++◌, map, drop, Option, Some, None, refl, ap, ap₂, subst, ◌∙◌}
-use Rattle.wiring.specs.Options.{bind}
+use Rattle.std.proofs.Common.{◌≡◌, ℕ, zero, suc, Bool, true, false, cond, List, [], ◌∷◌, ◌++◌, map, drop, Option, Some, None, refl, ap, ap₂, subst, ◌∙◌, option_and_then}
 use Rattle.bits_core.specs.Word.{Word, first}
 use Rattle.hw_model.specs.Types.{Name}
 use Rattle.hw_model.specs.Kinds.{Reset}
@@ -55,8 +54,8 @@ module _ (d : Design) (top : Name) where
       parts true sync_reset (x ∷ c ∷ e ∷ r ∷ v ∷ []) is = cc
       parts _ _ _ is = refl
 
-      go : (x : Option RegisterForm) → next_value (bind x (λ (g : RegisterForm). register_parts g.has_enable g.reset o.operands)) (λ r. σ (net p r)) old
-          ≡ next_value (bind x (λ (g : RegisterForm). register_parts g.has_enable g.reset o.operands)) (λ r. τ (net p r)) old
+      go : (x : Option RegisterForm) → next_value (option_and_then (λ (g : RegisterForm). register_parts g.has_enable g.reset o.operands) x) (λ r. σ (net p r)) old
+          ≡ next_value (option_and_then (λ (g : RegisterForm). register_parts g.has_enable g.reset o.operands) x) (λ r. τ (net p r)) old
       go None = refl
       go (Some g) = parts g.has_enable g.reset o.operands (operands_same n p σ τ same o.operands all)
 

@@ -1,11 +1,11 @@
 -- Where no module is within itself, the nets that need others stand in a list.
-use Rattle.std.proofs.Common.{◌≡◌, ◌⊎◌, ℕ, zero, suc, ◌+◌, ◌<◌, ◌≤◌, Bool, true, false, cond, List, [], ◌∷◌, ◌++◌, length, map, take, flat_map, slice_get, is_some, Option, Some, None, refl, sym, ap, subst, ◌∙◌, inl, inr, arith}
+use Rattle.std.proofs.Common.{◌≡◌, ◌⊎◌, ℕ, zero, suc, ◌+◌, ◌<◌, ◌≤◌, Bool, true, false, cond, List, [], ◌∷◌, ◌++◌, length, map, take, flat_map, slice_get, is_some, Option, Some, None, refl, sym, ap}
+use Rattle.std.proofs.Common.{subst, ◌∙◌, inl, inr, arith, option_and_then}
 use Rattle.std.proofs.lemmas.List.{length-map}
 use Rattle.std.proofs.lemmas.Option.{slice_get_within}
 use Rattle.std.specs.Cmp.Lexicographic.{same_text}
-use Rattle.wiring.specs.Options.{bind}
 use Rattle.wiring.specs.Wiring.{In, Chain, IsWithin}
-use Rattle.wiring.proofs.Options.{bind_some, omap_some}
+use Rattle.wiring.proofs.Options.{and_then_some, option_map_some}
 use Rattle.wiring.proofs.Members.{In-append_left, In-append_right, In-map, In-flat_map}
 use Rattle.wiring.proofs.Chains.{Chain-append, Chain-le}
 use Rattle.wiring.proofs.Heights.{HasHeights-acyclic, IsAcyclic-heights, settles}
@@ -69,9 +69,9 @@ module _ (d : Design) (top : Name) where
   pub path_chain : (p : Path) (m : Module) → module_at d top p ≡ Some m → (s : Name) × Chain (calls d) (length p) top s × (find_module d s ≡ Some m)
   path_chain [] m is = (top, refl, is)
   path_chain (u ∷ p) m is =
-      let outer = bind_some (module_at d top p) (λ (x : Module). bind (slice_get (instances x.body) u) (callee d)) is in
-      let inner = bind_some (slice_get (instances outer.0.body) u) (callee d) outer.2 in
-      let named = bind_some (instance_in inner.0.kind) (λ (i : Instance). find_module d i.symbol) inner.2 in
+      let outer = and_then_some (module_at d top p) (λ (x : Module). option_and_then (callee d) (slice_get (instances x.body) u)) is in
+      let inner = and_then_some (slice_get (instances outer.0.body) u) (callee d) outer.2 in
+      let named = and_then_some (instance_in inner.0.kind) (λ (i : Instance). find_module d i.symbol) inner.2 in
       let before = path_chain p outer.0 outer.1 in
       let need : In named.0.symbol (calls d before.0) =
       subst (λ o. In named.0.symbol (callee_symbols (body_of o))) (sym before.2) (called_instance outer.0.body u inner.0 named.0 inner.1 named.1) in
@@ -116,8 +116,8 @@ module _ (d : Design) (top : Name) where
   In-paths n [] m short is = In-paths_top n
   In-paths zero (u ∷ p) m short is = absurd (omega arith)
   In-paths (suc n) (u ∷ p) m short is =
-      let outer = bind_some (module_at d top p) (λ (x : Module). bind (slice_get (instances x.body) u) (callee d)) is in
-      let inner = bind_some (slice_get (instances outer.0.body) u) (callee d) outer.2 in
+      let outer = and_then_some (module_at d top p) (λ (x : Module). option_and_then (callee d) (slice_get (instances x.body) u)) is in
+      let inner = and_then_some (slice_get (instances outer.0.body) u) (callee d) outer.2 in
       let below : u < length (instances (body_of (module_at d top p))) =
       slice_get_within (instances (body_of (module_at d top p))) u inner.0
       (ap (λ o. slice_get (instances (body_of o)) u) outer.1 ∙ inner.1) in
@@ -185,13 +185,13 @@ module _ (d : Design) (top : Name) where
         ap needs_of (input_ports j (find_module d top)) ∙ no_needs_input (slice_get (ports_of (find_module d top)) j) (input_width (take j (ports_of (find_module d top)))) in
         absurd (subst (In b) none need)
     port_listed (u ∷ p) j b need =
-        let joins = copied p (bind (module_at d top p) (joined_at d u j)) b need in
-        let outer = bind_some (module_at d top p) (joined_at d u j) joins.1 in
-        let inner = bind_some (slice_get (instances outer.0.body) u) (joined_ref d j) outer.2 in
-        let inside = bind_some (callee d inner.0) (λ (c : Module). port_ref c.ports inner.0.operands j) inner.2 in
+        let joins = copied p (option_and_then (joined_at d u j) (module_at d top p)) b need in
+        let outer = and_then_some (module_at d top p) (joined_at d u j) joins.1 in
+        let inner = and_then_some (slice_get (instances outer.0.body) u) (joined_ref d j) outer.2 in
+        let inside = and_then_some (callee d inner.0) (λ (c : Module). port_ref c.ports inner.0.operands j) inner.2 in
         let there : module_at d top (u ∷ p) ≡ Some inside.0 =
-        ap (λ o. bind o (λ (x : Module). bind (slice_get (instances x.body) u) (callee d))) outer.1
-        ∙ ap (λ x. bind x (callee d)) inner.1 ∙ inside.1 in
+        ap (λ o. option_and_then (λ (x : Module). option_and_then (callee d) (slice_get (instances x.body) u)) o) outer.1
+        ∙ ap (λ x. option_and_then (callee d) x) inner.1 ∙ inside.1 in
         port_within (u ∷ p) inside.0 j there (within inside.0 inner.0 (slice_get inside.0.ports j) refl inside.2)
       where
         within : (c : Module) (o : Op) (x : Option Port) → slice_get c.ports j ≡ x → {r : Ref} → operand_for x o.operands (input_count (take j c.ports)) ≡ Some r → j < length c.ports
@@ -222,7 +222,7 @@ module _ (d : Design) (top : Name) where
             by_type : (t : Option HwType) → result_type o k ≡ t → In b (needs_of (made_of p o k t)) → In (net p (result i k)) all_nets
             by_type None typed never = absurd never
             by_type (Some t) typed need' =
-                let found = omap_some (λ (x : OpResult). x.type) (slice_get o.results k) typed in
+                let found = option_map_some (λ (x : OpResult). x.type) (slice_get o.results k) typed in
                 let below : k < length o.results = slice_get_within o.results k found.0 found.1 in
                 result_within p m i k o is there (omega arith)
 

@@ -1,8 +1,7 @@
 -- A module that nothing instances goes: the others do what they did.
-use Rattle.std.proofs.Common.{◌≡◌, ℕ, zero, suc, pred, ◌+◌, ◌≤◌, ◌<◌, Bool, true, false, cond, List, [], ◌∷◌, ◌++◌, length, map, take, slice_get, Option, Some, None, refl, sym, ap, ap₂, subst, ◌∙◌, inl, inr, arith}
+use Rattle.std.proofs.Common.{◌≡◌, ℕ, zero, suc, pred, ◌+◌, ◌≤◌, ◌<◌, Bool, true, false, cond, List, [], ◌∷◌, ◌++◌, length, map, take, slice_get, Option, Some, None, refl, sym, ap, ap₂, subst, ◌∙◌, inl, inr, arith, option_and_then}
 use Rattle.std.proofs.lemmas.List.{length-map}
 use mathlib.Core.Path.{fun_ext}
-use Rattle.wiring.specs.Options.{bind}
 use Rattle.wiring.specs.Wiring.{In, IsHeight, HasHeights as HaveHeights}
 use Rattle.wiring.proofs.Members.{In-append_left, In-append_right, In-slice_get, from_In-take}
 use Rattle.wiring.proofs.Heights.{FallsAlong-height, height-le, heights}
@@ -13,7 +12,8 @@ use Rattle.hw_model.specs.Kinds.{Instance}
 use Rattle.hw_model.specs.Design.{Ref, Op, Module, Design, same_name, find_module, instance_in, is_instance, is_register, is_output_op, result_type, output_refs, callee}
 use Rattle.hw_model.specs.Design.Ref.{port, result, undefined}
 use Rattle.hw_model.specs.Value.{concat_words}
-use Rattle.hw_model.specs.Flat.{Path, Net, net, Slot, instances, before_instance, if_zero, module_at, op_state, body_state, module_state, state, base, port_ref, input_source, copy_of, joined_ref, joined_at, held_of, made_of, port_source, result_source, source, op_registers, body_registers, module_registers, registers}
+use Rattle.hw_model.specs.Flat.{Path, Net, net, Slot, instances, before_instance, if_zero, module_at, op_state, body_state, module_state, state, base, port_ref, input_source, copy_of, joined_ref}
+use Rattle.hw_model.specs.Flat.{joined_at, held_of, made_of, port_source, result_source, source, op_registers, body_registers, module_registers, registers}
 use Rattle.hw_model.specs.Flat.Source.{nowhere}
 use Rattle.hw_model.specs.Machine.{Same}
 use Rattle.hw_model.specs.Meaning.{needs_of, needs, HasHeights, next_content, risen_content, outputs, outputs_of, machine}
@@ -24,7 +24,7 @@ use Rattle.hw_model.proofs.Sorts.Sort.{a_register, an_instance, an_output, a_mad
 use Rattle.hw_model.proofs.Paths.{module_inside, state_body, before_body, registers_body, joined_body, result_in, result_here}
 use Rattle.hw_model.proofs.Machines.{same_self}
 use Rattle.hw_model.proofs.Finite.{calls_within, settles_with_heights}
-use Rattle.hw_model.proofs.Places.{machine_of}
+use Rattle.hw_model.proofs.Locations.{machine_of}
 use Rattle.hw_model.proofs.Content.{state_at_depth, call_heights}
 
 -- an instance among operations is called
@@ -124,11 +124,11 @@ heights_without_module e top missing = heights (needs e top) (λ a. 0) (λ a b n
   where
     at : (p : Path) → module_at e top p ≡ None
     at [] = missing
-    at (u ∷ p) = ap (λ o. bind o (λ (m : Module). bind (slice_get (instances m.body) u) (callee e))) (at p)
+    at (u ∷ p) = ap (λ o. option_and_then (λ (m : Module). option_and_then (callee e) (slice_get (instances m.body) u)) o) (at p)
 
     go : (p : Path) (r : Ref) (b : Net) → In b (needs e top (net p r)) → ⊥
     go [] (port j) b need = subst (λ o. In b (needs_of (input_source j o))) missing need
-    go (u ∷ p) (port j) b need = subst (λ o. In b (needs_of (copy_of p (bind o (joined_at e u j))))) (at p) need
+    go (u ∷ p) (port j) b need = subst (λ o. In b (needs_of (copy_of p (option_and_then (joined_at e u j) o)))) (at p) need
     go p (result j k) b need = subst (λ o. In b (needs_of (result_source e top p j k o))) (at p) need
     go p undefined b need = need
 
@@ -196,28 +196,28 @@ module _ (d e : Design) (gone : Name) (without : IsWithout d e gone) (finite : H
     where_is (u ∷ p) = go (where_is p)
       where
         by_op : (s : Name) (x : Option Op) → ((o : Op) → x ≡ Some o → In o (body_of (find_module d s)))
-            → module_at d top (u ∷ p) ≡ bind x (callee d) → module_at e top (u ∷ p) ≡ bind x (callee e) → Where (u ∷ p)
+            → module_at d top (u ∷ p) ≡ option_and_then (callee d) x → module_at e top (u ∷ p) ≡ option_and_then (callee e) x → Where (u ∷ p)
         by_op s None within is is' = missing is is'
         by_op s (Some o) within is is' = by_instance (instance_in o.kind) refl is is'
           where
-            by_instance : (y : Option Instance) → instance_in o.kind ≡ y → module_at d top (u ∷ p) ≡ bind (instance_in o.kind) (λ (i : Instance). find_module d i.symbol)
-                → module_at e top (u ∷ p) ≡ bind (instance_in o.kind) (λ (i : Instance). find_module e i.symbol) → Where (u ∷ p)
+            by_instance : (y : Option Instance) → instance_in o.kind ≡ y → module_at d top (u ∷ p) ≡ option_and_then (λ (i : Instance). find_module d i.symbol) (instance_in o.kind)
+                → module_at e top (u ∷ p) ≡ option_and_then (λ (i : Instance). find_module e i.symbol) (instance_in o.kind) → Where (u ∷ p)
             by_instance None none is is' =
-                missing (is ∙ ap (λ z. bind z (λ (i : Instance). find_module d i.symbol)) none) (is' ∙ ap (λ z. bind z (λ (i : Instance). find_module e i.symbol)) none)
+                missing (is ∙ ap (λ z. option_and_then (λ (i : Instance). find_module d i.symbol) z) none) (is' ∙ ap (λ z. option_and_then (λ (i : Instance). find_module e i.symbol) z) none)
             by_instance (Some i) inst is is' =
                 here i.symbol (stays s o i (within o refl) inst)
-                (is ∙ ap (λ z. bind z (λ (x : Instance). find_module d x.symbol)) inst)
-                (is' ∙ ap (λ z. bind z (λ (x : Instance). find_module e x.symbol)) inst ∙ without.others i.symbol (stays s o i (within o refl) inst))
+                (is ∙ ap (λ z. option_and_then (λ (x : Instance). find_module d x.symbol) z) inst)
+                (is' ∙ ap (λ z. option_and_then (λ (x : Instance). find_module e x.symbol) z) inst ∙ without.others i.symbol (stays s o i (within o refl) inst))
 
         go : Where p → Where (u ∷ p)
         go (missing is is') =
-            missing (ap (λ o. bind o (λ (m : Module). bind (slice_get (instances m.body) u) (callee d))) is)
-            (ap (λ o. bind o (λ (m : Module). bind (slice_get (instances m.body) u) (callee e))) is')
+            missing (ap (λ o. option_and_then (λ (m : Module). option_and_then (callee d) (slice_get (instances m.body) u)) o) is)
+            (ap (λ o. option_and_then (λ (m : Module). option_and_then (callee e) (slice_get (instances m.body) u)) o) is')
         go (here s stays_on is is') =
             by_op s (slice_get (instances (body_of (find_module d s))) u)
             (λ o at_u. from_In-instances (body_of (find_module d s)) o (In-slice_get o (instances (body_of (find_module d s))) u at_u))
-            (module_inside d u (module_at d top p) ∙ ap (λ o. bind (slice_get (instances (body_of o)) u) (callee d)) is)
-            (module_inside e u (module_at e top p) ∙ ap (λ o. bind (slice_get (instances (body_of o)) u) (callee e)) is')
+            (module_inside d u (module_at d top p) ∙ ap (λ o. option_and_then (callee d) (slice_get (instances (body_of o)) u)) is)
+            (module_inside e u (module_at e top p) ∙ ap (λ o. option_and_then (callee e) (slice_get (instances (body_of o)) u)) is')
 
     abbrev body_at : Path → List Op
     body_at p = body_of (module_at d top p)
@@ -239,7 +239,7 @@ module _ (d e : Design) (gone : Name) (without : IsWithout d e gone) (finite : H
     callee_same : (p : Path) (o : Op) → In o (body_at p) → callee e o ≡ callee d o
     callee_same p o within = go (instance_in o.kind) refl
       where
-        go : (y : Option Instance) → instance_in o.kind ≡ y → bind y (λ (i : Instance). find_module e i.symbol) ≡ bind y (λ (i : Instance). find_module d i.symbol)
+        go : (y : Option Instance) → instance_in o.kind ≡ y → option_and_then (λ (i : Instance). find_module e i.symbol) y ≡ option_and_then (λ (i : Instance). find_module d i.symbol) y
         go None inst = refl
         go (Some i) inst = without.others i.symbol (not_gone p o i within inst)
 
@@ -258,13 +258,13 @@ module _ (d e : Design) (gone : Name) (without : IsWithout d e gone) (finite : H
     port_same : (p : Path) (j : ℕ) → port_source e top p j ≡ port_source d top p j
     port_same [] j = ap (input_source j) (without.others top other)
     port_same (u ∷ p) j =
-        ap (copy_of p) (ap (λ m. bind m (joined_at e u j)) (same_at p) ∙ joined_body e u j (module_at d top p)
+        ap (copy_of p) (ap (λ m. option_and_then (joined_at e u j) m) (same_at p) ∙ joined_body e u j (module_at d top p)
         ∙ go (slice_get (instances (body_at p)) u) refl ∙ sym (joined_body d u j (module_at d top p)))
       where
-        go : (x : Option Op) → slice_get (instances (body_at p)) u ≡ x → bind x (joined_ref e j) ≡ bind x (joined_ref d j)
+        go : (x : Option Op) → slice_get (instances (body_at p)) u ≡ x → option_and_then (joined_ref e j) x ≡ option_and_then (joined_ref d j) x
         go None is = refl
         go (Some o) is =
-            ap (λ m. bind m (λ (c : Module). port_ref c.ports o.operands j))
+            ap (λ m. option_and_then (λ (c : Module). port_ref c.ports o.operands j) m)
             (callee_same p o (from_In-instances (body_at p) o (In-slice_get o (instances (body_at p)) u is)))
 
     result_same : (p : Path) (j k : ℕ) → source e top (net p (result j k)) ≡ source d top (net p (result j k))
@@ -282,7 +282,7 @@ module _ (d e : Design) (gone : Name) (without : IsWithout d e gone) (finite : H
         go (Some o) is =
             ap₂ (λ a b. cond (is_register o) (held_of a (result_type o k)) (cond (is_instance o) b (cond (is_output_op o) nowhere (made_of p o k (result_type o k)))))
             offset_same
-            (ap (λ m. copy_of (length (instances (take j (body_at p))) ∷ p) (bind m (λ (c : Module). slice_get (output_refs c.body) k)))
+            (ap (λ m. copy_of (length (instances (take j (body_at p))) ∷ p) (option_and_then (λ (c : Module). slice_get (output_refs c.body) k) m))
             (callee_same p o (In-slice_get o (body_at p) j is)))
 
     pub source_same : (a : Net) → source e top a ≡ source d top a

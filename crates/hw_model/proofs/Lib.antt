@@ -14,7 +14,7 @@ pub mod SameLiterals
 pub mod Samples
 mod Values
 pub mod Opcodes
-pub mod Places
+pub mod Locations
 pub mod Weights
 pub mod Content
 pub mod Gone

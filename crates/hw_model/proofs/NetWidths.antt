@@ -1,10 +1,9 @@
 -- Every net of a sound design whose nets have heights has as many bits as its type.
-use Rattle.std.proofs.Common.{◌≡◌, ℕ, zero, suc, ◌+◌, Bool, true, false, cond, List, [], ◌∷◌, length, map, take, slice_get, is_some, Option, Some, None, refl, sym, ap, subst, ◌∙◌, inl, inr}
+use Rattle.std.proofs.Common.{◌≡◌, ℕ, zero, suc, ◌+◌, Bool, true, false, cond, List, [], ◌∷◌, length, map, take, slice_get, is_some, Option, Some, None, refl, sym, ap, subst, ◌∙◌, inl, inr, option_and_then, option_map}
 use Rattle.std.proofs.lemmas.Option.{slice_get-map}
 use mathlib.Core.Path.{subst₂}
-use Rattle.wiring.specs.Options.{bind, omap}
 use Rattle.wiring.specs.Wiring.{In}
-use Rattle.wiring.proofs.Options.{omap_some}
+use Rattle.wiring.proofs.Options.{option_map_some}
 use Rattle.wiring.proofs.Heights.{by_heights}
 use Rattle.bits_core.specs.Word.{Word}
 use Rattle.bits_core.proofs.First.{length-first}
@@ -39,11 +38,11 @@ sound_at d sound top [] = sound_found d sound top
 sound_at d sound top (u ∷ p) =
     subst (λ o. SoundBody d (ports_of o) (body_of o)) (sym (module_inside d u (module_at d top p))) (go (slice_get (instances (body_of (module_at d top p))) u))
   where
-    by_symbol : (y : Option Instance) → SoundBody d (ports_of (bind y (λ (i : Instance). find_module d i.symbol))) (body_of (bind y (λ (i : Instance). find_module d i.symbol)))
+    by_symbol : (y : Option Instance) → SoundBody d (ports_of (option_and_then (λ (i : Instance). find_module d i.symbol) y)) (body_of (option_and_then (λ (i : Instance). find_module d i.symbol) y))
     by_symbol None = no_module_sound d
     by_symbol (Some i) = sound_found d sound i.symbol
 
-    go : (x : Option Op) → SoundBody d (ports_of (bind x (callee d))) (body_of (bind x (callee d)))
+    go : (x : Option Op) → SoundBody d (ports_of (option_and_then (callee d) x)) (body_of (option_and_then (callee d) x))
     go None = no_module_sound d
     go (Some o) = by_symbol (instance_in o.kind)
 
@@ -84,9 +83,9 @@ input_found (x ∷ ps) (suc j) q is inward = go x.is_output refl (input_found ps
 pub typed_at : (type_of : Ref → Option HwType) (rs : List Ref) (ts : List HwType) (n : ℕ) (t : HwType) → map type_of rs ≡ map (λ (u : HwType). Some u) ts → slice_get ts n ≡ Some t
     → (r : Ref) × (slice_get rs n ≡ Some r) × (type_of r ≡ Some t)
 typed_at type_of rs ts n t same is =
-    let e : omap type_of (slice_get rs n) ≡ Some (Some t) =
-    sym (slice_get-map type_of rs n) ∙ ap (λ xs. slice_get xs n) same ∙ slice_get-map (λ (u : HwType). Some u) ts n ∙ ap (omap (λ (u : HwType). Some u)) is in
-    omap_some type_of (slice_get rs n) e
+    let e : option_map type_of (slice_get rs n) ≡ Some (Some t) =
+    sym (slice_get-map type_of rs n) ∙ ap (λ xs. slice_get xs n) same ∙ slice_get-map (λ (u : HwType). Some u) ts n ∙ ap (option_map (λ (u : HwType). Some u)) is in
+    option_map_some type_of (slice_get rs n) e
 
 no_output : (kind : Kind) (ts : List HwType) (xs : List (Option HwType)) (t : HwType) (k : ℕ) → is_output_kind kind ≡ true → Fits kind ts xs t k → ⊥
 no_output output ts xs t k is fits = fits
@@ -134,7 +133,7 @@ module _ (d : Design) (top : Name) (sound : Sound d) (inputs content : Word) (ρ
   operands_have p (r ∷ rs) needed = (needed (net p r) (inl refl), operands_have p rs (λ b here. needed b (inr here)))
 
   -- an input of an instance's module
-  good_joined : (p : Path) (u j : ℕ) → Good (copy_of p (bind (module_at d top p) (joined_at d u j))) (input_type (slice_get (ports_of (module_at d top (u ∷ p))) j))
+  good_joined : (p : Path) (u j : ℕ) → Good (copy_of p (option_and_then (joined_at d u j) (module_at d top p))) (input_type (slice_get (ports_of (module_at d top (u ∷ p))) j))
   good_joined p u j =
       subst₂ Good (ap (copy_of p) (sym (joined_body d u j (module_at d top p)))) (ap (λ o. input_type (slice_get (ports_of o) j)) (sym (module_inside d u (module_at d top p))))
       (go (slice_get (instances (body_of (module_at d top p))) u) refl)
@@ -154,20 +153,20 @@ module _ (d : Design) (top : Name) (sound : Sound d) (inputs content : Word) (ρ
               good_copy p (slice_get o.operands (input_count (take j c.ports))) found.0 q.type found.1 found.2
 
       by_instance : (o : Op) → InstanceFits d type_of o → (y : Option Instance) → instance_in o.kind ≡ y
-          → Good (copy_of p (bind (bind y (λ (i : Instance). find_module d i.symbol)) (λ (c : Module). port_ref c.ports o.operands j)))
-          (input_type (slice_get (ports_of (bind y (λ (i : Instance). find_module d i.symbol))) j))
+          → Good (copy_of p (option_and_then (λ (c : Module). port_ref c.ports o.operands j) (option_and_then (λ (i : Instance). find_module d i.symbol) y)))
+          (input_type (slice_get (ports_of (option_and_then (λ (i : Instance). find_module d i.symbol) y)) j))
       by_instance o fits None is = λ needed. tt
       by_instance o fits (Some i) is =
           let there = fits i is in
-          subst (λ m. Good (copy_of p (bind m (λ (c : Module). port_ref c.ports o.operands j))) (input_type (slice_get (ports_of m) j))) (sym there.1)
+          subst (λ m. Good (copy_of p (option_and_then (λ (c : Module). port_ref c.ports o.operands j) m)) (input_type (slice_get (ports_of m) j))) (sym there.1)
           (by_port o there.0 there.2 (slice_get there.0.ports j) refl)
 
       go : (x : Option Op) → slice_get (instances (body_of (module_at d top p))) u ≡ x
-          → Good (copy_of p (bind x (joined_ref d j))) (input_type (slice_get (ports_of (bind x (callee d))) j))
+          → Good (copy_of p (option_and_then (joined_ref d j) x)) (input_type (slice_get (ports_of (option_and_then (callee d) x)) j))
       go None is = λ needed. tt
       go (Some o) is =
-          let place = instance_position (body_of (module_at d top p)) u o is in
-          by_instance o ((sound_at d sound top p).instances place.0 o place.1) (instance_in o.kind) refl
+          let index = instance_position (body_of (module_at d top p)) u o is in
+          by_instance o ((sound_at d sound top p).instances index.0 o index.1) (instance_in o.kind) refl
 
   -- an output of an instance's module
   good_given : (p : Path) (j k : ℕ) (o : Op) (i : Instance) → slice_get (body_of (module_at d top p)) j ≡ Some o → instance_in o.kind ≡ Some i
@@ -179,10 +178,10 @@ module _ (d : Design) (top : Name) (sound : Sound d) (inputs content : Word) (ρ
       let c : Module = there.0 in
       let listed : slice_get (output_types c.ports) k ≡ Some t = ap (λ ts. slice_get ts k) (sym there.3) ∙ slice_get-map (λ (r : OpResult). r.type) o.results k ∙ typed in
       let gives = typed_at (type_in c.ports c.body) (output_refs c.body) (output_types c.ports) k t (sound i.symbol c there.1).outputs listed in
-      let called : callee d o ≡ Some c = ap (λ y. bind y (λ (x : Instance). find_module d x.symbol)) inst ∙ there.1 in
+      let called : callee d o ≡ Some c = ap (λ y. option_and_then (λ (x : Instance). find_module d x.symbol) y) inst ∙ there.1 in
       let inside : module_at d top (length (instances (take j (body_of (module_at d top p)))) ∷ p) ≡ Some c =
       module_inside d (length (instances (take j (body_of (module_at d top p))))) (module_at d top p)
-      ∙ ap (λ x. bind x (callee d)) (instance_found (body_of (module_at d top p)) j o i is inst) ∙ called in
+      ∙ ap (λ x. option_and_then (callee d) x) (instance_found (body_of (module_at d top p)) j o i is inst) ∙ called in
       good_copy (length (instances (take j (body_of (module_at d top p)))) ∷ p) (given_ref d k o) gives.0 t
       (output_of (callee d o) k ∙ ap (λ m. slice_get (output_refs (body_of m)) k) called ∙ gives.1)
       (ap (λ m. type_in (ports_of m) (body_of m) gives.0) inside ∙ gives.2)
@@ -216,7 +215,7 @@ module _ (d : Design) (top : Name) (sound : Sound d) (inputs content : Word) (ρ
       by_sort o is (a_made r i u) = simp (r, i, u) (good_made p j k o is r i (result_type o k) refl)
 
       go : (x : Option Op) → slice_get (body_of (module_at d top p)) j ≡ x
-          → Good (result_in d top p (body_of (module_at d top p)) j k x) (bind x (λ (o : Op). result_type o k))
+          → Good (result_in d top p (body_of (module_at d top p)) j k x) (option_and_then (λ (o : Op). result_type o k) x)
       go None is = λ needed. tt
       go (Some o) is = by_sort o is (sort_of o.kind)
 

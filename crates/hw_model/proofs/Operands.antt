@@ -1,18 +1,21 @@
 -- Operations with any number of operands, worked from the last operand to the first.
-use Rattle.std.proofs.Common.{◌≡◌, ℕ, zero, suc, ◌+◌, ◌-◌, ◌*◌, ◌^◌, ◌<◌, ◌≤◌, List, [], ◌∷◌, length, map, drop, get_or, arith, refl, sym, ap, ◌∙◌, add_comm, Bool, true, negsuc, length-append}
+use Rattle.std.proofs.Common.{◌≡◌, ℕ, zero, suc, ◌+◌, ◌-◌, ◌*◌, ◌^◌, ◌<◌, ◌≤◌, List, [], ◌∷◌, length, map, drop, get_or, arith, refl, sym, ap, ◌∙◌, add_comm, Bool, true, ◌&&◌, ◌||◌, negsuc, length-append}
+use Rattle.std.proofs.lemmas.List.{length-replicate}
 use Rattle.std.proofs.Math.Nat.{mul_comm}
 use Rattle.std.proofs.Math.Seq.{drop-cons}
 use Rattle.std.proofs.lemmas.List.Elements.{All-drop, All-get_or}
 use Rattle.std.proofs.lemmas.Nat.{pow-add}
 use Rattle.wiring.specs.Lists.{total}
-use Rattle.bits_core.specs.Word.{Word, number, bits, bits_of_ℤ, add as sum_of, mul as product_of, bitwise, zeros, ones, not_word}
+use Rattle.bits_core.specs.Word.{Word, number, bits, bits_of_ℤ, add as sum_of, mul as product_of, xor as differ, bitwise, zeros, ones, not_word}
 use Rattle.bits_core.proofs.Numbers.{length-bits}
 use Rattle.bits_core.proofs.Arithmetic.{add-bits_left, mul-bits_left, add_words_comm, mul_words_comm}
 use Rattle.bits_core.proofs.Bitwise.{length-bitwise}
 use Rattle.bits_core.proofs.Complement.{not-bits}
 use Rattle.bits_core.proofs.Storage.{bits-zero}
 use Rattle.hw_model.specs.IntegerKinds.{AllHave}
-use Rattle.hw_model.specs.Value.{concat_words, product}
+use Rattle.hw_model.specs.Kinds.{Variadic}
+use Rattle.hw_model.specs.Kinds.Variadic.{add, mul, and, or, xor}
+use Rattle.hw_model.specs.Value.{concat_words, product, and_all, or_all, xor_all, variadic_value, with_operand}
 
 -- one more operand before
 pub FoldsBy : (List Word → Word) → (Word → Word → Word) → ℕ → Type 0
@@ -52,7 +55,7 @@ width_folded value f w empty more (x ∷ xs) have =
     let rest : length (value xs) ≡ w = width_folded value f w empty more xs (tail_have w x xs have) in
     ap length (more x xs) ∙ length-bitwise f x (value xs) (own ∙ sym rest) ∙ own
 
--- a value of all operands from one place on
+-- a value of all operands from one location on
 pub width_from : (value : List Word → Word) (w : ℕ) → ((xs : List Word) → AllHave w xs → length (value xs) ≡ w)
     → (xs : List Word) (j : ℕ) (all : Word) → AllHave w xs → all ≡ value (drop j xs) → length all ≡ w
 width_from value w wide xs j all have e = ap length e ∙ wide (drop j xs) (All-drop (λ (u : Word). length u ≡ w) j xs have)
@@ -70,6 +73,23 @@ unfolding FoldsBy
 product_folds w x ys own have =
     mul_words_comm x (bits w (product (map number ys))) (own ∙ sym (length-bits w (product (map number ys))))
     ∙ mul-bits_left w (product (map number ys)) x ∙ ap (bits w) (mul_comm (product (map number ys)) (number x))
+
+-- ---- each operation with any number of operands
+
+pub variadic_folds : (v : Variadic) (w : ℕ) → FoldsBy (variadic_value v w) (with_operand v) w
+unfolding FoldsBy
+variadic_folds add w x ys own have = sum_folds w x ys own have
+variadic_folds mul w x ys own have = product_folds w x ys own have
+variadic_folds and w x ys own have = refl
+variadic_folds or w x ys own have = refl
+variadic_folds xor w x ys own have = refl
+
+pub variadic_has : (v : Variadic) (w : ℕ) (xs : List Word) → AllHave w xs → length (variadic_value v w xs) ≡ w
+variadic_has add w xs have = length-bits w (total (map number xs))
+variadic_has mul w xs have = length-bits w (product (map number xs))
+variadic_has and w xs have = width_folded (and_all w) (λ a b. a && b) w (length-replicate w _) (λ x ys. refl) xs have
+variadic_has or w xs have = width_folded (or_all w) (λ a b. a || b) w (length-replicate w _) (λ x ys. refl) xs have
+variadic_has xor w xs have = width_folded (xor_all w) differ w (length-replicate w _) (λ x ys. refl) xs have
 
 -- ---- the integers below 0
 

@@ -1,10 +1,10 @@
 -- What a path of instances leads to, by the body and the ports of the module there.
-use Rattle.std.proofs.Common.{◌≡◌, ℕ, ◌+◌, cond, List, ◌∷◌, length, take, slice_get, Option, Some, None, refl}
-use Rattle.wiring.specs.Options.{bind}
+use Rattle.std.proofs.Common.{◌≡◌, ℕ, ◌+◌, cond, List, ◌∷◌, length, take, slice_get, Option, Some, None, refl, option_and_then}
 use Rattle.hw_model.specs.Types.{Name}
 use Rattle.hw_model.specs.Design.{Ref, Op, Module, Design, is_instance, is_register, is_output_op, result_type, output_refs, callee}
 use Rattle.hw_model.specs.Design.Ref.{result}
-use Rattle.hw_model.specs.Flat.{Path, net, Source, Slot, instances, before_instance, module_at, body_state, state, state_of, state_before, base, port_ref, input_width, input_of, input_source, copy_of, joined_ref, joined_at, given_ref, held_of, made_of, result_source, result_source_of, source, body_registers, registers_of}
+use Rattle.hw_model.specs.Flat.{Path, net, Source, Slot, instances, before_instance, module_at, body_state, state, state_of, state_before, base, port_ref, input_width, input_of, input_source, copy_of}
+use Rattle.hw_model.specs.Flat.{joined_ref, joined_at, given_ref, held_of, made_of, result_source, result_source_of, source, body_registers, registers_of}
 use Rattle.hw_model.specs.Flat.Source.{nowhere}
 use Rattle.hw_model.specs.Meaning.{outputs_of}
 use Rattle.hw_model.specs.Sound.{body_of, ports_of}
@@ -12,7 +12,7 @@ use Rattle.hw_model.specs.Sound.{body_of, ports_of}
 -- ---- a module that is not there is as one without operations and ports
 
 pub module_inside : (d : Design) (u : ℕ) (o : Option Module)
-    → bind o (λ (m : Module). bind (slice_get (instances m.body) u) (callee d)) ≡ bind (slice_get (instances (body_of o)) u) (callee d)
+    → option_and_then (λ (m : Module). option_and_then (callee d) (slice_get (instances m.body) u)) o ≡ option_and_then (callee d) (slice_get (instances (body_of o)) u)
 module_inside d u None = refl
 module_inside d u (Some m) = refl
 
@@ -36,15 +36,15 @@ pub input_ports : (j : ℕ) (o : Option Module) → input_source j o ≡ input_o
 input_ports j None = refl
 input_ports j (Some m) = refl
 
-pub joined_body : (d : Design) (u j : ℕ) (o : Option Module) → bind o (joined_at d u j) ≡ bind (slice_get (instances (body_of o)) u) (joined_ref d j)
+pub joined_body : (d : Design) (u j : ℕ) (o : Option Module) → option_and_then (joined_at d u j) o ≡ option_and_then (joined_ref d j) (slice_get (instances (body_of o)) u)
 joined_body d u j None = refl
 joined_body d u j (Some m) = refl
 
-pub port_of : (o : Option Module) (rs : List Ref) (j : ℕ) → bind o (λ (c : Module). port_ref c.ports rs j) ≡ port_ref (ports_of o) rs j
+pub port_of : (o : Option Module) (rs : List Ref) (j : ℕ) → option_and_then (λ (c : Module). port_ref c.ports rs j) o ≡ port_ref (ports_of o) rs j
 port_of None rs j = refl
 port_of (Some m) rs j = refl
 
-pub output_of : (o : Option Module) (k : ℕ) → bind o (λ (c : Module). slice_get (output_refs c.body) k) ≡ slice_get (output_refs (body_of o)) k
+pub output_of : (o : Option Module) (k : ℕ) → option_and_then (λ (c : Module). slice_get (output_refs c.body) k) o ≡ slice_get (output_refs (body_of o)) k
 output_of None k = refl
 output_of (Some m) k = refl
 

@@ -1,9 +1,9 @@
 -- Asynchronous resets that come from outside a design follow the inputs of the top module, in every run.
-use Rattle.std.proofs.Common.{◌≡◌, ◌⊎◌, ℕ, zero, suc, ◌+◌, Bool, true, false, cond, List, [], ◌∷◌, ◌++◌, length, map, take, drop, slice_get, Option, Some, None, refl, sym, ap, ap₂, subst, ◌∙◌, inl, inr, zero-add, add-suc, suc-add, arith}
+use Rattle.std.proofs.Common.{◌≡◌, ◌⊎◌, ℕ, zero, suc, ◌+◌, Bool, true, false, cond, List, [], ◌∷◌, ◌++◌, length, map, take, drop, slice_get, Option, Some, None, refl, sym, ap, ap₂, subst, ◌∙◌, inl}
+use Rattle.std.proofs.Common.{inr, zero-add, add-suc, suc-add, arith, option_and_then}
 use Rattle.std.proofs.Math.Seq.{drop-append_seam}
 use Rattle.std.proofs.lemmas.List.{drop_all}
-use Rattle.wiring.specs.Options.{bind}
-use Rattle.wiring.proofs.Options.{bind_some}
+use Rattle.wiring.proofs.Options.{and_then_some}
 use Rattle.wiring.specs.Wiring.{In}
 use Rattle.wiring.proofs.Members.{In-append_cases, In-slice_get}
 use Rattle.bits_core.specs.Word.{Word, first}
@@ -14,7 +14,8 @@ use Rattle.hw_model.specs.Kinds.Kind.{constant, aggregate_constant, async_firreg
 use Rattle.hw_model.specs.Design.{Ref, Op, Module, Design, RegisterForm, find_module, instance_in, register_form, is_output_kind, is_instance, result_type, callee}
 use Rattle.hw_model.specs.Design.Ref.{port, result}
 use Rattle.hw_model.specs.Value.{op_value, is_high}
-use Rattle.hw_model.specs.Flat.{Path, Net, net, Source, source, module_at, instances, input_width, input_of, input_source, port_ref, copy_of, joined_ref, joined_at, made_of, Slot, Register, ResetBy, register_parts, register_in, has_async_reset, async_parts, async_reset_in, held_width, op_registers, body_registers, module_registers, registers, depth}
+use Rattle.hw_model.specs.Flat.{Path, Net, net, Source, source, module_at, instances, input_width, input_of, input_source, port_ref, copy_of, joined_ref, joined_at, made_of, Slot, Register, ResetBy}
+use Rattle.hw_model.specs.Flat.{register_parts, register_in, has_async_reset, async_parts, async_reset_in, held_width, op_registers, body_registers, module_registers, registers, depth}
 use Rattle.hw_model.specs.Flat.Source.{nowhere, input, copy}
 use Rattle.hw_model.specs.Machine.{RunAfter, Run}
 use Rattle.hw_model.specs.Meaning.{needs_of, value_of, Settled, value_if_enabled, reset, next_value, map_slots, next_in, rise_value, rise_in, risen_content, machine}
@@ -30,7 +31,7 @@ async_register : (o : Op) (r : ResetBy) → async_reset_in o ≡ Some r → (g :
 async_register o r is = go o.kind o.operands is
   where
     go : (k : Kind) (rs : List Ref) → cond (has_async_reset k) (async_parts rs) None ≡ Some r
-        → (g : Register) × (bind (register_form k) (λ (f : RegisterForm). register_parts f.has_enable f.reset rs) ≡ Some g) × (g.reset ≡ Some r)
+        → (g : Register) × (option_and_then (λ (f : RegisterForm). register_parts f.has_enable f.reset rs) (register_form k) ≡ Some g) × (g.reset ≡ Some r)
     go async_firreg (d ∷ c ∷ s ∷ v ∷ []) h = (record { next = d; clock = c; enable = None; reset = Some (record { signal = s; value = v }) }, refl, h)
     go async_firreg _ h = cc
     go _ rs h = cc
@@ -60,8 +61,8 @@ module _ (d : Design) (top : Name) where
             let mine : In s (module_registers n d (u ∷ p) x.symbol) = simp (r, i) at here in
             let there : slice_get (instances m.body) u ≡ Some o = at_u (simp i) in
             inner u x
-            (ap (λ z. bind z (λ (c : Module). bind (slice_get (instances c.body) u) (callee d))) is ∙ ap (λ z. bind z (callee d)) there
-            ∙ ap (λ z. bind z (λ (y : Instance). find_module d y.symbol)) i) s mine
+            (ap (λ z. option_and_then (λ (c : Module). option_and_then (callee d) (slice_get (instances c.body) u)) z) is ∙ ap (λ z. option_and_then (callee d) z) there
+            ∙ ap (λ z. option_and_then (λ (y : Instance). find_module d y.symbol) z) i) s mine
         go (an_output r i w) = let none : ⊥ = simp (r, i) at here in absurd none
         go (a_made r i w) = let none : ⊥ = simp (r, i) at here in absurd none
 
@@ -105,9 +106,9 @@ module _ (d : Design) (top : Name) where
   found_at : (p : Path) (m : Module) → module_at d top p ≡ Some m → (s : Name) × (find_module d s ≡ Some m)
   found_at [] m is = (top, is)
   found_at (u ∷ p) m is =
-      let outer = bind_some (module_at d top p) (λ (c : Module). bind (slice_get (instances c.body) u) (callee d)) is in
-      let one = bind_some (slice_get (instances outer.0.body) u) (callee d) outer.2 in
-      let named = bind_some (instance_in one.0.kind) (λ (i : Instance). find_module d i.symbol) one.2 in
+      let outer = and_then_some (module_at d top p) (λ (c : Module). option_and_then (callee d) (slice_get (instances c.body) u)) is in
+      let one = and_then_some (slice_get (instances outer.0.body) u) (callee d) outer.2 in
+      let named = and_then_some (instance_in one.0.kind) (λ (i : Instance). find_module d i.symbol) one.2 in
       (named.0.symbol, named.2)
 
 -- ---- settled maps
@@ -139,9 +140,9 @@ module _ (d : Design) (top : Name) (marked : Module → ℕ → Bool) (resets : 
     where
       comes : source d top (net (u ∷ p) (port from.number)) ≡ copy (net p q)
       comes =
-          ap (λ z. copy_of p (bind z (joined_at d u from.number))) outer
-          ∙ ap (λ z. copy_of p (bind z (joined_ref d from.number))) at_u
-          ∙ ap (λ z. copy_of p (bind z (λ (x : Module). port_ref x.ports o.operands from.number))) leads
+          ap (λ z. copy_of p (option_and_then (joined_at d u from.number) z)) outer
+          ∙ ap (λ z. copy_of p (option_and_then (joined_ref d from.number) z)) at_u
+          ∙ ap (λ z. copy_of p (option_and_then (λ (x : Module). port_ref x.ports o.operands from.number) z)) leads
           ∙ ap (copy_of p) joins
 
   -- a marked port at the end of a path has bits of the inputs
@@ -160,8 +161,8 @@ module _ (d : Design) (top : Name) (marked : Module → ℕ → Bool) (resets : 
           ∙ ap (λ z. input_of z (input_width (take from.number m.ports))) from.there
           ∙ ap (λ b. cond b nowhere (input (input_width (take from.number m.ports)) (width from.port_of.type))) from.is_input
   follow (u ∷ p) m is r from =
-      let outer = bind_some (module_at d top p) (λ (c : Module). bind (slice_get (instances c.body) u) (callee d)) is in
-      let one = bind_some (slice_get (instances outer.0.body) u) (callee d) outer.2 in
+      let outer = and_then_some (module_at d top p) (λ (c : Module). option_and_then (callee d) (slice_get (instances c.body) u)) is in
+      let one = and_then_some (slice_get (instances outer.0.body) u) (callee d) outer.2 in
       let within : In one.0 outer.0.body = from_In-instances outer.0.body one.0 (In-slice_get one.0 (instances outer.0.body) u one.1) in
       let named = found_at d top p outer.0 outer.1 in
       let join = resets.joined named.0 outer.0 one.0 m r named.1 within one.2 from in

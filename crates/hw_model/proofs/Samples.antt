@@ -13,7 +13,7 @@ use Rattle.hw_model.specs.Kinds.Shift.{shl, shru, shrs}
 use Rattle.hw_model.specs.Kinds.ArrayOp.{array_get}
 use Rattle.hw_model.specs.Kinds.RegisterOp.{compreg_ce, firreg}
 use Rattle.hw_model.specs.Kinds.Kind.{variadic, division, shift, constant, on_array, bitcast, instance, output, register, async_firreg}
-use Rattle.hw_model.specs.Design.{Ref, Port, Op, Module, Design, nowhere_place}
+use Rattle.hw_model.specs.Design.{Ref, Port, Op, Module, Design, no_location}
 use Rattle.hw_model.specs.Design.Ref.{port, result}
 use Rattle.hw_model.specs.Machine.{Run}
 use Rattle.wiring.proofs.Heights.{IsAcyclic-heights}
@@ -34,7 +34,7 @@ operation kind operands types results = record {
   name = [];
   dictionary = [];
   bin = false;
-  place = nowhere_place;
+  location = no_location;
 }
 
 abbrev pub in_port : Name → HwType → Port
@@ -44,7 +44,7 @@ abbrev pub out_port : Name → HwType → Port
 out_port name t = record { name = name; is_output = true; type = t; again = false }
 
 abbrev pub module_of : Name → List Port → List Op → Module
-module_of symbol ports body = record { symbol = symbol; is_private = false; ports = ports; dictionary = []; body = body; place = nowhere_place }
+module_of symbol ports body = record { symbol = symbol; is_private = false; ports = ports; dictionary = []; body = body; location = no_location }
 
 abbrev pub byte : ℕ → Word
 byte n = bits 8 n
@@ -84,7 +84,7 @@ two_registers =
     ∷ instance_of (codes "u2") (port 0 ∷ port 1 ∷ port 2 ∷ result 0 0 ∷ [])
     ∷ operation output (result 0 0 ∷ result 1 0 ∷ []) (int 8 ∷ int 8 ∷ []) [] ∷ []) ∷ []
 
--- the same with the instances' bodies in their places
+-- the same with the instances' bodies in their locations
 abbrev flattened : Design
 flattened =
     module_of (codes "Two") two_ports

@@ -1,5 +1,6 @@
 -- The value of each kind of operation has as many bits as its type, where its operands' words have as many as theirs.
-use Rattle.std.proofs.Common.{◌≡◌, ℕ, zero, suc, ◌+◌, ◌*◌, ◌/◌, ◌<◌, ◌≤◌, Bool, true, false, cond, nat_lt, ◌==◌, List, [], ◌∷◌, ◌++◌, length, map, take, drop, slice_get, Option, Some, None, refl, sym, ap, subst, ◌∙◌, inl, inr, arith, length-append, length-drop, length-take, zero-mul, suc-mul, add-mul}
+use Rattle.std.proofs.Common.{◌≡◌, ℕ, zero, suc, ◌+◌, ◌*◌, ◌/◌, ◌<◌, ◌≤◌, Bool, true, false, cond, nat_lt, ◌==◌, List, [], ◌∷◌, ◌++◌, length, map, take, drop, slice_get, Option, Some, None, refl, sym}
+use Rattle.std.proofs.Common.{ap, subst, ◌∙◌, inl, inr, arith, length-append, length-drop, length-take, zero-mul, suc-mul, add-mul}
 use Rattle.std.proofs.Math.ListN.{length-replicate}
 use Rattle.std.proofs.Math.Nat.{mul-div_cancel, mul-le-mul}
 use Rattle.std.proofs.lemmas.Bool.{ltb-true}
@@ -24,7 +25,8 @@ use Rattle.hw_model.specs.Kinds.ArrayOp.{array_create, array_concat, array_get, 
 use Rattle.hw_model.specs.Kinds.StructOp.{struct_create, struct_extract, struct_inject, struct_explode}
 use Rattle.hw_model.specs.Kinds.Kind.{variadic, sub, division, shift, icmp, parity, extract, concat, replicate, mux, constant, aggregate_constant, on_array, on_struct, bitcast, wire, instance, output, register, async_firreg}
 use Rattle.hw_model.specs.Design.{instance_in, register_form, same_name}
-use Rattle.hw_model.specs.Value.{concat_words, is_high, and_all, or_all, xor_all, of_one, of_two, of_three, word_of_literal, word_of_literals, element, elements_from, slice_of, injected_below, inject_element, field_of, with_field, field_at, fields, nth_type, variadic_value, division_value, shift_value, array_value, struct_value, op_value}
+use Rattle.hw_model.specs.Value.{concat_words, is_high, and_all, or_all, xor_all, of_one, of_two, of_three, word_of_literal, word_of_literals, element, elements_from, slice_of, injected_below}
+use Rattle.hw_model.specs.Value.{inject_element, field_of, with_field, field_at, fields, nth_type, variadic_value, division_value, shift_value, array_value, struct_value, op_value}
 use Rattle.hw_model.specs.Sound.{HasWidth, HaveWidths, field_list, field_type, literal_width, literals_width, AllAre, ArrayFits, StructFits, Fits}
 
 -- ---- operands of one type

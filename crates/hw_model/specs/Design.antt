@@ -1,16 +1,15 @@
 -- A design: a list of modules, each with its ports and a list of operations in text order
 -- (CIRCT, HW dialect: `hw.module`, graph regions; MLIR language reference: operations).
-use Rattle.std.specs.Prelude.{◌≡◌, ℕ, ℤ, Bool, true, false, List, [], ◌∷◌, Option, Some, None, map, cond, nat_eq, is_some, slice_get}
+use Rattle.std.specs.Prelude.{◌≡◌, ℕ, ℤ, Bool, true, false, List, [], ◌∷◌, Option, Some, None, map, cond, nat_eq, is_some, slice_get, option_and_then, option_map}
 use Rattle.std.specs.Cmp.Lexicographic.{pointwise}
-use Rattle.wiring.specs.Options.{bind, omap}
 use Rattle.hw_model.specs.Types.{Name, HwType}
 use Rattle.hw_model.specs.Kinds.{Kind, Instance, Reset, RegisterOp}
 use Rattle.hw_model.specs.Kinds.Reset.{sync_reset}
 use Rattle.hw_model.specs.Kinds.RegisterOp.{compreg, compreg_ce, firreg}
 use Rattle.hw_model.specs.Kinds.Kind.{instance, output, register, async_firreg}
 
--- a place in the source: its line and its column in bytes, both from 1
-pub record Place : Type 0 where
+-- a location in the source: its line and its column in bytes, both from 1
+pub record Location : Type 0 where
   pub line : ℕ
   pub col : ℕ
 
@@ -51,7 +50,7 @@ pub record OpResult : Type 0 where
   pub again : Bool
 
 -- an operation: its kind, its operands, the types written in text order, its results, how many of them are named, its
--- own name (of a register or a wire), its dictionary, its `bin` mark, and its place
+-- own name (of a register or a wire), its dictionary, its `bin` mark, and its location
 pub record Op : Type 0 where
   pub kind : Kind
   pub operands : List Ref
@@ -61,7 +60,7 @@ pub record Op : Type 0 where
   pub name : Name
   pub dictionary : List Entry
   pub bin : Bool
-  pub place : Place
+  pub location : Location
 
 -- a module
 pub record Module : Type 0 where
@@ -70,28 +69,28 @@ pub record Module : Type 0 where
   pub ports : List Port
   pub dictionary : List Entry
   pub body : List Op
-  pub place : Place
+  pub location : Location
 
 abbrev pub Design : Type 0
 Design = List Module
 
--- ---- equality without places
+-- ---- equality without locations
 
-abbrev pub nowhere_place : Place
-nowhere_place = record { line = 0; col = 0 }
+abbrev pub no_location : Location
+no_location = record { line = 0; col = 0 }
 
-abbrev pub op_without_place : Op → Op
-op_without_place o = record o { place = nowhere_place }
+abbrev pub op_without_location : Op → Op
+op_without_location o = record o { location = no_location }
 
-abbrev pub module_without_places : Module → Module
-module_without_places m = record m { body = map op_without_place m.body; place = nowhere_place }
+abbrev pub module_without_locations : Module → Module
+module_without_locations m = record m { body = map op_without_location m.body; location = no_location }
 
-abbrev pub without_places : Design → Design
-without_places d = map module_without_places d
+abbrev pub without_locations : Design → Design
+without_locations d = map module_without_locations d
 
--- the two designs differ in nothing but places
+-- the two designs differ in nothing but locations
 abbrev pub IsSameDesign : Design → Design → Type 0
-IsSameDesign d e = without_places d ≡ without_places e
+IsSameDesign d e = without_locations d ≡ without_locations e
 
 -- ---- modules by symbol, and the operations that a module's meaning looks for
 
@@ -143,7 +142,7 @@ is_output_op o = is_output_kind o.kind
 
 -- the type of an operation's k-th result
 abbrev pub result_type : Op → ℕ → Option HwType
-result_type o k = omap (λ (r : OpResult). r.type) (slice_get o.results k)
+result_type o k = option_map (λ (r : OpResult). r.type) (slice_get o.results k)
 
 -- the values that the module gives to its output ports, in order: the operands of its first `hw.output`
 abbrev pub output_refs : List Op → List Ref
@@ -152,4 +151,4 @@ output_refs (o ∷ os) = cond (is_output_op o) o.operands (output_refs os)
 
 -- the module that an operation instances
 abbrev pub callee : Design → Op → Option Module
-callee d o = bind (instance_in o.kind) (λ (i : Instance). find_module d i.symbol)
+callee d o = option_and_then (λ (i : Instance). find_module d i.symbol) (instance_in o.kind)

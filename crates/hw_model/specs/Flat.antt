@@ -1,8 +1,7 @@
--- The flattened module: every instance's body in the instance's place (IEEE 1364-2005, 12.1: hierarchical structures;
+-- The flattened module: every instance's body in the instance's location (IEEE 1364-2005, 12.1: hierarchical structures;
 -- CIRCT: `hw.instance`). A net is a value of one body at the end of one path of instances; it is said where its value
 -- comes from, and no flat list is built.
-use Rattle.std.specs.Prelude.{ℕ, zero, suc, pred, ◌+◌, Bool, true, false, cond, List, [], ◌∷◌, ◌++◌, map, length, take, filter, Option, Some, None, slice_get}
-use Rattle.wiring.specs.Options.{bind}
+use Rattle.std.specs.Prelude.{ℕ, zero, suc, pred, ◌+◌, Bool, true, false, cond, List, [], ◌∷◌, ◌++◌, map, length, take, filter, Option, Some, None, slice_get, option_and_then}
 use Rattle.hw_model.specs.Types.{Name, HwType, width}
 use Rattle.hw_model.specs.Kinds.{Kind, Instance, Reset}
 use Rattle.hw_model.specs.Kinds.Reset.{no_reset, sync_reset}
@@ -60,7 +59,7 @@ before_instance u (o ∷ os) = cond (is_instance o) (if_zero u [] (o ∷ before_
 -- the module at the end of a path that begins in the module of a symbol
 abbrev pub module_at : Design → Name → Path → Option Module
 module_at d top [] = find_module d top
-module_at d top (u ∷ p) = bind (module_at d top p) (λ (m : Module). bind (slice_get (instances m.body) u) (callee d))
+module_at d top (u ∷ p) = option_and_then (λ (m : Module). option_and_then (callee d) (slice_get (instances m.body) u)) (module_at d top p)
 
 -- ---- register content: a body in text order, each register its bits, each instance its module's content
 
@@ -143,20 +142,20 @@ copy_of p (Some r) = copy (net p r)
 
 -- what the instance o joins to port j of its module
 abbrev pub joined_ref : Design → ℕ → Op → Option Ref
-joined_ref d j o = bind (callee d o) (λ (c : Module). port_ref c.ports o.operands j)
+joined_ref d j o = option_and_then (λ (c : Module). port_ref c.ports o.operands j) (callee d o)
 
 -- what instance u of a body joins to port j of its module
 abbrev pub joined_at : Design → ℕ → ℕ → Module → Option Ref
-joined_at d u j m = bind (slice_get (instances m.body) u) (joined_ref d j)
+joined_at d u j m = option_and_then (joined_ref d j) (slice_get (instances m.body) u)
 
 -- port j of the module at the end of a path
 abbrev pub port_source : Design → Name → Path → ℕ → Source
 port_source d top [] j = input_source j (find_module d top)
-port_source d top (u ∷ p) j = copy_of p (bind (module_at d top p) (joined_at d u j))
+port_source d top (u ∷ p) j = copy_of p (option_and_then (joined_at d u j) (module_at d top p))
 
 -- what the module that o instances gives to its k-th output
 abbrev pub given_ref : Design → ℕ → Op → Option Ref
-given_ref d k o = bind (callee d o) (λ (c : Module). slice_get (output_refs c.body) k)
+given_ref d k o = option_and_then (λ (c : Module). slice_get (output_refs c.body) k) (callee d o)
 
 abbrev pub held_of : ℕ → Option HwType → Source
 held_of start None = nowhere
@@ -213,7 +212,7 @@ register_parts _ _ _ = None
 
 -- the register that an operation is
 abbrev pub register_in : Op → Option Register
-register_in o = bind (register_form o.kind) (λ (f : RegisterForm). register_parts f.has_enable f.reset o.operands)
+register_in o = option_and_then (λ (f : RegisterForm). register_parts f.has_enable f.reset o.operands) (register_form o.kind)
 
 -- whether a kind is a register with an asynchronous reset (CIRCT, Seq dialect: `seq.firreg` with `reset async`)
 abbrev pub has_async_reset : Kind → Bool

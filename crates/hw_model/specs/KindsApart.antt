@@ -22,7 +22,8 @@ use Rattle.hw_model.specs.Kinds.Kind.{variadic, variadic, division, division, sh
 use Rattle.hw_model.specs.Design.{same_name}
 use Rattle.hw_model.specs.Opcodes.{register_opcode, opcode_of, kind_named_by}
 use Rattle.hw_model.specs.SameType.{same_type, type_self, type_from}
-use Rattle.hw_model.specs.SameKind.{predicate_number, same_predicate, same_reset, same_integer, same_literal, same_literals, same_optional_name, same_instance, is_icmp, is_extract, is_constant, is_aggregate_constant, is_struct_extract, is_struct_inject, is_instance, is_register, is_async_firreg, same_opcode, same_kind}
+use Rattle.hw_model.specs.SameKind.{predicate_number, same_predicate, same_reset, same_integer, same_literal, same_literals, same_optional_name, same_instance, is_icmp, is_extract, is_constant}
+use Rattle.hw_model.specs.SameKind.{is_aggregate_constant, is_struct_extract, is_struct_inject, is_instance, is_register, is_async_firreg, same_opcode, same_kind}
 use Rattle.hw_model.specs.Equality.{TellsApart, by_view, both, both_of, number_self, number_from, name_self, name_from}
 use Rattle.hw_model.specs.KindViews.{predicate_of, reset_of, integer_of, literals_in, kind_of}
 use Rattle.hw_model.specs.declared.kinds.Predicate.{Predicate as OwnPredicate}
@@ -33,7 +34,8 @@ use Rattle.hw_model.specs.declared.kinds.OpKind.{OpKind}
 
 -- the predicate of a number
 abbrev numbered_predicate : ℕ → Predicate
-numbered_predicate n = cond (n == 0) eq (cond (n == 1) ne (cond (n == 2) slt (cond (n == 3) sle (cond (n == 4) sgt (cond (n == 5) sge (cond (n == 6) ult (cond (n == 7) ule (cond (n == 8) ugt (cond (n == 9) uge (cond (n == 10) ceq (cond (n == 11) cne (cond (n == 12) weq (wne)))))))))))))
+numbered_predicate n = cond (n == 0) eq (cond (n == 1) ne (cond (n == 2) slt (cond (n == 3) sle
+    (cond (n == 4) sgt (cond (n == 5) sge (cond (n == 6) ult (cond (n == 7) ule (cond (n == 8) ugt (cond (n == 9) uge (cond (n == 10) ceq (cond (n == 11) cne (cond (n == 12) weq (wne)))))))))))))
 
 predicate_back : (p : Predicate) → numbered_predicate (predicate_number p) ≡ p
 predicate_back eq = refl

@@ -1,7 +1,6 @@
 -- A sound design: the types of each operation's operands and results fit (CIRCT: HW, Comb and Seq dialects: the types
 -- that each operation asks for).
-use Rattle.std.specs.Prelude.{◌≡◌, ℕ, ◌+◌, ◌*◌, ◌<◌, ◌≤◌, Bool, true, false, cond, List, [], ◌∷◌, map, length, Option, Some, None, slice_get}
-use Rattle.wiring.specs.Options.{bind}
+use Rattle.std.specs.Prelude.{◌≡◌, ℕ, ◌+◌, ◌*◌, ◌<◌, ◌≤◌, Bool, true, false, cond, List, [], ◌∷◌, map, length, Option, Some, None, slice_get, option_and_then}
 use Rattle.wiring.specs.Lists.{total}
 use Rattle.wiring.specs.Wiring.{In}
 use Rattle.bits_core.specs.Word.{Word}
@@ -46,7 +45,7 @@ input_type (Some q) = cond q.is_output None (Some q.type)
 
 abbrev pub type_in : List Port → List Op → Ref → Option HwType
 type_in ports os (port j) = input_type (slice_get ports j)
-type_in ports os (result j k) = bind (slice_get os j) (λ (o : Op). result_type o k)
+type_in ports os (result j k) = option_and_then (λ (o : Op). result_type o k) (slice_get os j)
 type_in ports os undefined = None
 
 -- the word has as many bits as its type; nothing is asked where there is no type

@@ -2,7 +2,8 @@
 -- An aggregate's word is its parts joined: an array's from the highest index to 0, a struct's from its first field.
 use Rattle.std.specs.Prelude.{ℕ, zero, suc, ◌+◌, ◌*◌, ◌/◌, Bool, false, cond, not, ◌==◌, nat_lt, List, [], ◌∷◌, ◌++◌, map, take, drop, length}
 use Rattle.wiring.specs.Lists.{total}
-use Rattle.bits_core.specs.Word.{Word, number, bits, bits_of_ℤ, zeros, ones, flag, extract as bits_from, copies, sub as difference, quotient, rest, signed_quotient, signed_rest, and_words, or_words, xor_words, parity as odd, shift_left, shift_right, shift_right_signed, less, signed_less, same_word}
+use Rattle.bits_core.specs.Word.{Word, number, bits, bits_of_ℤ, zeros, ones, flag, extract as bits_from, copies, add as sum_of, mul as product_of, sub as difference, quotient, rest, signed_quotient}
+use Rattle.bits_core.specs.Word.{signed_rest, and_words, or_words, xor_words, parity as odd, shift_left, shift_right, shift_right_signed, less, signed_less, same_word}
 use Rattle.hw_model.specs.Types.{Name, HwType, FieldTypes, width}
 use Rattle.hw_model.specs.Types.HwType.{array, struct}
 use Rattle.hw_model.specs.Types.FieldTypes.{no_fields, field}
@@ -122,7 +123,7 @@ abbrev pub field_of : FieldTypes → Name → Word → Word
 field_of no_fields name s = []
 field_of (field f t fs) name s = cond (same_name f name) (take (width t) s) (field_of fs name (drop (width t) s))
 
--- the struct's word with v in the place of that field
+-- the struct's word with v instead of that field
 abbrev pub with_field : FieldTypes → Name → Word → Word → Word
 with_field no_fields name s v = s
 with_field (field f t fs) name s v = cond (same_name f name) (v ++ drop (width t) s) (take (width t) s ++ with_field fs name (drop (width t) s) v)
@@ -153,6 +154,14 @@ variadic_value mul w xs = bits w (product (map number xs))
 variadic_value and w xs = and_all w xs
 variadic_value or w xs = or_all w xs
 variadic_value xor w xs = xor_all w xs
+
+-- the result of such an operation on one more operand before others, of which it gives a word
+abbrev pub with_operand : Variadic → Word → Word → Word
+with_operand add x all = sum_of x all
+with_operand mul x all = product_of x all
+with_operand and x all = and_words x all
+with_operand or x all = or_words x all
+with_operand xor x all = xor_words x all
 
 abbrev pub division_value : Division → Word → Word → Word
 division_value divu = quotient

@@ -7,7 +7,7 @@ ghost use Rattle.hw_model.specs.Types.HwType.{int};
 ghost use Rattle.hw_model.specs.KindViews.{kind_of, predicate_of, integer_of};
 ghost use Rattle.hw_model.specs.FamilyViews.{family_of, variadic_of, division_of, shift_of};
 ghost use Rattle.hw_model.specs.IntegerKinds.{TakesWords, AllHave, OfOne, OfTwo};
-ghost use Rattle.hw_model.specs.Value.{op_value, variadic_value, division_value, shift_value, concat_words, product, and_all, or_all, xor_all, of_one, of_two, of_three, is_high, compare};
+ghost use Rattle.hw_model.specs.Value.{op_value, variadic_value, with_operand, division_value, shift_value, concat_words, of_one, of_two, of_three, is_high, compare};
 
 use crate::families::{Division, Family, Shift, Variadic};
 use crate::kinds::{Integer, OpKind, Predicate};
@@ -51,18 +51,46 @@ pub fn family_value(family: Family<'_>, width: u32, operands: &[Bits]) -> Bits
     }
 }
 
+// The operands of an operation of any number of them are joined from the last one on.
 fn variadic_value(op: Variadic, width: u32, operands: &[Bits]) -> Bits
     requires least { 1 ≤ width }
     requires most { width ≤ 128 }
     requires words { AllHave width operands.now }
     ensures { result ≡ variadic_value (variadic_of op) width operands.now }
 {
+    let mut all = value_of_none(op, width);
+    let mut left = operands.len();
+    while left > 0 {
+        left -= 1;
+        all = with_operand(op, &operands[left], &all);
+    }
+    all
+}
+
+// The value of no operands.
+fn value_of_none(op: Variadic, width: u32) -> Bits
+    requires least { 1 ≤ width }
+    requires most { width ≤ 128 }
+    ensures { result ≡ variadic_value (variadic_of op) width [] }
+{
     match op {
-        Variadic::Add => sum(width, operands),
-        Variadic::Mul => mul_value(width, operands),
-        Variadic::And => all_and(width, operands),
-        Variadic::Or => all_or(width, operands),
-        Variadic::Xor => all_xor(width, operands),
+        Variadic::Add | Variadic::Or | Variadic::Xor => Bits::truncate(width, 0),
+        Variadic::Mul => Bits::truncate(width, 1),
+        Variadic::And => Bits::truncate(width, u128::MAX),
+    }
+}
+
+// The value with one more operand before the others, of which this is the value.
+fn with_operand(op: Variadic, operand: &Bits, others: &Bits) -> Bits
+    requires { length operand.now ≡ length others.now }
+    ensures { result ≡ with_operand (variadic_of op) operand.now others.now }
+{
+    match op {
+        Variadic::Add => operand.add(others),
+        Variadic::Mul => operand.mul(others),
+        Variadic::And => operand.and(others),
+        Variadic::Or => operand.or(others),
+        Variadic::Xor => operand.xor(others),
     }
 }
 
@@ -197,81 +225,6 @@ fn constant(width: u32, value: Integer) -> Bits
         Integer::NonNegative(n) => Bits::truncate(width, n),
         Integer::Negative(n) => Bits::truncate(width, u128::MAX - n),
     }
-}
-
-fn sum(width: u32, operands: &[Bits]) -> Bits
-    requires least { 1 ≤ width }
-    requires most { width ≤ 128 }
-    requires words { AllHave width operands.now }
-    ensures { result ≡ bits width (total (map number operands.now)) }
-{
-    let mut all = Bits::truncate(width, 0);
-    let mut left = operands.len();
-    while left > 0 {
-        left -= 1;
-        all = operands[left].add(&all);
-    }
-    all
-}
-
-fn mul_value(width: u32, operands: &[Bits]) -> Bits
-    requires least { 1 ≤ width }
-    requires most { width ≤ 128 }
-    requires words { AllHave width operands.now }
-    ensures { result ≡ bits width (product (map number operands.now)) }
-{
-    let mut all = Bits::truncate(width, 1);
-    let mut left = operands.len();
-    while left > 0 {
-        left -= 1;
-        all = operands[left].mul(&all);
-    }
-    all
-}
-
-fn all_and(width: u32, operands: &[Bits]) -> Bits
-    requires least { 1 ≤ width }
-    requires most { width ≤ 128 }
-    requires words { AllHave width operands.now }
-    ensures { result ≡ and_all width operands.now }
-{
-    let mut all = Bits::truncate(width, u128::MAX);
-    let mut left = operands.len();
-    while left > 0 {
-        left -= 1;
-        all = operands[left].and(&all);
-    }
-    all
-}
-
-fn all_or(width: u32, operands: &[Bits]) -> Bits
-    requires least { 1 ≤ width }
-    requires most { width ≤ 128 }
-    requires words { AllHave width operands.now }
-    ensures { result ≡ or_all width operands.now }
-{
-    let mut all = Bits::truncate(width, 0);
-    let mut left = operands.len();
-    while left > 0 {
-        left -= 1;
-        all = operands[left].or(&all);
-    }
-    all
-}
-
-fn all_xor(width: u32, operands: &[Bits]) -> Bits
-    requires least { 1 ≤ width }
-    requires most { width ≤ 128 }
-    requires words { AllHave width operands.now }
-    ensures { result ≡ xor_all width operands.now }
-{
-    let mut all = Bits::truncate(width, 0);
-    let mut left = operands.len();
-    while left > 0 {
-        left -= 1;
-        all = operands[left].xor(&all);
-    }
-    all
 }
 
 // the operands joined, the first most significant

@@ -67,9 +67,9 @@ pub fn same_behaviour()
         × ((others : List Word) → Run (machine d top) content steps others → others ≡ outputs) }
 {}
 
-/// Does nothing. Its clause says that two designs that differ in nothing but the places of their modules and operations do
+/// Does nothing. Its clause says that two designs that differ in nothing but the locations of their modules and operations do
 /// the same.
-pub fn places_decide_nothing()
+pub fn locations_decide_nothing()
     ensures { (d e : Design) → IsSameDesign d e → (top : Name) → HasHeights d top → Same (machine d top) (machine e top) }
 {}
 

@@ -17,7 +17,7 @@ mod same_kinds;
 pub mod types;
 
 pub use laws::{
-    agreeing_modules_run_alike, heights_are_acyclic, one_map_settles, opcodes_tell_kinds,
-    places_decide_nothing, resets_follow_inputs, same_behaviour, weights_follow_bodies,
+    agreeing_modules_run_alike, heights_are_acyclic, locations_decide_nothing, one_map_settles,
+    opcodes_tell_kinds, resets_follow_inputs, same_behaviour, weights_follow_bodies,
     widths_fit_types,
 };

@@ -1,6 +1,5 @@
 //! The operands of registers, by what they are to them, of whatever type a program's operands are.
-ghost use Rattle.std.specs.Prelude.{◌≡◌, None, Some, true, false, cond, map, option_map};
-ghost use Rattle.wiring.specs.Options.{bind};
+ghost use Rattle.std.specs.Prelude.{◌≡◌, None, Some, true, false, cond, map, option_map, option_and_then};
 ghost use Rattle.hw_model.specs.Design.{Ref, register_form};
 ghost use Rattle.hw_model.specs.Flat.{register_parts, has_async_reset, async_parts};
 ghost use Rattle.hw_model.specs.KindViews.{kind_of, reset_of};
@@ -33,7 +32,7 @@ pub struct Register<V> {
 /// The register that an operation of a kind with these operands is, however its operands are seen; none where its kind is no
 /// register or has not so many operands.
 pub fn register_of<V: Copy>(kind: &OpKind, operands: &[V]) -> Option<Register<V>>
-    ensures { (see : V → Ref) → option_map (register_of see) result ≡ bind (register_form (kind_of kind.now)) (λ form. register_parts form.has_enable form.reset (map see operands.now)) }
+    ensures { (see : V → Ref) → option_map (register_of see) result ≡ option_and_then (λ form. register_parts form.has_enable form.reset (map see operands.now)) (register_form (kind_of kind.now)) }
 {
     match kind {
         OpKind::CompReg(reset) | OpKind::FirReg(reset) => plain_register(*reset, operands),

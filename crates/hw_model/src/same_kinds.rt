@@ -130,7 +130,7 @@ impl Eq for OpKind {
     ghost laws = { kind_equivalence };
 }
 
-// the place of a predicate in a row of all
+// the location of a predicate in a row of all
 fn predicate_number(predicate: Predicate) -> u32
     ensures { result ≡ predicate_number (predicate_of predicate) }
 {

@@ -1,9 +1,8 @@
 -- Where the value of each net of the new design comes from, by that of the net of the old design from which it comes.
-use Rattle.std.proofs.Common.{◌≡◌, ℕ, zero, suc, ◌+◌, List, [], ◌∷◌, ◌++◌, map, take, slice_get, Bool, true, false, cond, Option, Some, None, refl, sym, ap, ap₂, subst, ◌∙◌}
+use Rattle.std.proofs.Common.{◌≡◌, ℕ, zero, suc, ◌+◌, List, [], ◌∷◌, ◌++◌, map, take, slice_get, Bool, true, false, cond, Option, Some, None, refl, sym, ap, ap₂, subst, ◌∙◌, option_and_then, option_map}
 use Rattle.std.proofs.lemmas.Option.{slice_get-map}
 use Rattle.std.proofs.lemmas.List.{map-id}
 use mathlib.Core.Path.{subst₂}
-use Rattle.wiring.specs.Options.{bind, omap}
 use Rattle.wiring.specs.Wiring.{In}
 use Rattle.wiring.proofs.Members.{from_In-map}
 use Rattle.hw_model.specs.Types.{Name, HwType, width}
@@ -18,8 +17,8 @@ use Rattle.hw_model.specs.Sound.{body_of, ports_of}
 use Rattle.hw_model.proofs.Sorts.{Sort, sort_of}
 use Rattle.hw_model.proofs.Sorts.Sort.{a_register, an_instance, an_output, a_made}
 use Rattle.hw_model.proofs.Paths.{input_ports, joined_body, port_of}
-use Rattle.hw_edits.specs.Edit.{retarget}
-use Rattle.hw_edits.proofs.OtherOperands.{port_ref-map}
+use Rattle.edit_laws.specs.Edit.{retarget}
+use Rattle.edit_laws.proofs.OtherOperands.{port_ref-map}
 use Rattle.inline_laws.specs.Inline.{wire_op}
 use Rattle.inline_laws.proofs.Moved.{IsMoved, Matches, by_kind, moved_type, moved_form, moved_is_output, moved_symbol, moved_none, moved_kind, moved_some, moved_retarget, output_refs_moved}
 use Rattle.inline_laws.proofs.Moved.Matches.{missing, matched}
@@ -58,10 +57,10 @@ module _ (S : Inlining) where
           let from = from_In-map (λ (z : Op). S.rename (retarget (inner_stand S) z)) y (inner S) here in
           ap is_output_op from.2 ∙ by_kind is_output_kind (λ i. refl) (S.rename (retarget (inner_stand S) from.0)).kind from.0.kind (S.only.kind_is (retarget (inner_stand S) from.0)) ∙ before_has_none S.c.body from.0 from.1
 
-      -- by the front: its first output, or those that come after
+      -- by the prefix: its first output, or those that come after
       along : (fs : List Op) → output_refs (map (retarget (outer_stand S)) fs ++ (new_wires S ++ (new_inner S ++ new_back S))) ≡ map (outer_stand S) (output_refs (fs ++ (S.o ∷ S.back)))
       along [] =
-          skip_outputs (new_wires S) (new_inner S ++ new_back S) (wires_no_output (new_wires S) (are_wires S.o.place (inner_stand S) S.o.results _))
+          skip_outputs (new_wires S) (new_inner S ++ new_back S) (wires_no_output (new_wires S) (are_wires S.o.location (inner_stand S) S.o.results _))
           ∙ skip_outputs (new_inner S) (new_back S) inner_none
           ∙ output_refs_moved (outer_stand S) (retarget (outer_stand S)) (moved_retarget (outer_stand S)) S.back
           ∙ ap (λ b. map (outer_stand S) (cond b S.o.operands (output_refs S.back))) (sym (instance_no_output S.o S.target S.is_instance))
@@ -73,8 +72,8 @@ module _ (S : Inlining) where
           go true rest = refl
           go false rest = rest
 
-      output_refs_new : output_refs (new_body S) ≡ map (outer_stand S) (output_refs (S.front ++ (S.o ∷ S.back)))
-      output_refs_new = along S.front
+      output_refs_new : output_refs (new_body S) ≡ map (outer_stand S) (output_refs (S.prefix ++ (S.o ∷ S.back)))
+      output_refs_new = along S.prefix
 
 module _ (S : Inlining) (top : Name) where
   -- a source of the new design, and one of the old one that gives the same value
@@ -118,7 +117,7 @@ module _ (S : Inlining) (top : Name) where
   callee_ports : (y y' : Op) → callee S.e y' ≡ callee S.e y → ports_of (callee S.e y') ≡ ports_of (callee S.d y)
   callee_ports y y' same = ap ports_of same ∙ go (instance_in y.kind)
     where
-      go : (z : Option Instance) → ports_of (bind z (λ (i : Instance). find_module S.e i.symbol)) ≡ ports_of (bind z (λ (i : Instance). find_module S.d i.symbol))
+      go : (z : Option Instance) → ports_of (option_and_then (λ (i : Instance). find_module S.e i.symbol) z) ≡ ports_of (option_and_then (λ (i : Instance). find_module S.d i.symbol) z)
       go None = refl
       go (Some i) = found_ports i.symbol
 
@@ -138,7 +137,7 @@ module _ (S : Inlining) (top : Name) where
       origin_is : origin S top (net (u ∷ q) (port j)) ≡ net (n.number ∷ n.home) (port j)
       origin_is = port_origin S top (u ∷ q) (home_of S top (u ∷ q)) (view_of S top (u ∷ q)) j ∙ ap (λ h. net h (port j)) (home_next S top q u ∙ n.next_is)
 
-      joined : (x : Option Ref) → Comes (copy_of q (omap n.move x)) (copy_of n.home x)
+      joined : (x : Option Ref) → Comes (copy_of q (option_map n.move x)) (copy_of n.home x)
       joined None = constant refl refl
       joined (Some r) = a_copy (net q (n.move r)) (net n.home r) refl refl (n.leads r)
 
@@ -146,14 +145,14 @@ module _ (S : Inlining) (top : Name) where
           → Comes (source S.e top (net (u ∷ q) (port j))) (source S.d top (net (n.number ∷ n.home) (port j)))
       go (missing was now) =
           both_nowhere (source S.e top (net (u ∷ q) (port j))) (source S.d top (net (n.number ∷ n.home) (port j)))
-          (ap (copy_of q) (joined_body S.e u j (module_at S.e top q) ∙ ap (λ z. bind z (joined_ref S.e j)) now))
-          (ap (copy_of n.home) (joined_body S.d n.number j (module_at S.d top n.home) ∙ ap (λ z. bind z (joined_ref S.d j)) was))
+          (ap (copy_of q) (joined_body S.e u j (module_at S.e top q) ∙ ap (λ z. option_and_then (joined_ref S.e j) z) now))
+          (ap (copy_of n.home) (joined_body S.d n.number j (module_at S.d top n.home) ∙ ap (λ z. option_and_then (joined_ref S.d j) z) was))
       go (matched y y' was now moves) =
           subst₂ Comes
-          (sym (ap (copy_of q) (joined_body S.e u j (module_at S.e top q) ∙ ap (λ z. bind z (joined_ref S.e j)) now ∙ port_of (callee S.e y') y'.operands j
+          (sym (ap (copy_of q) (joined_body S.e u j (module_at S.e top q) ∙ ap (λ z. option_and_then (joined_ref S.e j) z) now ∙ port_of (callee S.e y') y'.operands j
           ∙ ap₂ (λ ps rs. port_ref ps rs j) (callee_ports y y' (moved_symbol n.move y y' moves (find_module S.e))) moves.operands_are
           ∙ port_ref-map n.move (ports_of (callee S.d y)) y.operands j)))
-          (sym (ap (copy_of n.home) (joined_body S.d n.number j (module_at S.d top n.home) ∙ ap (λ z. bind z (joined_ref S.d j)) was ∙ port_of (callee S.d y) y.operands j)))
+          (sym (ap (copy_of n.home) (joined_body S.d n.number j (module_at S.d top n.home) ∙ ap (λ z. option_and_then (joined_ref S.d j) z) was ∙ port_of (callee S.d y) y.operands j)))
           (joined (port_ref (ports_of (callee S.d y)) y.operands j))
 
   undefined_origin : (q p : Path) (x : View S top q p) → origin_in S top q p x undefined ≡ net p undefined
@@ -172,8 +171,8 @@ module _ (S : Inlining) (top : Name) where
     wire_comes : IsWire S top q at_home at_view j → Comes (source S.e top (net q (result j k))) (source S.d top (origin S top (net q (result j k))))
     wire_comes w = go k
       where
-        wire_source : (k : ℕ) → source S.e top (net q (result j k)) ≡ made_of q (wire_op S.o.place w.type w.operand) k (result_type (wire_op S.o.place w.type w.operand) k)
-        wire_source k = made_source S.e top q j k (wire_op S.o.place w.type w.operand) w.op refl refl refl
+        wire_source : (k : ℕ) → source S.e top (net q (result j k)) ≡ made_of q (wire_op S.o.location w.type w.operand) k (result_type (wire_op S.o.location w.type w.operand) k)
+        wire_source k = made_source S.e top q j k (wire_op S.o.location w.type w.operand) w.op refl refl refl
 
         go : (k : ℕ) → Comes (source S.e top (net q (result j k))) (source S.d top (origin S top (net q (result j k))))
         go zero = wired (w.type ∷ []) w.type (net q w.operand) w.given (wire_source 0) w.source_is w.leads
@@ -210,7 +209,7 @@ module _ (S : Inlining) (top : Name) where
             u : ℕ
             u = count j (body_of (module_at S.e top q))
 
-            given : (z : Option Ref) → Comes (copy_of (u ∷ q) (omap (stand_in (u ∷ q) (home_of S top (u ∷ q)) (view_of S top (u ∷ q))) z)) (copy_of (home_of S top (u ∷ q)) z)
+            given : (z : Option Ref) → Comes (copy_of (u ∷ q) (option_map (stand_in (u ∷ q) (home_of S top (u ∷ q)) (view_of S top (u ∷ q))) z)) (copy_of (home_of S top (u ∷ q)) z)
             given None = constant refl refl
             given (Some r) =
                 a_copy (net (u ∷ q) (stand_in (u ∷ q) (home_of S top (u ∷ q)) (view_of S top (u ∷ q)) r)) (net (home_of S top (u ∷ q)) r) refl refl

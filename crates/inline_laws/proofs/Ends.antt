@@ -1,10 +1,9 @@
 -- Bodies that end with their one output, and lists of wires.
-use Rattle.std.proofs.Common.{◌≡◌, ℕ, zero, suc, ◌+◌, Bool, true, false, cond, List, [], ◌∷◌, ◌++◌, length, slice_get, is_some, None, refl, sym, ap, ap₂, ◌∙◌, inl, inr}
-use Rattle.wiring.specs.Options.{omap}
+use Rattle.std.proofs.Common.{◌≡◌, ℕ, zero, suc, ◌+◌, Bool, true, false, cond, List, [], ◌∷◌, ◌++◌, length, slice_get, is_some, None, refl, sym, ap, ap₂, ◌∙◌, inl, inr, option_map}
 use Rattle.wiring.specs.Wiring.{In}
 use Rattle.hw_model.specs.Types.{Name}
 use Rattle.hw_model.specs.Kinds.Kind.{wire}
-use Rattle.hw_model.specs.Design.{Ref, OpResult, Op, Place, is_output_op, is_output_kind, output_refs, instance_in, is_instance, register_form}
+use Rattle.hw_model.specs.Design.{Ref, OpResult, Op, Location, is_output_op, is_output_kind, output_refs, instance_in, is_instance, register_form}
 use Rattle.hw_model.specs.Flat.{instances, body_state, op_state}
 use Rattle.hw_model.specs.Hierarchy.{callee_symbols, called_by}
 use Rattle.inline_laws.specs.Inline.{before_output, EndsWithOutput, ref_or_undefined, wire_op, wire_ops}
@@ -52,20 +51,20 @@ skip_outputs (o ∷ os) ys none =
 abbrev pub AreWires : List Op → Type 0
 AreWires os = (y : Op) → In y os → y.kind ≡ wire
 
-pub are_wires : (at : Place) (move : Ref → Ref) (xs : List OpResult) (rs : List Ref) → AreWires (wire_ops at move xs rs)
+pub are_wires : (at : Location) (move : Ref → Ref) (xs : List OpResult) (rs : List Ref) → AreWires (wire_ops at move xs rs)
 are_wires at move [] rs y here = absurd here
 are_wires at move (x ∷ xs) [] y (inl same) = ap (λ (z : Op). z.kind) same
 are_wires at move (x ∷ xs) [] y (inr here) = are_wires at move xs [] y here
 are_wires at move (x ∷ xs) (r ∷ rs) y (inl same) = ap (λ (z : Op). z.kind) same
 are_wires at move (x ∷ xs) (r ∷ rs) y (inr here) = are_wires at move xs rs y here
 
-pub wires_length : (at : Place) (move : Ref → Ref) (xs : List OpResult) (rs : List Ref) → length (wire_ops at move xs rs) ≡ length xs
+pub wires_length : (at : Location) (move : Ref → Ref) (xs : List OpResult) (rs : List Ref) → length (wire_ops at move xs rs) ≡ length xs
 wires_length at move [] rs = refl
 wires_length at move (x ∷ xs) [] = ap suc (wires_length at move xs [])
 wires_length at move (x ∷ xs) (r ∷ rs) = ap suc (wires_length at move xs rs)
 
-pub get_wire : (at : Place) (move : Ref → Ref) (xs : List OpResult) (rs : List Ref) (w : ℕ)
-    → slice_get (wire_ops at move xs rs) w ≡ omap (λ (x : OpResult). wire_op at x.type (ref_or_undefined (omap move (slice_get rs w)))) (slice_get xs w)
+pub get_wire : (at : Location) (move : Ref → Ref) (xs : List OpResult) (rs : List Ref) (w : ℕ)
+    → slice_get (wire_ops at move xs rs) w ≡ option_map (λ (x : OpResult). wire_op at x.type (ref_or_undefined (option_map move (slice_get rs w)))) (slice_get xs w)
 get_wire at move [] rs w = refl
 get_wire at move (x ∷ xs) [] zero = refl
 get_wire at move (x ∷ xs) [] (suc w) = get_wire at move xs [] w

@@ -9,9 +9,9 @@ use Rattle.hw_model.specs.Flat.{Slot, registers}
 use Rattle.hw_model.specs.Machine.{Same}
 use Rattle.hw_model.specs.Meaning.{machine}
 use Rattle.hw_model.proofs.Machines.{same_forth}
-use Rattle.hw_edits.specs.Follows.{Valid, Follows}
-use Rattle.hw_edits.specs.Laws.{with_body}
-use Rattle.hw_edits.proofs.Follows.{valid_settles, set_each}
+use Rattle.edit_laws.specs.Follows.{Valid, Follows}
+use Rattle.edit_laws.specs.Laws.{with_body}
+use Rattle.edit_laws.proofs.Follows.{valid_settles, set_each}
 use Rattle.inline_laws.specs.Inline.{RenamesOnly, inlined_between, inline_op, IsInlined}
 use Rattle.inline_laws.proofs.Inlining.{Finds, Inlining, finite_after, state_same}
 use Rattle.inline_laws.proofs.Inlining.Finds.{changed, unchanged}
@@ -57,7 +57,7 @@ length_before xs i x is = let within : i < length xs = slice_get_within xs i x i
 
 module _ (d : Design) (m : ℕ) (md : Module) (i : ℕ) (o : Op) (c : Module) (rename : Op → Op) (only : RenamesOnly rename) (valid : Valid d)
     (at_m : slice_get d m ≡ Some md) (is : IsInlined d md i o c) where
-  -- the new body and design, the instance standing after its front
+  -- the new body and design, the instance standing after its prefix
   abbrev inlined_body : List Op
   inlined_body = inlined_between rename (length (take i md.body)) o c (take i md.body) (drop (suc i) md.body)
 
@@ -79,7 +79,7 @@ module _ (d : Design) (m : ℕ) (md : Module) (i : ℕ) (o : Op) (c : Module) (r
     d = d;
     e = with_body d m md inlined_body;
     md = md;
-    front = take i md.body;
+    prefix = take i md.body;
     o = o;
     back = drop (suc i) md.body;
     c = c;

@@ -1,6 +1,5 @@
 -- Where each path and each value of the new design comes from.
-use Rattle.std.proofs.Common.{◌≡◌, ℕ, ◌+◌, [], ◌∷◌, slice_get, Option, Some, None, refl, sym, ap, ap₂, subst, ◌∙◌}
-use Rattle.wiring.specs.Options.{bind}
+use Rattle.std.proofs.Common.{◌≡◌, ℕ, ◌+◌, [], ◌∷◌, slice_get, Option, Some, None, refl, sym, ap, ap₂, subst, ◌∙◌, option_and_then}
 use Rattle.hw_model.specs.Types.{Name}
 use Rattle.hw_model.specs.Kinds.{Instance}
 use Rattle.hw_model.specs.Design.{find_module, instance_in, callee}
@@ -35,26 +34,26 @@ module _ (S : Inlining) (top : Name) where
       go : Matches n.move (slice_get (instances (body_of (module_at S.d top n.home))) n.number) (slice_get (instances (body_of (module_at S.e top q))) u)
           → View S top (u ∷ q) (n.number ∷ n.home)
       go (missing was now) =
-          as_before (module_inside S.e u (module_at S.e top q) ∙ ap (λ z. bind z (callee S.e)) now
-          ∙ sym (module_inside S.d n.number (module_at S.d top n.home) ∙ ap (λ z. bind z (callee S.d)) was))
+          as_before (module_inside S.e u (module_at S.e top q) ∙ ap (λ z. option_and_then (callee S.e) z) now
+          ∙ sym (module_inside S.d n.number (module_at S.d top n.home) ∙ ap (λ z. option_and_then (callee S.d) z) was))
       go (matched y y' was now moves) = by_instance (instance_in y.kind) refl
         where
-          old_is : module_at S.d top (n.number ∷ n.home) ≡ bind (instance_in y.kind) (λ (i : Instance). find_module S.d i.symbol)
+          old_is : module_at S.d top (n.number ∷ n.home) ≡ option_and_then (λ (i : Instance). find_module S.d i.symbol) (instance_in y.kind)
           old_is = inside_number S.d top n.home n.number y was
 
-          new_is : module_at S.e top (u ∷ q) ≡ bind (instance_in y.kind) (λ (i : Instance). find_module S.e i.symbol)
+          new_is : module_at S.e top (u ∷ q) ≡ option_and_then (λ (i : Instance). find_module S.e i.symbol) (instance_in y.kind)
           new_is =
               inside_number S.e top q u y' now
               ∙ moved_symbol n.move y y' moves (find_module S.e)
 
           by_instance : (z : Option Instance) → instance_in y.kind ≡ z → View S top (u ∷ q) (n.number ∷ n.home)
           by_instance None is =
-              as_before (new_is ∙ ap (λ z. bind z (λ (i : Instance). find_module S.e i.symbol)) is
-              ∙ sym (old_is ∙ ap (λ z. bind z (λ (i : Instance). find_module S.d i.symbol)) is))
+              as_before (new_is ∙ ap (λ z. option_and_then (λ (i : Instance). find_module S.e i.symbol) z) is
+              ∙ sym (old_is ∙ ap (λ z. option_and_then (λ (i : Instance). find_module S.d i.symbol) z) is))
           by_instance (Some i) is =
               view_found (u ∷ q) (n.number ∷ n.home) i.symbol
-              (old_is ∙ ap (λ z. bind z (λ (w : Instance). find_module S.d w.symbol)) is)
-              (new_is ∙ ap (λ z. bind z (λ (w : Instance). find_module S.e w.symbol)) is)
+              (old_is ∙ ap (λ z. option_and_then (λ (w : Instance). find_module S.d w.symbol) z) is)
+              (new_is ∙ ap (λ z. option_and_then (λ (w : Instance). find_module S.e w.symbol) z) is)
 
   -- where a path comes from
   pub record Homed (q : Path) : Type 0 where

@@ -17,8 +17,8 @@ use Rattle.hw_model.proofs.Sorts.Sort.{a_register, an_instance, an_output, a_mad
 use Rattle.hw_model.proofs.Paths.{state_body}
 use Rattle.hw_model.proofs.Finite.{calls_within}
 use Rattle.hw_model.proofs.Content.{body_state_same, body_state-append, state_at_depth, call_heights}
-use Rattle.hw_edits.specs.Edit.{retarget}
-use Rattle.hw_edits.specs.Follows.{Valid}
+use Rattle.edit_laws.specs.Edit.{retarget}
+use Rattle.edit_laws.specs.Follows.{Valid}
 use Rattle.inline_laws.specs.Inline.{before_output, EndsWithOutput, outer_ref, inner_ref, inlined_wires, inlined_ops, inlined_between, RenamesOnly}
 use Rattle.inline_laws.proofs.Moved.{moved_retarget, moved_renamed, body_state_moved, called_moved}
 use Rattle.inline_laws.proofs.Ends.{Ended, end_of, are_wires, wires_state, wires_called}
@@ -33,20 +33,20 @@ pub record Inlining : Type 0 where
   pub d : Design
   pub e : Design
   pub md : Module
-  pub front : List Op
+  pub prefix : List Op
   pub o : Op
   pub back : List Op
   pub c : Module
   pub rename : Op → Op
   pub only : RenamesOnly rename
-  pub body_is : md.body ≡ front ++ (o ∷ back)
+  pub body_is : md.body ≡ prefix ++ (o ∷ back)
   pub target : Instance
   pub is_instance : instance_in o.kind ≡ Some target
   pub is_found : find_module d target.symbol ≡ Some c
   pub ends : EndsWithOutput c.body
   pub valid : Valid d
   pub same_length : length e ≡ length d
-  pub finds : (s : Name) → Finds d e md (record md { body = inlined_between rename (length front) o c front back }) s
+  pub finds : (s : Name) → Finds d e md (record md { body = inlined_between rename (length prefix) o c prefix back }) s
 
 -- ---- symbols and content of joined lists
 
@@ -91,7 +91,7 @@ state_is d finite s =
 module _ (S : Inlining) where
   -- where the instance stands, and the operations of its module that are moved
   abbrev pub place : ℕ
-  place = length S.front
+  place = length S.prefix
 
   abbrev pub inner : List Op
   inner = before_output S.c.body
@@ -102,8 +102,8 @@ module _ (S : Inlining) where
   abbrev pub inner_stand : Ref → Ref
   inner_stand = inner_ref place S.o S.c
 
-  abbrev pub new_front : List Op
-  new_front = map (retarget outer_stand) S.front
+  abbrev pub new_prefix : List Op
+  new_prefix = map (retarget outer_stand) S.prefix
 
   abbrev pub new_wires : List Op
   new_wires = inlined_wires place S.o S.c
@@ -115,7 +115,7 @@ module _ (S : Inlining) where
   new_back = map (retarget outer_stand) S.back
 
   abbrev pub new_body : List Op
-  new_body = new_front ++ (new_wires ++ (new_inner ++ new_back))
+  new_body = new_prefix ++ (new_wires ++ (new_inner ++ new_back))
 
   abbrev pub new_module : Module
   new_module = record S.md { body = new_body }
@@ -135,8 +135,8 @@ module _ (S : Inlining) where
   called_target : In S.target.symbol (callee_symbols S.md.body)
   called_target =
       subst (λ os. In S.target.symbol (callee_symbols os)) (sym S.body_is)
-      (subst (λ ts. In S.target.symbol ts) (sym (called_append S.front (S.o ∷ S.back)))
-      (In-append_right S.target.symbol (callee_symbols S.front) (callee_symbols (S.o ∷ S.back))
+      (subst (λ ts. In S.target.symbol ts) (sym (called_append S.prefix (S.o ∷ S.back)))
+      (In-append_right S.target.symbol (callee_symbols S.prefix) (callee_symbols (S.o ∷ S.back))
       (In-append_left S.target.symbol (called_by (instance_in S.o.kind)) (callee_symbols S.back)
       (subst (λ y. In S.target.symbol (called_by y)) (sym S.is_instance) (inl refl)))))
 
@@ -147,20 +147,20 @@ module _ (S : Inlining) where
       (subst (λ x. In S.target.symbol (callee_symbols (body_of x))) (sym is) called_target)
 
   -- what the new body instances
-  pub called_new : callee_symbols new_body ≡ callee_symbols S.front ++ (callee_symbols inner ++ callee_symbols S.back)
+  pub called_new : callee_symbols new_body ≡ callee_symbols S.prefix ++ (callee_symbols inner ++ callee_symbols S.back)
   called_new =
-      called_append new_front (new_wires ++ (new_inner ++ new_back))
-      ∙ ap₂ (λ xs ys. xs ++ ys) (called_moved outer_stand (retarget outer_stand) (moved_retarget outer_stand) S.front)
+      called_append new_prefix (new_wires ++ (new_inner ++ new_back))
+      ∙ ap₂ (λ xs ys. xs ++ ys) (called_moved outer_stand (retarget outer_stand) (moved_retarget outer_stand) S.prefix)
       (called_append new_wires (new_inner ++ new_back)
-      ∙ ap₂ (λ xs ys. xs ++ ys) (wires_called new_wires (are_wires S.o.place inner_stand S.o.results _))
+      ∙ ap₂ (λ xs ys. xs ++ ys) (wires_called new_wires (are_wires S.o.location inner_stand S.o.results _))
       (called_append new_inner new_back
       ∙ ap₂ (λ xs ys. xs ++ ys) (called_moved inner_stand (λ y. S.rename (retarget inner_stand y)) (moved_renamed S.rename S.only inner_stand) inner)
       (called_moved outer_stand (retarget outer_stand) (moved_retarget outer_stand) S.back)))
 
-  called_lower : (s t : Name) → find_module S.d s ≡ Some S.md → In t (callee_symbols S.front ++ (callee_symbols inner ++ callee_symbols S.back)) → rank t < rank s
-  called_lower s t is here = go (In-append_cases t (callee_symbols S.front) (callee_symbols inner ++ callee_symbols S.back) here)
+  called_lower : (s t : Name) → find_module S.d s ≡ Some S.md → In t (callee_symbols S.prefix ++ (callee_symbols inner ++ callee_symbols S.back)) → rank t < rank s
+  called_lower s t is here = go (In-append_cases t (callee_symbols S.prefix) (callee_symbols inner ++ callee_symbols S.back) here)
     where
-      old : In t (callee_symbols (S.front ++ (S.o ∷ S.back))) → rank t < rank s
+      old : In t (callee_symbols (S.prefix ++ (S.o ∷ S.back))) → rank t < rank s
       old there =
           FallsAlong-height (calls S.d) rank rank_is s t
           (subst (λ x. In t (callee_symbols (body_of x))) (sym is) (subst (λ os. In t (callee_symbols os)) (sym S.body_is) there))
@@ -179,12 +179,12 @@ module _ (S : Inlining) where
       rest : In t (callee_symbols inner) ⊎ In t (callee_symbols S.back) → rank t < rank s
       rest (inl there) = inside there
       rest (inr there) =
-          old (subst (λ ts. In t ts) (sym (called_append S.front (S.o ∷ S.back)))
-          (In-append_right t (callee_symbols S.front) (callee_symbols (S.o ∷ S.back)) (In-append_right t (called_by (instance_in S.o.kind)) (callee_symbols S.back) there)))
+          old (subst (λ ts. In t ts) (sym (called_append S.prefix (S.o ∷ S.back)))
+          (In-append_right t (callee_symbols S.prefix) (callee_symbols (S.o ∷ S.back)) (In-append_right t (called_by (instance_in S.o.kind)) (callee_symbols S.back) there)))
 
-      go : In t (callee_symbols S.front) ⊎ In t (callee_symbols inner ++ callee_symbols S.back) → rank t < rank s
+      go : In t (callee_symbols S.prefix) ⊎ In t (callee_symbols inner ++ callee_symbols S.back) → rank t < rank s
       go (inl there) =
-          old (subst (λ ts. In t ts) (sym (called_append S.front (S.o ∷ S.back))) (In-append_left t (callee_symbols S.front) (callee_symbols (S.o ∷ S.back)) there))
+          old (subst (λ ts. In t ts) (sym (called_append S.prefix (S.o ∷ S.back))) (In-append_left t (callee_symbols S.prefix) (callee_symbols (S.o ∷ S.back)) there))
       go (inr there) = rest (In-append_cases t (callee_symbols inner) (callee_symbols S.back) there)
 
   -- a module instances lower ones
@@ -203,8 +203,8 @@ module _ (S : Inlining) where
   abbrev pub bits : List Op → ℕ
   bits os = body_state (state S.d) os
 
-  pub front_bits : bits new_front ≡ bits S.front
-  front_bits = body_state_moved outer_stand (retarget outer_stand) (moved_retarget outer_stand) (state S.d) S.front
+  pub prefix_bits : bits new_prefix ≡ bits S.prefix
+  prefix_bits = body_state_moved outer_stand (retarget outer_stand) (moved_retarget outer_stand) (state S.d) S.prefix
 
   pub back_bits : bits new_back ≡ bits S.back
   back_bits = body_state_moved outer_stand (retarget outer_stand) (moved_retarget outer_stand) (state S.d) S.back
@@ -213,7 +213,7 @@ module _ (S : Inlining) where
   inner_bits = body_state_moved inner_stand (λ y. S.rename (retarget inner_stand y)) (moved_renamed S.rename S.only inner_stand) (state S.d) inner
 
   pub wire_bits : bits new_wires ≡ 0
-  wire_bits = wires_state (state S.d) new_wires (are_wires S.o.place inner_stand S.o.results _)
+  wire_bits = wires_state (state S.d) new_wires (are_wires S.o.location inner_stand S.o.results _)
 
   pub instance_bits : op_state (state S.d) S.o ≡ bits inner
   instance_bits =
@@ -227,12 +227,12 @@ module _ (S : Inlining) where
 
   new_bits : bits new_body ≡ bits S.md.body
   new_bits =
-      body_state-append (state S.d) new_front (new_wires ++ (new_inner ++ new_back))
-      ∙ ap₂ (λ a b. a + b) front_bits
+      body_state-append (state S.d) new_prefix (new_wires ++ (new_inner ++ new_back))
+      ∙ ap₂ (λ a b. a + b) prefix_bits
       (body_state-append (state S.d) new_wires (new_inner ++ new_back)
       ∙ ap₂ (λ a b. a + b) wire_bits (body_state-append (state S.d) new_inner new_back ∙ ap₂ (λ a b. a + b) (inner_bits ∙ sym instance_bits) back_bits)
       ∙ zero-add (op_state (state S.d) S.o + bits S.back))
-      ∙ sym (body_state-append (state S.d) S.front (S.o ∷ S.back)) ∙ ap bits (sym S.body_is)
+      ∙ sym (body_state-append (state S.d) S.prefix (S.o ∷ S.back)) ∙ ap bits (sym S.body_is)
 
   found_bits : (s : Name) → bits (body_of (find_module S.e s)) ≡ state S.d s
   found_bits s = go (S.finds s) ∙ sym (state_is S.d S.valid.finite s)

@@ -8,15 +8,15 @@ use Rattle.hw_model.specs.Design.{Ref, Op, Module, Design, instance_in, is_outpu
 use Rattle.hw_model.specs.Hierarchy.{callee_symbols, called_by}
 use Rattle.hw_model.proofs.Sorts.{Sort, sort_of}
 use Rattle.hw_model.proofs.Sorts.Sort.{a_register, an_instance, an_output, a_made}
-use Rattle.hw_edits.specs.Edit.{retarget}
-use Rattle.hw_edits.proofs.Anchors.{called-retarget}
+use Rattle.edit_laws.specs.Edit.{retarget}
+use Rattle.edit_laws.proofs.Anchors.{called-retarget}
 use Rattle.inline_laws.specs.Inline.{before_output, EndsWithOutput, outer_ref, inner_ref, inlined_ops, RenamesOnly, IsInlined}
 use Rattle.inline_laws.specs.Unwire.{inline_without_wires}
 use Rattle.inline_laws.proofs.Moved.{by_kind, moved_renamed, called_moved}
 use Rattle.inline_laws.proofs.Ends.{Ended, end_of, HasNoOutput, before_has_none}
 use Rattle.inline_laws.proofs.Inlining.{called_append}
 use Rattle.inline_laws.proofs.Origins.{instance_no_output}
-use Rattle.inline_laws.proofs.WithoutWires.{Others, front_part, back_part, without_wires}
+use Rattle.inline_laws.proofs.WithoutWires.{Others, prefix_part, back_part, without_wires}
 
 -- an output is no instance
 output_no_instance : (y : Op) → is_output_op y ≡ true → instance_in y.kind ≡ None
@@ -35,7 +35,7 @@ ends_after [] y ys none ends = ends
 ends_after (x ∷ []) y ys none ends = (none x (inl refl), ends)
 ends_after (x ∷ z ∷ xs) y ys none ends = (none x (inl refl), ends_after (z ∷ xs) y ys (λ w here. none w (inr here)) ends)
 
--- a body whose end is not in the front has none in the front, and ends as what is after it
+-- a body whose end is not in the prefix has none in the prefix, and ends as what is after it
 pub record EndsLater (xs : List Op) (ys : List Op) : Type 0 where
   pub none : HasNoOutput xs
   pub rest : EndsWithOutput ys
@@ -89,23 +89,23 @@ module _ (d : Design) (md : Module) (i : ℕ) (o : Op) (c : Module) (rename : Op
       ≡ callee_symbols (take i md.body) ++ (callee_symbols c.body ++ callee_symbols (drop (suc i) md.body))
   called_after =
       ap callee_symbols others.body_is
-      ∙ called_append (map (retarget others.stand) (front_part d md i o c rename is)) (map (retarget others.stand) (back_part d md i o c rename is))
+      ∙ called_append (map (retarget others.stand) (prefix_part d md i o c rename is)) (map (retarget others.stand) (back_part d md i o c rename is))
       ∙ ap₂ (λ xs ys. xs ++ ys)
-      (called-retarget others.stand (front_part d md i o c rename is) ∙ called-retarget (outer_ref i o c) (take i md.body))
+      (called-retarget others.stand (prefix_part d md i o c rename is) ∙ called-retarget (outer_ref i o c) (take i md.body))
       (called-retarget others.stand (back_part d md i o c rename is)
       ∙ called_append (inlined_ops rename i o c) (map (retarget (outer_ref i o c)) (drop (suc i) md.body))
       ∙ ap₂ (λ xs ys. xs ++ ys)
       (called_moved (inner_ref i o c) (λ (y : Op). rename (retarget (inner_ref i o c) y)) (moved_renamed rename only (inner_ref i o c)) (before_output c.body) ∙ sym called_inner)
       (called-retarget (outer_ref i o c) (drop (suc i) md.body)))
     where
-      others : Others (front_part d md i o c rename is) (back_part d md i o c rename is) (inline_without_wires rename i o c md.body)
+      others : Others (prefix_part d md i o c rename is) (back_part d md i o c rename is) (inline_without_wires rename i o c md.body)
       others = without_wires d md i o c rename is
 
   -- the body ends with its one output as before
   pub ends_after_inlining : EndsWithOutput md.body → EndsWithOutput (inline_without_wires rename i o c md.body)
   ends_after_inlining ends = go (drop (suc i) md.body) refl
     where
-      others : Others (front_part d md i o c rename is) (back_part d md i o c rename is) (inline_without_wires rename i o c md.body)
+      others : Others (prefix_part d md i o c rename is) (back_part d md i o c rename is) (inline_without_wires rename i o c md.body)
       others = without_wires d md i o c rename is
 
       later : EndsLater (take i md.body) (o ∷ drop (suc i) md.body)
@@ -135,6 +135,6 @@ module _ (d : Design) (md : Module) (i : ℕ) (o : Op) (c : Module) (rename : Op
           (ends_after (map (retarget (outer_ref i o c)) (take i md.body) ++ inlined_ops rename i o c) (retarget (outer_ref i o c) y) (map (retarget (outer_ref i o c)) back)
           (both_none (map (retarget (outer_ref i o c)) (take i md.body)) (inlined_ops rename i o c) (none_retarget (outer_ref i o c) (take i md.body) later.none) inner_none)
           (ends_retarget (outer_ref i o c) (y ∷ back) rest.1)) in
-          subst EndsWithOutput (sym (others.body_is ∙ sym (map-append (retarget others.stand) (front_part d md i o c rename is) (back_part d md i o c rename is))))
-          (ends_retarget others.stand (front_part d md i o c rename is ++ back_part d md i o c rename is)
-          (subst (λ ys. EndsWithOutput (front_part d md i o c rename is ++ (inlined_ops rename i o c ++ map (retarget (outer_ref i o c)) ys))) (sym some) whole))
+          subst EndsWithOutput (sym (others.body_is ∙ sym (map-append (retarget others.stand) (prefix_part d md i o c rename is) (back_part d md i o c rename is))))
+          (ends_retarget others.stand (prefix_part d md i o c rename is ++ back_part d md i o c rename is)
+          (subst (λ ys. EndsWithOutput (prefix_part d md i o c rename is ++ (inlined_ops rename i o c ++ map (retarget (outer_ref i o c)) ys))) (sym some) whole))

@@ -1,68 +1,31 @@
 -- Operations with other operands, names and dictionaries: what a list of them has as the list that they come from.
-use Rattle.std.proofs.Common.{◌≡◌, ℕ, zero, suc, pred, ◌+◌, Bool, true, false, cond, List, [], ◌∷◌, ◌++◌, map, slice_get, is_some, Option, Some, None, refl, sym, ap, ap₂, ◌∙◌}
+use Rattle.std.proofs.Common.{◌≡◌, ℕ, zero, suc, pred, ◌+◌, Bool, true, false, cond, List, [], ◌∷◌, ◌++◌, map, slice_get, is_some, Option, Some, None, refl, sym, ap, ap₂, ◌∙◌, option_and_then, option_map}
 use Rattle.std.proofs.lemmas.List.{map-id}
-use Rattle.wiring.specs.Options.{bind, omap}
 use Rattle.bits_core.specs.Word.{Word}
 use Rattle.hw_model.specs.Types.{Name}
 use Rattle.hw_model.specs.Design.{Ref, OpResult, Op, RegisterForm, instance_in, register_form, is_instance, is_register, is_output_op, is_output_kind, result_type, output_refs}
 use Rattle.hw_model.specs.Flat.{instances, before_instance, if_zero, body_state, op_state, instance_state, width_of, register_in, register_parts, async_reset_in, async_parts, has_async_reset}
 use Rattle.hw_model.specs.Meaning.{next_value, rise_value}
 use Rattle.hw_model.specs.Hierarchy.{callee_symbols, called_by}
-use Rattle.hw_edits.specs.Edit.{retarget}
-use Rattle.hw_edits.proofs.OtherOperands.{next-retarget, rise-retarget}
+use Rattle.edit_laws.specs.Edit.{retarget}
+use Rattle.edit_laws.proofs.OtherOperands.{next-retarget, rise-retarget}
 use Rattle.hw_model.specs.Kinds.{Kind, Instance}
-use Rattle.hw_model.specs.Kinds.Kind.{variadic, sub, division, shift, icmp, parity, extract, concat, replicate, mux, constant, aggregate_constant, on_array, on_struct, bitcast, wire, instance, output, register, async_firreg}
+use Rattle.hw_model.specs.Kinds.Kind.{instance}
 use Rattle.inline_laws.specs.Inline.{unnamed_kind, RenamesOnly}
 
 -- ---- kinds but for the names of instances
 
 nameless : {A : Type 0} (f : Kind → A) → ((i : Instance) → f (instance (record i { name = [] })) ≡ f (instance i)) → (k : Kind) → f (unnamed_kind k) ≡ f k
-nameless f same (variadic v) = refl
-nameless f same sub = refl
-nameless f same (division d) = refl
-nameless f same (shift s) = refl
-nameless f same (icmp p) = refl
-nameless f same parity = refl
-nameless f same (extract low) = refl
-nameless f same concat = refl
-nameless f same replicate = refl
-nameless f same mux = refl
-nameless f same (constant z) = refl
-nameless f same (aggregate_constant ls) = refl
-nameless f same (on_array a) = refl
-nameless f same (on_struct s) = refl
-nameless f same bitcast = refl
-nameless f same wire = refl
 nameless f same (instance i) = same i
-nameless f same output = refl
-nameless f same (register g r) = refl
-nameless f same async_firreg = refl
+nameless f same _ = refl
 
 -- what no instance's name decides is the same of kinds that differ in that alone
 pub by_kind : {A : Type 0} (f : Kind → A) → ((i : Instance) → f (instance (record i { name = [] })) ≡ f (instance i)) → (j k : Kind) → unnamed_kind j ≡ unnamed_kind k → f j ≡ f k
 by_kind f same j k e = sym (nameless f same j) ∙ ap f e ∙ nameless f same k
 
 unnamed_plain : (k : Kind) → instance_in k ≡ None → unnamed_kind k ≡ k
-unnamed_plain (variadic v) none = refl
-unnamed_plain sub none = refl
-unnamed_plain (division d) none = refl
-unnamed_plain (shift s) none = refl
-unnamed_plain (icmp p) none = refl
-unnamed_plain parity none = refl
-unnamed_plain (extract low) none = refl
-unnamed_plain concat none = refl
-unnamed_plain replicate none = refl
-unnamed_plain mux none = refl
-unnamed_plain (constant z) none = refl
-unnamed_plain (aggregate_constant ls) none = refl
-unnamed_plain (on_array a) none = refl
-unnamed_plain (on_struct s) none = refl
-unnamed_plain bitcast none = refl
-unnamed_plain wire none = refl
 unnamed_plain (instance i) none = cc
-unnamed_plain output none = refl
-unnamed_plain (register g r) none = refl
-unnamed_plain async_firreg none = refl
+unnamed_plain _ none = refl
 
 -- an instance without its name
 abbrev pub unnamed_instance : Instance → Instance
@@ -100,7 +63,7 @@ pub data Matches (f : Ref → Ref) (x x' : Option Op) : Type 0 where
 
 module _ (f : Ref → Ref) (o o' : Op) (moved : IsMoved f o o') where
   pub moved_type : (k : ℕ) → result_type o' k ≡ result_type o k
-  moved_type k = ap (λ xs. omap (λ (r : OpResult). r.type) (slice_get xs k)) moved.results_are
+  moved_type k = ap (λ xs. option_map (λ (r : OpResult). r.type) (slice_get xs k)) moved.results_are
 
   pub moved_form : register_form o'.kind ≡ register_form o.kind
   moved_form = by_kind register_form (λ i. refl) o'.kind o.kind moved.kind_is
@@ -112,17 +75,17 @@ module _ (f : Ref → Ref) (o o' : Op) (moved : IsMoved f o o') where
   moved_is_instance = by_kind (λ k. is_some (instance_in k)) (λ i. refl) o'.kind o.kind moved.kind_is
 
   -- an instance of the same module, with the same names of ports
-  pub moved_instance : omap unnamed_instance (instance_in o'.kind) ≡ omap unnamed_instance (instance_in o.kind)
-  moved_instance = by_kind (λ k. omap unnamed_instance (instance_in k)) (λ i. refl) o'.kind o.kind moved.kind_is
+  pub moved_instance : option_map unnamed_instance (instance_in o'.kind) ≡ option_map unnamed_instance (instance_in o.kind)
+  moved_instance = by_kind (λ k. option_map unnamed_instance (instance_in k)) (λ i. refl) o'.kind o.kind moved.kind_is
 
-  pub moved_symbol : {A : Type 0} (f : Name → Option A) → bind (instance_in o'.kind) (λ (i : Instance). f i.symbol) ≡ bind (instance_in o.kind) (λ (i : Instance). f i.symbol)
-  moved_symbol f = by_kind (λ k. bind (instance_in k) (λ (i : Instance). f i.symbol)) (λ i. refl) o'.kind o.kind moved.kind_is
+  pub moved_symbol : {A : Type 0} (f : Name → Option A) → option_and_then (λ (i : Instance). f i.symbol) (instance_in o'.kind) ≡ option_and_then (λ (i : Instance). f i.symbol) (instance_in o.kind)
+  moved_symbol f = by_kind (λ k. option_and_then (λ (i : Instance). f i.symbol) (instance_in k)) (λ i. refl) o'.kind o.kind moved.kind_is
 
   -- what is no instance has the same kind
   pub moved_none : instance_in o.kind ≡ None → instance_in o'.kind ≡ None
-  moved_none none = go (instance_in o'.kind) (moved_instance ∙ ap (omap unnamed_instance) none)
+  moved_none none = go (instance_in o'.kind) (moved_instance ∙ ap (option_map unnamed_instance) none)
     where
-      go : (x : Option Instance) → omap unnamed_instance x ≡ None → x ≡ None
+      go : (x : Option Instance) → option_map unnamed_instance x ≡ None → x ≡ None
       go None same = refl
       go (Some i) same = cc
 
@@ -131,17 +94,17 @@ module _ (f : Ref → Ref) (o o' : Op) (moved : IsMoved f o o') where
 
   -- the instance that an instance is
   pub moved_some : (i : Instance) → instance_in o.kind ≡ Some i → (x : Instance) × (instance_in o'.kind ≡ Some x) × (unnamed_instance x ≡ unnamed_instance i)
-  moved_some i is = go (instance_in o'.kind) refl (moved_instance ∙ ap (omap unnamed_instance) is)
+  moved_some i is = go (instance_in o'.kind) refl (moved_instance ∙ ap (option_map unnamed_instance) is)
     where
-      go : (y : Option Instance) → instance_in o'.kind ≡ y → omap unnamed_instance y ≡ Some (unnamed_instance i)
+      go : (y : Option Instance) → instance_in o'.kind ≡ y → option_map unnamed_instance y ≡ Some (unnamed_instance i)
           → (x : Instance) × (instance_in o'.kind ≡ Some x) × (unnamed_instance x ≡ unnamed_instance i)
       go None there same = cc
       go (Some x) there same = let one : unnamed_instance x ≡ unnamed_instance i = cc in (x, there, one)
 
   pub moved_back : (x : Instance) → instance_in o'.kind ≡ Some x → (i : Instance) × (instance_in o.kind ≡ Some i) × (i.symbol ≡ x.symbol)
-  moved_back x is = go (instance_in o.kind) refl (sym (ap (omap unnamed_instance) is) ∙ moved_instance)
+  moved_back x is = go (instance_in o.kind) refl (sym (ap (option_map unnamed_instance) is) ∙ moved_instance)
     where
-      go : (y : Option Instance) → instance_in o.kind ≡ y → Some (unnamed_instance x) ≡ omap unnamed_instance y → (i : Instance) × (instance_in o.kind ≡ Some i) × (i.symbol ≡ x.symbol)
+      go : (y : Option Instance) → instance_in o.kind ≡ y → Some (unnamed_instance x) ≡ option_map unnamed_instance y → (i : Instance) × (instance_in o.kind ≡ Some i) × (i.symbol ≡ x.symbol)
       go None there same = cc
       go (Some i) there same = let one : unnamed_instance x ≡ unnamed_instance i = cc in (i, there, ap (λ (z : Instance). z.symbol) (sym one))
 
@@ -153,7 +116,7 @@ module _ (f : Ref → Ref) (o o' : Op) (moved : IsMoved f o o') where
   -- what a register loads
   pub moved_next : (τ : Ref → Word) (old : Word) → next_value (register_in o') τ old ≡ next_value (register_in o) (λ r. τ (f r)) old
   moved_next τ old =
-      ap₂ (λ x rs. next_value (bind x (λ (g : RegisterForm). register_parts g.has_enable g.reset rs)) τ old) moved_form moved.operands_are
+      ap₂ (λ x rs. next_value (option_and_then (λ (g : RegisterForm). register_parts g.has_enable g.reset rs) x) τ old) moved_form moved.operands_are
       ∙ next-retarget f o τ old
 
   -- and to what it is reset

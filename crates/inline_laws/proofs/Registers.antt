@@ -1,9 +1,8 @@
 -- The registers of each module of the new design come from those of the old design, in order.
-use Rattle.std.proofs.Common.{◌≡◌, ℕ, zero, suc, ◌+◌, ◌<◌, ◌≤◌, List, [], ◌∷◌, ◌++◌, length, slice_get, Some, None, refl, sym, ap, ap₂, subst, ◌∙◌, arith, zero-add, add-zero, true, false, cond, is_some, append-nil}
+use Rattle.std.proofs.Common.{◌≡◌, ℕ, zero, suc, ◌+◌, ◌<◌, ◌≤◌, List, [], ◌∷◌, ◌++◌, length, slice_get, Some, None, refl, sym, ap, ap₂, subst, ◌∙◌, arith, zero-add, add-zero, true, false, cond, is_some, append-nil, option_and_then}
 use Rattle.std.proofs.lemmas.List.{map-id}
 use Rattle.std.proofs.lemmas.Option.{slice_get_within}
 use mathlib.Core.Path.{subst₂}
-use Rattle.wiring.specs.Options.{bind}
 use Rattle.wiring.specs.Wiring.{In}
 use Rattle.wiring.proofs.Members.{In-slice_get}
 use Rattle.wiring.proofs.Lists.{slice_get-append_some, slice_get-append_right}
@@ -17,16 +16,16 @@ use Rattle.hw_model.proofs.Sorts.{Sort, sort_of}
 use Rattle.hw_model.proofs.Sorts.Sort.{a_register, an_instance, an_output, a_made}
 use Rattle.hw_model.proofs.Paths.{registers_body}
 use Rattle.hw_model.proofs.Gone.{called_In, from_In-instances}
-use Rattle.hw_edits.specs.Edit.{retarget}
-use Rattle.inline_laws.proofs.Sides.{side_front, side_back, instances-append}
+use Rattle.edit_laws.specs.Edit.{retarget}
+use Rattle.inline_laws.proofs.Sides.{side_prefix, side_back, instances-append}
 use Rattle.inline_laws.proofs.Moved.{Matches, moved_itself, moved_retarget, moved_renamed, moved_some}
 use Rattle.inline_laws.proofs.Moved.Matches.{missing, matched}
 use Rattle.inline_laws.proofs.Ends.{AreWires, are_wires, wires_instances}
 use Rattle.inline_laws.proofs.Sources.{inside_number}
-use Rattle.inline_laws.proofs.Inlining.{Inlining, inner, outer_stand, inner_stand, new_front, new_wires, new_inner, new_back, new_body, new_module, rank, rank_is, rank_within, target_lower, calls_lower, end_is}
-use Rattle.inline_laws.proofs.Origins.{Leads, front_count, old_body, old_instances, instance_no_register, inside_body, inlined_origin, outer_alike, inner_leads}
+use Rattle.inline_laws.proofs.Inlining.{Inlining, inner, outer_stand, inner_stand, new_prefix, new_wires, new_inner, new_back, new_body, new_module, rank, rank_is, rank_within, target_lower, calls_lower, end_is}
+use Rattle.inline_laws.proofs.Origins.{Leads, prefix_count, old_body, old_instances, instance_no_register, inside_body, inlined_origin, outer_alike, inner_leads}
 use Rattle.inline_laws.proofs.Origins.Leads.{alike}
-use Rattle.inline_laws.proofs.Views.{View, Numbered, next_path, origin_in, inner_count, inner_next, outer_next, inlined_next, front_length, inner_length, number_at}
+use Rattle.inline_laws.proofs.Views.{View, Numbered, next_path, origin_in, inner_count, inner_next, outer_next, inlined_next, prefix_length, inner_length, number_at}
 use Rattle.inline_laws.proofs.Views.View.{inlined, as_before}
 use Rattle.inline_laws.proofs.Homes.{home_of, view_of, home_start, home_next, origin}
 use Rattle.inline_laws.proofs.RegisterLists.{registers-append, wires_registers, registers_are}
@@ -89,9 +88,9 @@ module _ (S : Inlining) (top : Name) where
             let renamed_inst = moved_some m.move z z' moves i old_inst in
             let named : renamed_inst.0.symbol ≡ i.symbol = ap (λ (x : Instance). x.symbol) renamed_inst.2 in
             let new_at : module_at S.e top (u ∷ q) ≡ find_module S.e i.symbol =
-            inside_number S.e top q u z' is' ∙ ap (λ x. bind x (λ (w : Instance). find_module S.e w.symbol)) renamed_inst.1 ∙ ap (find_module S.e) named in
+            inside_number S.e top q u z' is' ∙ ap (λ x. option_and_then (λ (w : Instance). find_module S.e w.symbol) x) renamed_inst.1 ∙ ap (find_module S.e) named in
             let old_at : module_at S.d top (m.number ∷ m.home) ≡ find_module S.d i.symbol =
-            inside_number S.d top m.home m.number z is ∙ ap (λ x. bind x (λ (w : Instance). find_module S.d w.symbol)) old_inst in
+            inside_number S.d top m.home m.number z is ∙ ap (λ x. option_and_then (λ (w : Instance). find_module S.d w.symbol) x) old_inst in
             let called : In i.symbol (callee_symbols (body_of (find_module S.e s))) =
             subst (λ x. In x (callee_symbols (body_of (find_module S.e s)))) named
             (called_In (body_of (find_module S.e s)) z' renamed_inst.0
@@ -119,84 +118,84 @@ module _ (S : Inlining) (top : Name) where
       outer_leads : (r : Ref) → Leads S.d top (net p r) (origin S top (net q (outer_stand S r)))
       outer_leads r = subst (Leads S.d top (net p r)) (sym (origins (outer_stand S r))) (alike (outer_alike S top p was r))
 
-      front_come : SlotsCome S top (body_registers new_registers q 0 (new_front S)) (body_registers old_registers p 0 S.front)
-      front_come =
-          body_come S top (outer_stand S) (retarget (outer_stand S)) (moved_retarget (outer_stand S)) q p outer_leads new_registers old_registers 0 0 S.front
+      prefix_come : SlotsCome S top (body_registers new_registers q 0 (new_prefix S)) (body_registers old_registers p 0 S.prefix)
+      prefix_come =
+          body_come S top (outer_stand S) (retarget (outer_stand S)) (moved_retarget (outer_stand S)) q p outer_leads new_registers old_registers 0 0 S.prefix
           (λ v w' w y i is' is at_v inst.
-          let within : v < front_count S = slice_get_within (instances S.front) v y at_v in
+          let within : v < prefix_count S = slice_get_within (instances S.prefix) v y at_v in
           let new_is : w' ≡ v = is' ∙ zero-add v in
           let old_is : w ≡ v = is ∙ zero-add v in
           instance_come w' w p y i
-          (homes w' ∙ ap (inlined_next S p) new_is ∙ ap (outer_next S p) (side_front (front_count S) v within) ∙ ap (λ z. z ∷ p) (sym old_is))
-          (ap (λ xs. slice_get xs w) (old_instances S top p was) ∙ ap (slice_get (instances S.front ++ (S.o ∷ instances S.back))) old_is
-          ∙ slice_get-append_some (instances S.front) (S.o ∷ instances S.back) v y at_v) inst)
+          (homes w' ∙ ap (inlined_next S p) new_is ∙ ap (outer_next S p) (side_prefix (prefix_count S) v within) ∙ ap (λ z. z ∷ p) (sym old_is))
+          (ap (λ xs. slice_get xs w) (old_instances S top p was) ∙ ap (slice_get (instances S.prefix ++ (S.o ∷ instances S.back))) old_is
+          ∙ slice_get-append_some (instances S.prefix) (S.o ∷ instances S.back) v y at_v) inst)
 
-      inner_come : SlotsCome S top (body_registers new_registers q (front_count S) (new_inner S)) (body_registers old_registers (front_count S ∷ p) 0 (inner S))
+      inner_come : SlotsCome S top (body_registers new_registers q (prefix_count S) (new_inner S)) (body_registers old_registers (prefix_count S ∷ p) 0 (inner S))
       inner_come =
-          body_come S top (inner_stand S) (λ (o : Op). S.rename (retarget (inner_stand S) o)) (moved_renamed S.rename S.only (inner_stand S)) q (front_count S ∷ p)
-          (λ r. subst (Leads S.d top (net (front_count S ∷ p) r)) (sym (origins (inner_stand S r))) (inner_leads S top p was r)) new_registers old_registers (front_count S) 0 (inner S)
+          body_come S top (inner_stand S) (λ (o : Op). S.rename (retarget (inner_stand S) o)) (moved_renamed S.rename S.only (inner_stand S)) q (prefix_count S ∷ p)
+          (λ r. subst (Leads S.d top (net (prefix_count S ∷ p) r)) (sym (origins (inner_stand S r))) (inner_leads S top p was r)) new_registers old_registers (prefix_count S) 0 (inner S)
           (λ v w' w y i is' is at_v inst.
           let within : v < inner_count S = slice_get_within (instances (inner S)) v y at_v in
           let old_is : w ≡ v = is ∙ zero-add v in
-          instance_come w' w (front_count S ∷ p) y i
-          (homes w' ∙ ap (inlined_next S p) is' ∙ ap (outer_next S p) (side_back (front_count S) v) ∙ ap (inner_next S p) (side_front (inner_count S) v within)
-          ∙ ap (λ z. z ∷ (front_count S ∷ p)) (sym old_is))
+          instance_come w' w (prefix_count S ∷ p) y i
+          (homes w' ∙ ap (inlined_next S p) is' ∙ ap (outer_next S p) (side_back (prefix_count S) v) ∙ ap (inner_next S p) (side_prefix (inner_count S) v within)
+          ∙ ap (λ z. z ∷ (prefix_count S ∷ p)) (sym old_is))
           (ap (λ os. slice_get (instances os) w) (inside_body S top p was)
           ∙ ap (λ xs. slice_get xs w) (instances-append (inner S) ((end_is S).last ∷ []))
           ∙ ap (slice_get (instances (inner S) ++ instances ((end_is S).last ∷ []))) old_is
           ∙ slice_get-append_some (instances (inner S)) (instances ((end_is S).last ∷ [])) v y at_v) inst)
 
-      back_come : SlotsCome S top (body_registers new_registers q (front_count S + inner_count S) (new_back S)) (body_registers old_registers p (suc (front_count S)) S.back)
+      back_come : SlotsCome S top (body_registers new_registers q (prefix_count S + inner_count S) (new_back S)) (body_registers old_registers p (suc (prefix_count S)) S.back)
       back_come =
-          body_come S top (outer_stand S) (retarget (outer_stand S)) (moved_retarget (outer_stand S)) q p outer_leads new_registers old_registers (front_count S + inner_count S) (suc (front_count S)) S.back
+          body_come S top (outer_stand S) (retarget (outer_stand S)) (moved_retarget (outer_stand S)) q p outer_leads new_registers old_registers (prefix_count S + inner_count S) (suc (prefix_count S)) S.back
           (λ v w' w y i is' is at_v inst.
-          let new_is : w' ≡ front_count S + (inner_count S + v) = omega arith in
-          let old_is : w ≡ front_count S + suc v = omega arith in
+          let new_is : w' ≡ prefix_count S + (inner_count S + v) = omega arith in
+          let old_is : w ≡ prefix_count S + suc v = omega arith in
           instance_come w' w p y i
-          (homes w' ∙ ap (inlined_next S p) new_is ∙ ap (outer_next S p) (side_back (front_count S) (inner_count S + v)) ∙ ap (inner_next S p) (side_back (inner_count S) v)
+          (homes w' ∙ ap (inlined_next S p) new_is ∙ ap (outer_next S p) (side_back (prefix_count S) (inner_count S + v)) ∙ ap (inner_next S p) (side_back (inner_count S) v)
           ∙ ap (λ z. z ∷ p) (sym old_is))
-          (ap (λ xs. slice_get xs w) (old_instances S top p was) ∙ ap (slice_get (instances S.front ++ (S.o ∷ instances S.back))) old_is
-          ∙ slice_get-append_right (instances S.front) (S.o ∷ instances S.back) (suc v) ∙ at_v) inst)
+          (ap (λ xs. slice_get xs w) (old_instances S top p was) ∙ ap (slice_get (instances S.prefix ++ (S.o ∷ instances S.back))) old_is
+          ∙ slice_get-append_right (instances S.prefix) (S.o ∷ instances S.back) (suc v) ∙ at_v) inst)
 
       -- the registers of the new body, by parts
-      new_parts : body_registers new_registers q 0 (new_body S) ≡ body_registers new_registers q 0 (new_front S)
-          ++ (body_registers new_registers q (front_count S) (new_inner S) ++ body_registers new_registers q (front_count S + inner_count S) (new_back S))
+      new_parts : body_registers new_registers q 0 (new_body S) ≡ body_registers new_registers q 0 (new_prefix S)
+          ++ (body_registers new_registers q (prefix_count S) (new_inner S) ++ body_registers new_registers q (prefix_count S + inner_count S) (new_back S))
       new_parts =
-          registers-append new_registers q 0 (new_front S) (new_wires S ++ (new_inner S ++ new_back S))
-          ∙ ap (λ u. body_registers new_registers q 0 (new_front S) ++ body_registers new_registers q u (new_wires S ++ (new_inner S ++ new_back S))) (zero-add (length (instances (new_front S))) ∙ front_length S)
-          ∙ ap (λ ss. body_registers new_registers q 0 (new_front S) ++ ss)
-          (registers-append new_registers q (front_count S) (new_wires S) (new_inner S ++ new_back S)
-          ∙ ap₂ (λ ss u. ss ++ body_registers new_registers q u (new_inner S ++ new_back S)) (wires_registers new_registers q (front_count S) (new_wires S) wires_are)
-          (ap (λ xs. front_count S + length xs) (wires_instances (new_wires S) wires_are) ∙ add-zero (front_count S))
-          ∙ registers-append new_registers q (front_count S) (new_inner S) (new_back S)
-          ∙ ap (λ m. body_registers new_registers q (front_count S) (new_inner S) ++ body_registers new_registers q (front_count S + m) (new_back S)) (inner_length S))
+          registers-append new_registers q 0 (new_prefix S) (new_wires S ++ (new_inner S ++ new_back S))
+          ∙ ap (λ u. body_registers new_registers q 0 (new_prefix S) ++ body_registers new_registers q u (new_wires S ++ (new_inner S ++ new_back S))) (zero-add (length (instances (new_prefix S))) ∙ prefix_length S)
+          ∙ ap (λ ss. body_registers new_registers q 0 (new_prefix S) ++ ss)
+          (registers-append new_registers q (prefix_count S) (new_wires S) (new_inner S ++ new_back S)
+          ∙ ap₂ (λ ss u. ss ++ body_registers new_registers q u (new_inner S ++ new_back S)) (wires_registers new_registers q (prefix_count S) (new_wires S) wires_are)
+          (ap (λ xs. prefix_count S + length xs) (wires_instances (new_wires S) wires_are) ∙ add-zero (prefix_count S))
+          ∙ registers-append new_registers q (prefix_count S) (new_inner S) (new_back S)
+          ∙ ap (λ m. body_registers new_registers q (prefix_count S) (new_inner S) ++ body_registers new_registers q (prefix_count S + m) (new_back S)) (inner_length S))
         where
           wires_are : AreWires (new_wires S)
-          wires_are = are_wires S.o.place (inner_stand S) S.o.results (output_refs S.c.body)
+          wires_are = are_wires S.o.location (inner_stand S) S.o.results (output_refs S.c.body)
 
       -- those of the instance's module
-      target_registers : old_registers (front_count S ∷ p) S.target.symbol ≡ body_registers old_registers (front_count S ∷ p) 0 (inner S)
+      target_registers : old_registers (prefix_count S ∷ p) S.target.symbol ≡ body_registers old_registers (prefix_count S ∷ p) 0 (inner S)
       target_registers =
-          registers_are S.d (rank S) (rank_is S) n (front_count S ∷ p) S.target.symbol target_low
-          ∙ ap (λ x. body_registers old_registers (front_count S ∷ p) 0 (body_of x)) S.is_found
-          ∙ ap (body_registers old_registers (front_count S ∷ p) 0) (end_is S).body_is
-          ∙ registers-append old_registers (front_count S ∷ p) 0 (inner S) ((end_is S).last ∷ [])
-          ∙ ap (λ ss. body_registers old_registers (front_count S ∷ p) 0 (inner S) ++ ss)
-          (output_registers_are old_registers (front_count S ∷ p) (0 + length (instances (inner S))) (end_is S).last (end_is S).is_output)
-          ∙ append-nil (body_registers old_registers (front_count S ∷ p) 0 (inner S))
+          registers_are S.d (rank S) (rank_is S) n (prefix_count S ∷ p) S.target.symbol target_low
+          ∙ ap (λ x. body_registers old_registers (prefix_count S ∷ p) 0 (body_of x)) S.is_found
+          ∙ ap (body_registers old_registers (prefix_count S ∷ p) 0) (end_is S).body_is
+          ∙ registers-append old_registers (prefix_count S ∷ p) 0 (inner S) ((end_is S).last ∷ [])
+          ∙ ap (λ ss. body_registers old_registers (prefix_count S ∷ p) 0 (inner S) ++ ss)
+          (output_registers_are old_registers (prefix_count S ∷ p) (0 + length (instances (inner S))) (end_is S).last (end_is S).is_output)
+          ∙ append-nil (body_registers old_registers (prefix_count S ∷ p) 0 (inner S))
         where
           target_low : rank S S.target.symbol ≤ n
           target_low = let lower : rank S S.target.symbol < rank S s = target_lower S s is_md in omega arith
 
-      old_parts : body_registers old_registers p 0 (S.front ++ (S.o ∷ S.back)) ≡ body_registers old_registers p 0 S.front
-          ++ (body_registers old_registers (front_count S ∷ p) 0 (inner S) ++ body_registers old_registers p (suc (front_count S)) S.back)
+      old_parts : body_registers old_registers p 0 (S.prefix ++ (S.o ∷ S.back)) ≡ body_registers old_registers p 0 S.prefix
+          ++ (body_registers old_registers (prefix_count S ∷ p) 0 (inner S) ++ body_registers old_registers p (suc (prefix_count S)) S.back)
       old_parts =
-          registers-append old_registers p 0 S.front (S.o ∷ S.back)
-          ∙ ap (λ u. body_registers old_registers p 0 S.front ++ body_registers old_registers p u (S.o ∷ S.back)) (zero-add (front_count S))
-          ∙ ap (λ ss. body_registers old_registers p 0 S.front ++ ss)
+          registers-append old_registers p 0 S.prefix (S.o ∷ S.back)
+          ∙ ap (λ u. body_registers old_registers p 0 S.prefix ++ body_registers old_registers p u (S.o ∷ S.back)) (zero-add (prefix_count S))
+          ∙ ap (λ ss. body_registers old_registers p 0 S.prefix ++ ss)
           (ap₂ (λ ss u. ss ++ body_registers old_registers p u S.back)
-          (instance_registers_are old_registers p (front_count S) S.o S.target S.is_instance ∙ target_registers)
-          (ap (λ x. cond (is_some x) (suc (front_count S)) (front_count S)) S.is_instance))
+          (instance_registers_are old_registers p (prefix_count S) S.o S.target S.is_instance ∙ target_registers)
+          (ap (λ x. cond (is_some x) (suc (prefix_count S)) (prefix_count S)) S.is_instance))
 
       inlined_come : module_at S.e top q ≡ Some (new_module S)
           → SlotsCome S top (body_registers new_registers q 0 (body_of (module_at S.e top q))) (body_registers old_registers p 0 (body_of (module_at S.d top p)))
@@ -204,8 +203,8 @@ module _ (S : Inlining) (top : Name) where
           subst₂ (SlotsCome S top)
           (sym (ap (λ x. body_registers new_registers q 0 (body_of x)) is_new ∙ new_parts))
           (sym (ap (body_registers old_registers p 0) (old_body S top p was) ∙ old_parts))
-          (slots_append S top (body_registers new_registers q 0 (new_front S)) (body_registers old_registers p 0 S.front) _ _ front_come
-          (slots_append S top (body_registers new_registers q (front_count S) (new_inner S)) (body_registers old_registers (front_count S ∷ p) 0 (inner S)) _ _ inner_come back_come))
+          (slots_append S top (body_registers new_registers q 0 (new_prefix S)) (body_registers old_registers p 0 S.prefix) _ _ prefix_come
+          (slots_append S top (body_registers new_registers q (prefix_count S) (new_inner S)) (body_registers old_registers (prefix_count S ∷ p) 0 (inner S)) _ _ inner_come back_come))
 
     view_come : (p : Path) (x : View S top q p) → module_at S.d top p ≡ find_module S.d s
         → ((r : Ref) → origin S top (net q r) ≡ origin_in S top q p x r) → ((u : ℕ) → home_of S top (u ∷ q) ≡ next_path S top q p x u)

@@ -22,19 +22,19 @@ choose_through h f g (in_second j) = refl
 
 -- ---- sides
 
-pub side_front : (n j : ℕ) → j < n → side n j ≡ in_first j
-side_front zero j below = absurd (omega arith)
-side_front (suc n) zero below = refl
-side_front (suc n) (suc j) below = ap next_side (side_front n j (omega arith))
+pub side_prefix : (n j : ℕ) → j < n → side n j ≡ in_first j
+side_prefix zero j below = absurd (omega arith)
+side_prefix (suc n) zero below = refl
+side_prefix (suc n) (suc j) below = ap next_side (side_prefix n j (omega arith))
 
 pub side_back : (n j : ℕ) → side n (n + j) ≡ in_second j
 side_back zero j = ap in_second (zero-add j)
 side_back (suc n) j = let e : suc n + j ≡ suc (n + j) = omega arith in ap (side (suc n)) e ∙ ap next_side (side_back n j)
 
-pub from_front : (n j x : ℕ) → side n j ≡ in_first x → (x ≡ j) × (j < n)
-from_front zero j x is = cc
-from_front (suc n) zero x is = let e : zero ≡ x = cc in (omega arith, omega arith)
-from_front (suc n) (suc j) x is = go (side n j) (λ y here. from_front n j y here) is
+pub from_prefix : (n j x : ℕ) → side n j ≡ in_first x → (x ≡ j) × (j < n)
+from_prefix zero j x is = cc
+from_prefix (suc n) zero x is = let e : zero ≡ x = cc in (omega arith, omega arith)
+from_prefix (suc n) (suc j) x is = go (side n j) (λ y here. from_prefix n j y here) is
   where
     go : (s : Side) → ((y : ℕ) → s ≡ in_first y → (y ≡ j) × (j < n)) → next_side s ≡ in_first x → (x ≡ suc j) × (suc j < suc n)
     go (in_first y) rest e =

@@ -1,6 +1,5 @@
 -- Where the value of an operation's result comes from, by what the operation is to its module.
-use Rattle.std.proofs.Common.{◌≡◌, ℕ, ◌+◌, ◌∷◌, length, take, slice_get, is_some, true, false, Some, None, sym, ap, ◌∙◌}
-use Rattle.wiring.specs.Options.{bind}
+use Rattle.std.proofs.Common.{◌≡◌, ℕ, ◌+◌, ◌∷◌, length, take, slice_get, is_some, true, false, Some, None, sym, ap, ◌∙◌, option_and_then}
 use Rattle.hw_model.specs.Types.{Name}
 use Rattle.hw_model.specs.Kinds.{Instance}
 use Rattle.hw_model.specs.Design.{Op, Design, RegisterForm, instance_in, register_form, is_output_kind, result_type, output_refs, callee}
@@ -15,7 +14,7 @@ use Rattle.hw_model.proofs.NetWidths.{chosen_instance}
 module _ (d : Design) (top : Name) (p : Path) where
   -- the module that an instance leads to
   pub inside_number : (u : ℕ) (o : Op) → slice_get (instances (body_of (module_at d top p))) u ≡ Some o → module_at d top (u ∷ p) ≡ callee d o
-  inside_number u o is = module_inside d u (module_at d top p) ∙ ap (λ x. bind x (callee d)) is
+  inside_number u o is = module_inside d u (module_at d top p) ∙ ap (λ x. option_and_then (callee d) x) is
 
   pub missing_source : (j k : ℕ) → slice_get (body_of (module_at d top p)) j ≡ None → source d top (net p (result j k)) ≡ nowhere
   missing_source j k is = result_here d top p j k ∙ ap (result_in d top p (body_of (module_at d top p)) j k) is

@@ -1,35 +1,34 @@
 -- Types fit in the new design.
-use Rattle.std.proofs.Common.{◌≡◌, ◌⊎◌, ℕ, zero, suc, ◌+◌, ◌<◌, List, [], ◌∷◌, ◌++◌, length, map, take, slice_get, Bool, true, false, cond, Option, Some, None, refl, sym, ap, ap₂, subst, ◌∙◌, inl, inr}
+use Rattle.std.proofs.Common.{◌≡◌, ◌⊎◌, ℕ, zero, suc, ◌+◌, ◌<◌, List, [], ◌∷◌, ◌++◌, length, map, take, slice_get, Bool, true, false, cond, Option, Some, None, refl, sym, ap, ap₂, subst, ◌∙◌, inl, inr, option_and_then, option_map}
 use Rattle.std.proofs.lemmas.List.{length-map}
-use Rattle.wiring.specs.Options.{bind, omap}
 use Rattle.wiring.specs.Wiring.{In}
 use Rattle.wiring.proofs.Lists.{map-map, slice_get-append_at, slice_get-append_right}
 use Rattle.wiring.proofs.Members.{In-slice_get, position_of_In, In-append_cases, In-append_left, In-append_right, from_In-map, map_same}
-use Rattle.wiring.proofs.Options.{omap_some}
+use Rattle.wiring.proofs.Options.{option_map_some}
 use Rattle.hw_model.specs.Types.{Name, HwType}
 use Rattle.hw_model.specs.Kinds.{Kind, Instance}
-use Rattle.hw_model.specs.Kinds.Kind.{variadic, sub, division, shift, icmp, parity, extract, concat, replicate, mux, constant, aggregate_constant, on_array, on_struct, bitcast, wire, instance, output, register, async_firreg}
+use Rattle.hw_model.specs.Kinds.Kind.{instance, output}
 use Rattle.hw_model.specs.Design.{instance_in, Ref, Port, OpResult, Op, Module, find_module, is_output_kind, result_type, output_refs}
 use Rattle.hw_model.specs.Design.Ref.{port, result, undefined}
 use Rattle.hw_model.specs.Flat.{input_count, operand_for}
 use Rattle.hw_model.specs.Sound.{input_types, output_types, input_type, type_in, Fits, OpFits, InstanceFits, SoundBody, Sound}
 use Rattle.hw_model.proofs.NetWidths.{input_found, typed_at}
-use Rattle.hw_edits.specs.Edit.{retarget}
+use Rattle.edit_laws.specs.Edit.{retarget}
 use Rattle.inline_laws.specs.Inline.{Side, side, wire_count, moved_count, outer_result, inner_result, wire_result, wire_op, ref_or_undefined}
 use Rattle.inline_laws.specs.Inline.Side.{in_first, in_second}
-use Rattle.inline_laws.proofs.Sides.{side_front, side_back, from_front, from_back}
-use Rattle.inline_laws.proofs.Parts.{get_front, get_back}
+use Rattle.inline_laws.proofs.Sides.{side_prefix, side_back, from_prefix, from_back}
+use Rattle.inline_laws.proofs.Parts.{get_prefix, get_back}
 use Rattle.inline_laws.proofs.Moved.{IsMoved, Matches, moved_type, moved_kind, moved_some, moved_back, moved_retarget, moved_renamed, get_moved}
 use Rattle.inline_laws.proofs.Moved.Matches.{missing, matched}
 use Rattle.inline_laws.proofs.Ends.{wires_length, get_wire}
-use Rattle.inline_laws.proofs.Inlining.{Finds, Inlining, place, inner, outer_stand, inner_stand, new_front, new_wires, new_inner, new_back, new_body, new_module, end_is}
+use Rattle.inline_laws.proofs.Inlining.{Finds, Inlining, place, inner, outer_stand, inner_stand, new_prefix, new_wires, new_inner, new_back, new_body, new_module, end_is}
 use Rattle.inline_laws.proofs.Inlining.Finds.{changed, unchanged}
 use Rattle.inline_laws.proofs.Origins.{typed_within, c_sound, operands_fit, given_types}
 use Rattle.inline_laws.proofs.Comes.{new_outputs}
 
 -- the type of a result of an operation that may be there
 abbrev pub type_of_result : ℕ → Option Op → Option HwType
-type_of_result k x = bind x (λ (o : Op). result_type o k)
+type_of_result k x = option_and_then (λ (o : Op). result_type o k) x
 
 matches_type : (f : Ref → Ref) (x x' : Option Op) → Matches f x x' → (k : ℕ) → type_of_result k x' ≡ type_of_result k x
 matches_type f x x' (missing was now) k = ap (type_of_result k) now ∙ sym (ap (type_of_result k) was)
@@ -48,25 +47,7 @@ module _ (f : Ref → Ref) (old_type new_type : Ref → Option HwType) (keeps : 
 
       instance_fits : (kind : Kind) (x : Instance) → instance_in kind ≡ Some x → Fits kind y'.types (map new_type y'.operands) t k
       instance_fits (instance x) z is = tt
-      instance_fits (variadic v) z is = cc
-      instance_fits sub z is = cc
-      instance_fits (division d) z is = cc
-      instance_fits (shift s) z is = cc
-      instance_fits (icmp p) z is = cc
-      instance_fits parity z is = cc
-      instance_fits (extract low) z is = cc
-      instance_fits concat z is = cc
-      instance_fits replicate z is = cc
-      instance_fits mux z is = cc
-      instance_fits (constant n) z is = cc
-      instance_fits (aggregate_constant ls) z is = cc
-      instance_fits (on_array a) z is = cc
-      instance_fits (on_struct s) z is = cc
-      instance_fits bitcast z is = cc
-      instance_fits wire z is = cc
-      instance_fits output z is = cc
-      instance_fits (register g r) z is = cc
-      instance_fits async_firreg z is = cc
+      instance_fits _ z is = cc
 
       go : (x : Option Instance) → instance_in y.kind ≡ x → Fits y'.kind y'.types (map new_type y'.operands) t k
       go None none =
@@ -100,33 +81,33 @@ module _ (S : Inlining) where
 
   -- ---- what stands where in the new body
 
-  pub front_at : (x : ℕ) → x < place S → slice_get (new_body S) x ≡ slice_get (new_front S) x
-  front_at x below =
-      get_front (new_front S) (new_wires S ++ (new_inner S ++ new_back S)) x x
-      (ap (λ n. side n x) (length-map S.front (retarget (outer_stand S))) ∙ side_front (place S) x below)
+  pub prefix_at : (x : ℕ) → x < place S → slice_get (new_body S) x ≡ slice_get (new_prefix S) x
+  prefix_at x below =
+      get_prefix (new_prefix S) (new_wires S ++ (new_inner S ++ new_back S)) x x
+      (ap (λ n. side n x) (length-map S.prefix (retarget (outer_stand S))) ∙ side_prefix (place S) x below)
 
   past_at : (y : ℕ) → slice_get (new_body S) (place S + y) ≡ slice_get (new_wires S ++ (new_inner S ++ new_back S)) y
   past_at y =
-      get_back (new_front S) (new_wires S ++ (new_inner S ++ new_back S)) (place S + y) y
-      (ap (λ n. side n (place S + y)) (length-map S.front (retarget (outer_stand S))) ∙ side_back (place S) y)
+      get_back (new_prefix S) (new_wires S ++ (new_inner S ++ new_back S)) (place S + y) y
+      (ap (λ n. side n (place S + y)) (length-map S.prefix (retarget (outer_stand S))) ∙ side_back (place S) y)
 
   pub wire_at : (w : ℕ) → w < wire_count S.o → slice_get (new_body S) (place S + w) ≡ slice_get (new_wires S) w
   wire_at w below =
       past_at w
-      ∙ get_front (new_wires S) (new_inner S ++ new_back S) w w
-      (ap (λ n. side n w) (wires_length S.o.place (inner_stand S) S.o.results (output_refs S.c.body)) ∙ side_front (wire_count S.o) w below)
+      ∙ get_prefix (new_wires S) (new_inner S ++ new_back S) w w
+      (ap (λ n. side n w) (wires_length S.o.location (inner_stand S) S.o.results (output_refs S.c.body)) ∙ side_prefix (wire_count S.o) w below)
 
   beyond_at : (z : ℕ) → slice_get (new_body S) (place S + (wire_count S.o + z)) ≡ slice_get (new_inner S ++ new_back S) z
   beyond_at z =
       past_at (wire_count S.o + z)
       ∙ get_back (new_wires S) (new_inner S ++ new_back S) (wire_count S.o + z) z
-      (ap (λ n. side n (wire_count S.o + z)) (wires_length S.o.place (inner_stand S) S.o.results (output_refs S.c.body)) ∙ side_back (wire_count S.o) z)
+      (ap (λ n. side n (wire_count S.o + z)) (wires_length S.o.location (inner_stand S) S.o.results (output_refs S.c.body)) ∙ side_back (wire_count S.o) z)
 
   pub inner_at : (x : ℕ) → x < moved_count S.c → slice_get (new_body S) (place S + (wire_count S.o + x)) ≡ slice_get (new_inner S) x
   inner_at x below =
       beyond_at x
-      ∙ get_front (new_inner S) (new_back S) x x
-      (ap (λ n. side n x) (length-map (inner S) (λ (y : Op). S.rename (retarget (inner_stand S) y))) ∙ side_front (moved_count S.c) x below)
+      ∙ get_prefix (new_inner S) (new_back S) x x
+      (ap (λ n. side n x) (length-map (inner S) (λ (y : Op). S.rename (retarget (inner_stand S) y))) ∙ side_prefix (moved_count S.c) x below)
 
   pub back_at : (x : ℕ) → slice_get (new_body S) (place S + (wire_count S.o + (moved_count S.c + x))) ≡ slice_get (new_back S) x
   back_at x =
@@ -149,8 +130,8 @@ module _ (S : Inlining) where
     -- what the module gives to the output of a wire
     given_output : (w : ℕ) (z : OpResult) → slice_get S.o.results w ≡ Some z → (r : Ref) × (slice_get (output_refs S.c.body) w ≡ Some r) × (c_type r ≡ Some z.type)
     given_output w z typed =
-        omap_some c_type (slice_get (output_refs S.c.body) w)
-        (given_types S sound w ∙ ap (λ t. omap (λ (u : HwType). Some u) (omap (λ (r : OpResult). r.type) t)) typed)
+        option_map_some c_type (slice_get (output_refs S.c.body) w)
+        (given_types S sound w ∙ ap (λ t. option_map (λ (u : HwType). Some u) (option_map (λ (r : OpResult). r.type) t)) typed)
 
     pub outer_type : (r : Ref) → new_type (outer_stand S r) ≡ old_type r
     outer_type (port j) = refl
@@ -158,22 +139,22 @@ module _ (S : Inlining) where
     outer_type (result j k) = go (side (place S) j) refl
       where
         old_at : (n : ℕ) → j ≡ place S + n → slice_get S.md.body j ≡ slice_get (S.o ∷ S.back) n
-        old_at n is = ap₂ (λ os m. slice_get os m) S.body_is is ∙ slice_get-append_right S.front (S.o ∷ S.back) n
+        old_at n is = ap₂ (λ os m. slice_get os m) S.body_is is ∙ slice_get-append_right S.prefix (S.o ∷ S.back) n
 
         by_type : (t : Option HwType) → result_type S.o k ≡ t → new_type (wire_result (place S) k t) ≡ t
         by_type None none = refl
         by_type (Some t) typed =
-            let found = omap_some (λ (r : OpResult). r.type) (slice_get S.o.results k) typed in
-            ap (type_of_result 0) (wire_at k (typed_within S.o k t typed) ∙ get_wire S.o.place (inner_stand S) S.o.results (output_refs S.c.body) k)
-            ∙ ap (λ x. type_of_result 0 (omap (λ (z : OpResult). wire_op S.o.place z.type (ref_or_undefined (omap (inner_stand S) (slice_get (output_refs S.c.body) k)))) x)) found.1
+            let found = option_map_some (λ (r : OpResult). r.type) (slice_get S.o.results k) typed in
+            ap (type_of_result 0) (wire_at k (typed_within S.o k t typed) ∙ get_wire S.o.location (inner_stand S) S.o.results (output_refs S.c.body) k)
+            ∙ ap (λ x. type_of_result 0 (option_map (λ (z : OpResult). wire_op S.o.location z.type (ref_or_undefined (option_map (inner_stand S) (slice_get (output_refs S.c.body) k)))) x)) found.1
             ∙ ap Some found.2
 
         go : (s : Side) → side (place S) j ≡ s → new_type (outer_result (place S) S.o S.c k s) ≡ old_type (result j k)
         go (in_first x) is =
-            let from = from_front (place S) j x is in
-            ap (type_of_result k) (front_at x (subst (λ n. n < place S) (sym from.0) from.1))
-            ∙ matches_type (outer_stand S) (slice_get S.front x) (slice_get (new_front S) x) (get_moved (outer_stand S) (retarget (outer_stand S)) (moved_retarget (outer_stand S)) S.front x) k
-            ∙ ap (type_of_result k) (sym (ap (λ os. slice_get os j) S.body_is ∙ get_front S.front (S.o ∷ S.back) j x is))
+            let from = from_prefix (place S) j x is in
+            ap (type_of_result k) (prefix_at x (subst (λ n. n < place S) (sym from.0) from.1))
+            ∙ matches_type (outer_stand S) (slice_get S.prefix x) (slice_get (new_prefix S) x) (get_moved (outer_stand S) (retarget (outer_stand S)) (moved_retarget (outer_stand S)) S.prefix x) k
+            ∙ ap (type_of_result k) (sym (ap (λ os. slice_get os j) S.body_is ∙ get_prefix S.prefix (S.o ∷ S.back) j x is))
         go (in_second zero) is = by_type (result_type S.o k) refl ∙ sym (ap (type_of_result k) (old_at 0 (from_back (place S) j 0 is)))
         go (in_second (suc x)) is =
             ap (type_of_result k) (back_at x)
@@ -202,13 +183,13 @@ module _ (S : Inlining) where
     inner_type (port j) = go (slice_get S.c.ports j) refl
       where
         by_way : (q : Port) → slice_get S.c.ports j ≡ Some q → (b : Bool) → q.is_output ≡ b
-            → new_type (ref_or_undefined (omap (outer_stand S) (cond b None (slice_get S.o.operands (input_count (take j S.c.ports)))))) ≡ cond b None (Some q.type)
+            → new_type (ref_or_undefined (option_map (outer_stand S) (cond b None (slice_get S.o.operands (input_count (take j S.c.ports)))))) ≡ cond b None (Some q.type)
         by_way q is true way = refl
         by_way q is false way =
             let found = typed_at old_type S.o.operands (input_types S.c.ports) (input_count (take j S.c.ports)) q.type (operands_fit S sound) (input_found S.c.ports j q is way) in
-            ap (λ x. new_type (ref_or_undefined (omap (outer_stand S) x))) found.1 ∙ outer_type found.0 ∙ found.2
+            ap (λ x. new_type (ref_or_undefined (option_map (outer_stand S) x))) found.1 ∙ outer_type found.0 ∙ found.2
 
-        go : (x : Option Port) → slice_get S.c.ports j ≡ x → new_type (ref_or_undefined (omap (outer_stand S) (operand_for x S.o.operands (input_count (take j S.c.ports))))) ≡ input_type x
+        go : (x : Option Port) → slice_get S.c.ports j ≡ x → new_type (ref_or_undefined (option_map (outer_stand S) (operand_for x S.o.operands (input_count (take j S.c.ports))))) ≡ input_type x
         go None is = refl
         go (Some q) is = by_way q is q.is_output refl
     inner_type (result j k) = go (side (moved_count S.c) j) refl
@@ -222,11 +203,11 @@ module _ (S : Inlining) where
 
         go : (s : Side) → side (moved_count S.c) j ≡ s → new_type (inner_result (place S) S.o k s) ≡ c_type (result j k)
         go (in_first x) is =
-            let from = from_front (moved_count S.c) j x is in
+            let from = from_prefix (moved_count S.c) j x is in
             ap (type_of_result k) (inner_at x (subst (λ n. n < moved_count S.c) (sym from.0) from.1))
             ∙ matches_type (inner_stand S) (slice_get (inner S) x) (slice_get (new_inner S) x)
             (get_moved (inner_stand S) (λ (y : Op). S.rename (retarget (inner_stand S) y)) (moved_renamed S.rename S.only (inner_stand S)) (inner S) x) k
-            ∙ ap (type_of_result k) (sym (ap (λ os. slice_get os j) (end_is S).body_is ∙ get_front (inner S) ((end_is S).last ∷ []) j x is))
+            ∙ ap (type_of_result k) (sym (ap (λ os. slice_get os j) (end_is S).body_is ∙ get_prefix (inner S) ((end_is S).last ∷ []) j x is))
         go (in_second y) is = sym (ap (type_of_result k) (end_at y (from_back (moved_count S.c) j y is)) ∙ past_end y)
 
     -- an operation that is moved is one of its module
@@ -236,9 +217,9 @@ module _ (S : Inlining) where
     -- what holds of the wires and of operations of both bodies with other operands holds of each operation of the new body
     pub each_op : (P : Op → Type 0) → ((y : Op) → In y S.md.body → P (retarget (outer_stand S) y)) → ((y : Op) → In y (new_wires S) → P y)
         → ((y : Op) → In y (inner S) → P (S.rename (retarget (inner_stand S) y))) → (z : Op) → In z (new_body S) → P z
-    each_op P outside wires within z here = go (In-append_cases z (new_front S) (new_wires S ++ (new_inner S ++ new_back S)) here)
+    each_op P outside wires within z here = go (In-append_cases z (new_prefix S) (new_wires S ++ (new_inner S ++ new_back S)) here)
       where
-        in_old : (y : Op) → In y (S.front ++ (S.o ∷ S.back)) → In y S.md.body
+        in_old : (y : Op) → In y (S.prefix ++ (S.o ∷ S.back)) → In y S.md.body
         in_old y there = subst (λ os. In y os) (sym S.body_is) there
 
         last_two : In z (new_inner S) ⊎ In z (new_back S) → P z
@@ -247,27 +228,27 @@ module _ (S : Inlining) where
             subst P (sym from.2) (within from.0 from.1)
         last_two (inr there) =
             let from = from_In-map (retarget (outer_stand S)) z S.back there in
-            subst P (sym from.2) (outside from.0 (in_old from.0 (In-append_right from.0 S.front (S.o ∷ S.back) (inr from.1))))
+            subst P (sym from.2) (outside from.0 (in_old from.0 (In-append_right from.0 S.prefix (S.o ∷ S.back) (inr from.1))))
 
         last_three : In z (new_wires S) ⊎ In z (new_inner S ++ new_back S) → P z
         last_three (inl there) = wires z there
         last_three (inr there) = last_two (In-append_cases z (new_inner S) (new_back S) there)
 
-        go : In z (new_front S) ⊎ In z (new_wires S ++ (new_inner S ++ new_back S)) → P z
+        go : In z (new_prefix S) ⊎ In z (new_wires S ++ (new_inner S ++ new_back S)) → P z
         go (inl there) =
-            let from = from_In-map (retarget (outer_stand S)) z S.front there in
-            subst P (sym from.2) (outside from.0 (in_old from.0 (In-append_left from.0 S.front (S.o ∷ S.back) from.1)))
+            let from = from_In-map (retarget (outer_stand S)) z S.prefix there in
+            subst P (sym from.2) (outside from.0 (in_old from.0 (In-append_left from.0 S.prefix (S.o ∷ S.back) from.1)))
         go (inr there) = last_three (In-append_cases z (new_wires S) (new_inner S ++ new_back S) there)
 
-    pub wire_found : (y : Op) → In y (new_wires S) → (t : HwType) × (r : Ref) × (y ≡ wire_op S.o.place t (inner_stand S r)) × (c_type r ≡ Some t)
+    pub wire_found : (y : Op) → In y (new_wires S) → (t : HwType) × (r : Ref) × (y ≡ wire_op S.o.location t (inner_stand S r)) × (c_type r ≡ Some t)
     wire_found y here =
         let at = position_of_In y (new_wires S) here in
-        let from = omap_some (λ (z : OpResult). wire_op S.o.place z.type (ref_or_undefined (omap (inner_stand S) (slice_get (output_refs S.c.body) at.0)))) (slice_get S.o.results at.0)
-        (sym (get_wire S.o.place (inner_stand S) S.o.results (output_refs S.c.body) at.0) ∙ at.1) in
+        let from = option_map_some (λ (z : OpResult). wire_op S.o.location z.type (ref_or_undefined (option_map (inner_stand S) (slice_get (output_refs S.c.body) at.0)))) (slice_get S.o.results at.0)
+        (sym (get_wire S.o.location (inner_stand S) S.o.results (output_refs S.c.body) at.0) ∙ at.1) in
         let gives = given_output at.0 from.0 from.1 in
-        (from.0.type, gives.0, sym from.2 ∙ ap (λ x. wire_op S.o.place from.0.type (ref_or_undefined (omap (inner_stand S) x))) gives.1, gives.2)
+        (from.0.type, gives.0, sym from.2 ∙ ap (λ x. wire_op S.o.location from.0.type (ref_or_undefined (option_map (inner_stand S) x))) gives.1, gives.2)
 
-    wire_fits : (t : HwType) (r : Ref) → c_type r ≡ Some t → OpFits new_type (wire_op S.o.place t (inner_stand S r))
+    wire_fits : (t : HwType) (r : Ref) → c_type r ≡ Some t → OpFits new_type (wire_op S.o.location t (inner_stand S r))
     wire_fits t r typed zero u is = let same : t ≡ u = cc in ap (λ x. x ∷ []) (inner_type r ∙ typed ∙ ap Some same)
     wire_fits t r typed (suc k) u is = let clash : None ≡ Some u = is in cc
 

@@ -1,8 +1,7 @@
 -- A wire is taken out, its operand standing for its result: the design follows.
-use Rattle.std.proofs.Common.{◌≡◌, ◌⊎◌, ℕ, zero, suc, List, [], ◌∷◌, map, slice_get, false, Option, Some, None, refl, sym, ap, ap₂, subst, ◌∙◌, inl, inr, arith, length-set}
+use Rattle.std.proofs.Common.{◌≡◌, ◌⊎◌, ℕ, zero, suc, List, [], ◌∷◌, map, slice_get, false, Option, Some, None, refl, sym, ap, ap₂, subst, ◌∙◌, inl, inr, arith, length-set, option_and_then}
 use Rattle.std.proofs.lemmas.Option.{slice_get-map}
 use mathlib.Core.Path.{subst₂}
-use Rattle.wiring.specs.Options.{bind}
 use Rattle.wiring.proofs.Lists.{map-map}
 use Rattle.wiring.specs.Wiring.{greatest}
 use Rattle.hw_model.specs.Types.{Name, HwType}
@@ -11,14 +10,14 @@ use Rattle.hw_model.specs.Design.Ref.{result}
 use Rattle.hw_model.specs.Value.{op_value}
 use Rattle.hw_model.specs.Flat.{net, Slot, registers}
 use Rattle.hw_model.specs.Sound.{body_of, type_in, Fits, SoundBody}
-use Rattle.hw_edits.specs.Edit.{is_anchor}
-use Rattle.hw_edits.specs.Falls.{LocalHeight}
-use Rattle.hw_edits.specs.Follows.{SameEdit, Valid, Follows}
-use Rattle.hw_edits.specs.Laws.{erase_op, with_body, IsNotOf, Erased}
-use Rattle.hw_edits.proofs.Edited.{edit_slot, registers_same}
-use Rattle.hw_edits.proofs.Follows.{no_same_edit, follows_each, set_each}
-use Rattle.hw_edits.proofs.Heights.{local_height}
-use Rattle.hw_edits.proofs.TakeOut.{take_out_same}
+use Rattle.edit_laws.specs.Edit.{is_anchor}
+use Rattle.edit_laws.specs.Falls.{LocalHeight}
+use Rattle.edit_laws.specs.Follows.{SameEdit, Valid, Follows}
+use Rattle.edit_laws.specs.Laws.{erase_op, with_body, IsNotOf, Erased}
+use Rattle.edit_laws.proofs.Edited.{edit_slot, registers_same}
+use Rattle.edit_laws.proofs.Follows.{no_same_edit, follows_each, set_each}
+use Rattle.edit_laws.proofs.Heights.{local_height}
+use Rattle.edit_laws.proofs.TakeOut.{take_out_same}
 use Rattle.inline_laws.specs.Unwire.{IsWireAt}
 
 module _ (md : Module) (i : ℕ) (o : Op) (t : HwType) (x : Ref) (is : IsWireAt md.body i o t x) where
@@ -43,7 +42,7 @@ module _ (md : Module) (i : ℕ) (o : Op) (t : HwType) (x : Ref) (is : IsWireAt 
         cc
 
     other_operand : IsNotOf i x
-    other_operand k same = go k (sym operand_type ∙ ap (type_in md.ports md.body) same ∙ ap (λ y. bind y (λ (z : Op). result_type z k)) is.there ∙ wire_types k) same
+    other_operand k same = go k (sym operand_type ∙ ap (type_in md.ports md.body) same ∙ ap (λ y. option_and_then (λ (z : Op). result_type z k) y) is.there ∙ wire_types k) same
       where
         go : (k : ℕ) → Some t ≡ slice_get (t ∷ []) k → x ≡ result i k → ⊥
         go zero typed itself =

@@ -13,16 +13,16 @@ use Rattle.hw_model.specs.Hierarchy.{callee_symbols, called_by, calls, HasNoRecu
 use Rattle.hw_model.specs.Weight.{leaf_count, kind_weight, body_weight, weight_of, module_weight, weight}
 use Rattle.hw_model.specs.Sound.{body_of}
 use Rattle.hw_model.proofs.Content.{call_heights}
-use Rattle.hw_edits.specs.Edit.{retarget}
-use Rattle.hw_edits.specs.Laws.{with_body}
-use Rattle.hw_edits.proofs.Follows.{set_each}
-use Rattle.hw_edits.proofs.Weights.{op_weight, weight-retarget}
+use Rattle.edit_laws.specs.Edit.{retarget}
+use Rattle.edit_laws.specs.Laws.{with_body}
+use Rattle.edit_laws.proofs.Follows.{set_each}
+use Rattle.edit_laws.proofs.Weights.{op_weight, weight-retarget}
 use Rattle.inline_laws.specs.Inline.{before_output, outer_ref, inner_ref, inlined_ops, RenamesOnly, IsInlined}
 use Rattle.inline_laws.specs.Unwire.{inline_without_wires}
 use Rattle.inline_laws.proofs.Moved.{IsMoved, by_kind, moved_renamed}
 use Rattle.inline_laws.proofs.Ends.{Ended, end_of}
 use Rattle.inline_laws.proofs.Inlining.{rank_within}
-use Rattle.inline_laws.proofs.WithoutWires.{Others, front_part, back_part, without_wires}
+use Rattle.inline_laws.proofs.WithoutWires.{Others, prefix_part, back_part, without_wires}
 use Rattle.inline_laws.proofs.Instances.{called_before, called_after}
 
 -- ---- the weight of a module does not depend on the depth
@@ -106,10 +106,10 @@ module _ (d : Design) (md : Module) (i : ℕ) (o : Op) (c : Module) (rename : Op
   -- the new body is lighter where the module of the instance has its weight
   body_lighter : (inner : Name → ℕ) → weight_of inner (Some c) ≤ inner is.target.symbol → body_weight inner now_body ≤ body_weight inner md.body
   body_lighter inner heavy =
-      let others : Others (front_part d md i o c rename is) (back_part d md i o c rename is) now_body = without_wires d md i o c rename is in
+      let others : Others (prefix_part d md i o c rename is) (back_part d md i o c rename is) now_body = without_wires d md i o c rename is in
       let end : Ended c.body = end_of c.body is.ends in
-      let first : body_weight inner (map (retarget others.stand) (front_part d md i o c rename is)) ≡ body_weight inner (take i md.body) =
-      weight-retarget inner others.stand (front_part d md i o c rename is) ∙ weight-retarget inner (outer_ref i o c) (take i md.body) in
+      let first : body_weight inner (map (retarget others.stand) (prefix_part d md i o c rename is)) ≡ body_weight inner (take i md.body) =
+      weight-retarget inner others.stand (prefix_part d md i o c rename is) ∙ weight-retarget inner (outer_ref i o c) (take i md.body) in
       let moved : body_weight inner (inlined_ops rename i o c) ≡ body_weight inner (before_output c.body) =
       weight_moved inner (inner_ref i o c) (λ (y : Op). rename (retarget (inner_ref i o c) y)) (moved_renamed rename only (inner_ref i o c)) (before_output c.body) in
       let last : body_weight inner (map (retarget others.stand) (back_part d md i o c rename is)) ≡ body_weight inner (before_output c.body) + body_weight inner (drop (suc i) md.body) =
@@ -118,7 +118,7 @@ module _ (d : Design) (md : Module) (i : ℕ) (o : Op) (c : Module) (rename : Op
       ∙ ap₂ (λ a b. a + b) moved (weight-retarget inner (outer_ref i o c) (drop (suc i) md.body)) in
       let new : body_weight inner now_body ≡ body_weight inner (take i md.body) + (body_weight inner (before_output c.body) + body_weight inner (drop (suc i) md.body)) =
       ap (body_weight inner) others.body_is
-      ∙ weight_append inner (map (retarget others.stand) (front_part d md i o c rename is)) (map (retarget others.stand) (back_part d md i o c rename is))
+      ∙ weight_append inner (map (retarget others.stand) (prefix_part d md i o c rename is)) (map (retarget others.stand) (back_part d md i o c rename is))
       ∙ ap₂ (λ a b. a + b) first last in
       let old : body_weight inner md.body ≡ body_weight inner (take i md.body) + (op_weight inner o + body_weight inner (drop (suc i) md.body)) =
       ap (body_weight inner) (split_at md.body i o is.there) ∙ weight_append inner (take i md.body) (o ∷ drop (suc i) md.body) in
@@ -165,13 +165,13 @@ module _ (d : Design) (md : Module) (i : ℕ) (o : Op) (c : Module) (rename : Op
         by_part was (inr there) =
             old_called was (In-append_right t (callee_symbols (take i md.body)) (is.target.symbol ∷ callee_symbols (drop (suc i) md.body)) (inr there))
 
-        by_front : find_module d s ≡ Some md → In t (callee_symbols (take i md.body)) ⊎ In t (callee_symbols c.body ++ callee_symbols (drop (suc i) md.body)) → rank t < rank s
-        by_front was (inl there) = old_called was (In-append_left t (callee_symbols (take i md.body)) (is.target.symbol ∷ callee_symbols (drop (suc i) md.body)) there)
-        by_front was (inr there) = by_part was (In-append_cases t (callee_symbols c.body) (callee_symbols (drop (suc i) md.body)) there)
+        by_prefix : find_module d s ≡ Some md → In t (callee_symbols (take i md.body)) ⊎ In t (callee_symbols c.body ++ callee_symbols (drop (suc i) md.body)) → rank t < rank s
+        by_prefix was (inl there) = old_called was (In-append_left t (callee_symbols (take i md.body)) (is.target.symbol ∷ callee_symbols (drop (suc i) md.body)) there)
+        by_prefix was (inr there) = by_part was (In-append_cases t (callee_symbols c.body) (callee_symbols (drop (suc i) md.body)) there)
 
         go : Change (find_module d s) (find_module now s) → rank t < rank s
         go (inl (was, new)) =
-            by_front was (In-append_cases t (callee_symbols (take i md.body)) (callee_symbols c.body ++ callee_symbols (drop (suc i) md.body))
+            by_prefix was (In-append_cases t (callee_symbols (take i md.body)) (callee_symbols c.body ++ callee_symbols (drop (suc i) md.body))
             (subst (λ ts. In t ts) (called_after d md i o c rename only is) (subst (λ x. In t (callee_symbols (body_of x))) new here)))
         go (inr same) = lower_in_d s t (subst (λ x. In t (callee_symbols (body_of x))) same here)
 

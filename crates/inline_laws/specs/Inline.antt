@@ -1,14 +1,13 @@
 -- An instance becomes the body of its module (CIRCT, HW dialect: `hw-flatten-modules`). For each result of the instance a
 -- wire stands in its place (CIRCT, HW dialect: `hw.wire`), and then the operations of the module but its `hw.output`.
-use Rattle.std.specs.Prelude.{◌≡◌, ℕ, zero, suc, ◌+◌, true, false, cond, List, [], ◌∷◌, ◌++◌, map, take, drop, length, Option, Some, None, slice_get}
-use Rattle.wiring.specs.Options.{omap}
+use Rattle.std.specs.Prelude.{◌≡◌, ℕ, zero, suc, ◌+◌, true, false, cond, List, [], ◌∷◌, ◌++◌, map, take, drop, length, Option, Some, None, slice_get, option_map}
 use Rattle.hw_model.specs.Types.{HwType}
 use Rattle.hw_model.specs.Kinds.{Kind, Instance}
 use Rattle.hw_model.specs.Kinds.Kind.{wire, instance}
-use Rattle.hw_model.specs.Design.{Ref, OpResult, Op, Place, Module, Design, find_module, instance_in, is_output_op, result_type, output_refs}
+use Rattle.hw_model.specs.Design.{Ref, OpResult, Op, Location, Module, Design, find_module, instance_in, is_output_op, result_type, output_refs}
 use Rattle.hw_model.specs.Design.Ref.{port, result, undefined}
 use Rattle.hw_model.specs.Flat.{port_ref}
-use Rattle.hw_edits.specs.Edit.{retarget}
+use Rattle.edit_laws.specs.Edit.{retarget}
 
 -- ---- positions of joined lists
 
@@ -79,14 +78,14 @@ inner_result i o k (in_second j) = undefined
 
 -- a value of the module in the place of its instance o at position i; an input port is the instance's operand of that number
 abbrev pub inner_ref : ℕ → Op → Module → Ref → Ref
-inner_ref i o c (port j) = ref_or_undefined (omap (outer_ref i o c) (port_ref c.ports o.operands j))
+inner_ref i o c (port j) = ref_or_undefined (option_map (outer_ref i o c) (port_ref c.ports o.operands j))
 inner_ref i o c (result j k) = inner_result i o k (side (moved_count c) j)
 inner_ref i o c undefined = undefined
 
 -- ---- operations
 
 -- a wire without a name
-abbrev pub wire_op : Place → HwType → Ref → Op
+abbrev pub wire_op : Location → HwType → Ref → Op
 wire_op at t r = record {
   kind = wire;
   operands = r ∷ [];
@@ -96,11 +95,11 @@ wire_op at t r = record {
   name = [];
   dictionary = [];
   bin = false;
-  place = at;
+  location = at;
 }
 
 -- a wire for each of the results, from the value that `move` makes of the module's output of its number
-abbrev pub wire_ops : Place → (Ref → Ref) → List OpResult → List Ref → List Op
+abbrev pub wire_ops : Location → (Ref → Ref) → List OpResult → List Ref → List Op
 wire_ops at move [] rs = []
 wire_ops at move (x ∷ xs) [] = wire_op at x.type undefined ∷ wire_ops at move xs []
 wire_ops at move (x ∷ xs) (r ∷ rs) = wire_op at x.type (move r) ∷ wire_ops at move xs rs
@@ -119,15 +118,15 @@ pub record RenamesOnly (rename : Op → Op) : Type 0 where
 
 -- the wires that stand for the instance o at position i, and the operations of its module c, each renamed
 abbrev pub inlined_wires : ℕ → Op → Module → List Op
-inlined_wires i o c = wire_ops o.place (inner_ref i o c) o.results (output_refs c.body)
+inlined_wires i o c = wire_ops o.location (inner_ref i o c) o.results (output_refs c.body)
 
 abbrev pub inlined_ops : (Op → Op) → ℕ → Op → Module → List Op
 inlined_ops rename i o c = map (λ (y : Op). rename (retarget (inner_ref i o c) y)) (before_output c.body)
 
 -- a body in which they stand between two parts
 abbrev pub inlined_between : (Op → Op) → ℕ → Op → Module → List Op → List Op → List Op
-inlined_between rename i o c front back =
-    map (retarget (outer_ref i o c)) front ++ (inlined_wires i o c ++ (inlined_ops rename i o c ++ map (retarget (outer_ref i o c)) back))
+inlined_between rename i o c prefix back =
+    map (retarget (outer_ref i o c)) prefix ++ (inlined_wires i o c ++ (inlined_ops rename i o c ++ map (retarget (outer_ref i o c)) back))
 
 -- the body in which they stand in the place of the instance o at position i
 abbrev pub inline_op : (Op → Op) → ℕ → Op → Module → List Op → List Op

@@ -1,10 +1,9 @@
 -- Wires are taken out, their operands standing for their results (CIRCT, HW dialect: `hw.wire`).
-use Rattle.std.specs.Prelude.{◌≡◌, ℕ, zero, suc, List, [], ◌∷◌, map, Some, slice_get}
-use Rattle.wiring.specs.Options.{bind}
+use Rattle.std.specs.Prelude.{◌≡◌, ℕ, zero, suc, List, [], ◌∷◌, map, Some, slice_get, option_and_then}
 use Rattle.hw_model.specs.Types.{HwType}
 use Rattle.hw_model.specs.Kinds.Kind.{wire}
 use Rattle.hw_model.specs.Design.{Ref, OpResult, Op, Module}
-use Rattle.hw_edits.specs.Laws.{erase_op}
+use Rattle.edit_laws.specs.Laws.{erase_op}
 use Rattle.inline_laws.specs.Inline.{ref_or_undefined, wire_count, inline_op}
 
 -- o at position i is a wire with the operand x and with one result, of type t
@@ -16,7 +15,7 @@ pub record IsWireAt (os : List Op) (i : ℕ) (o : Op) (t : HwType) (x : Ref) : T
 
 -- the first operand of the operation at position i, if there is one
 abbrev pub operand_at : ℕ → List Op → Ref
-operand_at i os = ref_or_undefined (bind (slice_get os i) (λ (o : Op). slice_get o.operands 0))
+operand_at i os = ref_or_undefined (option_and_then (λ (o : Op). slice_get o.operands 0) (slice_get os i))
 
 -- n operations from position i on taken out, one after another, the first operand of each standing for its first result
 abbrev pub unwire : ℕ → ℕ → List Op → List Op

@@ -6,8 +6,8 @@ ghost use Rattle.hw_model.specs.Design.{Ref, Op, Module, Design, result_type};
 ghost use Rattle.hw_model.specs.Flat.{Slot, registers};
 ghost use Rattle.hw_model.specs.Hierarchy.{callee_symbols};
 ghost use Rattle.hw_model.specs.Weight.{weight};
-ghost use Rattle.hw_edits.specs.Follows.{Valid, Follows};
-ghost use Rattle.hw_edits.specs.Laws.{erase_op, with_body};
+ghost use Rattle.edit_laws.specs.Follows.{Valid, Follows};
+ghost use Rattle.edit_laws.specs.Laws.{erase_op, with_body};
 ghost use Rattle.inline_laws.specs.Inline.{EndsWithOutput, RenamesOnly, IsInlined, inline_op};
 ghost use Rattle.inline_laws.specs.Unwire.{IsWireAt, inline_without_wires};
 

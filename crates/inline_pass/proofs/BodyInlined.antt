@@ -1,7 +1,6 @@
 -- A body in code in which an instance is inlined.
-use Rattle.std.proofs.Common.{◌≡◌, ℕ, zero, suc, ◌<◌, true, List, [], ◌∷◌, ◌++◌, length, map, take, drop, Option, Some, slice_get, refl, sym, ap, ap₂, subst, ◌∙◌, arith}
+use Rattle.std.proofs.Common.{◌≡◌, ℕ, zero, suc, ◌<◌, true, List, [], ◌∷◌, ◌++◌, length, map, take, drop, Option, Some, slice_get, refl, sym, ap, ap₂, subst, ◌∙◌, arith, option_and_then, option_map}
 use Rattle.std.specs.Prelude.{All, IfSome, is_some}
-use Rattle.wiring.specs.Options.{bind, omap}
 use Rattle.wiring.specs.Wiring.{In}
 use Rattle.wiring.proofs.Members.{In-map, position_of_In, All-from_members, All-member}
 use Rattle.hw_model.specs.Types.{Name}
@@ -20,7 +19,7 @@ use Rattle.ir_store.specs.BodyOps.{BodyOp, ids_in, op_at}
 use Rattle.ir_store.specs.Live.{IsLive, HasLive}
 use Rattle.ir_store.specs.Numbered.{position_of, ref_by, op_by, ops_by_position}
 use Rattle.ir_store.proofs.BodyLemmas.{ids_once}
-use Rattle.accepted_edits.proofs.FitBodies.{operand_there}
+use Rattle.acceptance_laws.proofs.FitBodies.{operand_there}
 use Rattle.inline_laws.specs.Inline.{wire_count, inline_op}
 use Rattle.inline_laws.specs.Unwire.{unwire}
 use Rattle.body_edits.specs.FitBodies.{IsOfFit}
@@ -31,10 +30,10 @@ use Rattle.inline_pass.specs.Flattening.{instance_name, inlined_at}
 use Rattle.inline_pass.specs.Renaming.{renamed}
 use Rattle.inline_pass.specs.Inlinable.{IsInlinedAt, own_name}
 use Rattle.inline_pass.specs.MovedOps.{ArePutBefore}
-use Rattle.inline_pass.specs.WiresOut.{first_position, ids_without}
-use Rattle.inline_pass.proofs.IdLists.{ids_append, parted, middle_found}
+use Rattle.body_edits.specs.WiresOut.{first_position, ids_without}
+use Rattle.body_edits.proofs.IdLists.{ids_append, parted, middle_found}
 use Rattle.inline_pass.proofs.InliningValues.{numbers, IsOld}
-use Rattle.inline_pass.proofs.InliningOps.{take_front, drop_front}
+use Rattle.inline_pass.proofs.InliningOps.{take_prefix, drop_prefix}
 use Rattle.inline_pass.proofs.InstanceInlined.{apart, out, finished, finished_ids, stood, many_moved}
 
 -- ---- results that operands name
@@ -50,9 +49,9 @@ results_within b of id x y v k found among named is =
     let some = operand_there of.design of.fit of.number of.owner of.there at.0 (op_by p y) (result (p v.index) k) at.1 (In-map (ref_by p) (Result v k) y.operands named) in
     let there : slice_get of.owner.body (p v.index) ≡ Some (op_by p x) =
     ap (λ (n : ℕ). slice_get of.owner.body (p n)) is ∙ ap (λ os. slice_get os (p id)) of.is_body ∙ op_at_position (op_by p) id (ops_of b) x found in
-    typed x.parts.results k (sym (ap (λ z. is_some (bind z (λ (o : Op). result_type o k))) there) ∙ some)
+    typed x.parts.results k (sym (ap (λ z. is_some (option_and_then (λ (o : Op). result_type o k) z)) there) ∙ some)
   where
-    typed : (rs : List OpResult) (n : ℕ) → is_some (omap (λ (q : OpResult). q.type) (slice_get rs n)) ≡ true → n < length rs
+    typed : (rs : List OpResult) (n : ℕ) → is_some (option_map (λ (q : OpResult). q.type) (slice_get rs n)) ≡ true → n < length rs
     typed [] n some = cc
     typed (q ∷ rs) zero some = omega arith
     typed (q ∷ rs) (suc n) some = let h = typed rs n some in omega (arith, h)
@@ -60,22 +59,22 @@ results_within b of id x y v k found among named is =
 -- ---- the parts of the body
 
 pub record IsPut (b : Body) (op : OpId) (c : Module) (own : List BodyOp) (wires : List OpId) (after : List BodyOp) : Type 0 where
-  pub front : List BodyOp
+  pub prefix : List BodyOp
   pub x : BodyOp
   pub back : List BodyOp
   pub same : x.id ≡ op.index
   pub found : op_at (ops_of b) op.index ≡ Some x
-  pub all : ops_of b ≡ front ++ (x ∷ back)
-  pub put : ArePutBefore (own_name x.parts.kind) c.ports own x (front ++ (x ∷ back)) after wires
+  pub all : ops_of b ≡ prefix ++ (x ∷ back)
+  pub put : ArePutBefore (own_name x.parts.kind) c.ports own x (prefix ++ (x ∷ back)) after wires
 
 pub is_put : (b : Body) (op : OpId) (c : Module) (own : List BodyOp) (wires : List OpId) (after : List BodyOp) → HasOp b op
     → IfSome (op_at (ops_of b) op.index) (λ (o : BodyOp). ArePutBefore (own_name o.parts.kind) c.ports own o (ops_of b) after wires) → IsPut b op c own wires after
 is_put b op c own wires after there put =
     let p = parted op.index (ops_of b) (contained_times (ids_of b) op.index there) in
     let found : op_at (ops_of b) op.index ≡ Some p.op =
-    ap₂ op_at p.all (sym p.is) ∙ middle_found p.front p.op p.back (ap (λ v. times v (ids_in p.front)) p.is ∙ p.none) in
+    ap₂ op_at p.all (sym p.is) ∙ middle_found p.prefix p.op p.back (ap (λ v. times v (ids_in p.prefix)) p.is ∙ p.none) in
     record {
-      front = p.front;
+      prefix = p.prefix;
       x = p.op;
       back = p.back;
       same = p.is;
@@ -86,14 +85,14 @@ is_put b op c own wires after there put =
     }
 
 module _ (b b1 : Body) (of : IsOfFit b) (op : OpId) (c : Module) (own : List BodyOp) (wires : List OpId) (p : IsPut b op c own wires (ops_of b1)) where
-  old_ids_are : ids_of b ≡ ids_in p.front ++ (op.index ∷ ids_in p.back)
-  old_ids_are = ap ids_in p.all ∙ ids_append p.front (p.x ∷ p.back) ∙ ap (λ n. ids_in p.front ++ (n ∷ ids_in p.back)) p.same
+  old_ids_are : ids_of b ≡ ids_in p.prefix ++ (op.index ∷ ids_in p.back)
+  old_ids_are = ap ids_in p.all ∙ ids_append p.prefix (p.x ∷ p.back) ∙ ap (λ n. ids_in p.prefix ++ (n ∷ ids_in p.back)) p.same
 
   abbrev pub Old : Value → Type 0
-  Old = IsOld (ids_in p.front) op (ids_in p.back) wires p.put.copies (apart p.front p.x p.back op p.same (own_name p.x.parts.kind) c own wires (ops_of b1) p.put (ids_once b1))
+  Old = IsOld (ids_in p.prefix) op (ids_in p.back) wires p.put.copies (apart p.prefix p.x p.back op p.same (own_name p.x.parts.kind) c own wires (ops_of b1) p.put (ids_once b1))
 
   -- what the operands of the body are
-  pub olds : All (λ (o : BodyOp). All Old o.operands) (p.front ++ (p.x ∷ p.back))
+  pub olds : All (λ (o : BodyOp). All Old o.operands) (p.prefix ++ (p.x ∷ p.back))
   olds =
       subst (All (λ (o : BodyOp). All Old o.operands)) p.all
       (All-from_members (λ (o : BodyOp). All Old o.operands) (ops_of b)
@@ -113,39 +112,39 @@ name_is o _ = refl
 -- ---- the body at the end
 
 module _ (b b1 b3 b4 : Body) (of : IsOfFit b) (op : OpId) (c : Module) (own : List BodyOp) (wires : List OpId) (p : IsPut b op c own wires (ops_of b1))
-    (left : ops_of b3 ≡ out p.front p.x p.back op p.same (own_name p.x.parts.kind) c own wires (ops_of b1) p.put (ids_once b1))
+    (left : ops_of b3 ≡ out p.prefix p.x p.back op p.same (own_name p.x.parts.kind) c own wires (ops_of b1) p.put (ids_once b1))
     (ops_are : body_ops b4 ≡ unwire (first_position (ids_of b3) wires) (length wires) (body_ops b3)) (ids_are : ids_of b4 ≡ ids_without wires (ids_of b3)) where
-  place_is : position_of (ids_of b) op.index ≡ length (ids_in p.front)
+  place_is : position_of (ids_of b) op.index ≡ length (ids_in p.prefix)
   place_is =
       ap (λ ids. position_of ids op.index) (old_ids_are b b1 of op c own wires p)
-      ∙ stood p.front p.x p.back op p.same (own_name p.x.parts.kind) c own wires (ops_of b1) p.put (ids_once b1) (olds b b1 of op c own wires p)
+      ∙ stood p.prefix p.x p.back op p.same (own_name p.x.parts.kind) c own wires (ops_of b1) p.put (ids_once b1) (olds b b1 of op c own wires p)
 
   pub inlined : (o : Op) → slice_get (body_ops b) (position_in b op) ≡ Some o → IsInlinedAt b b4 (position_in b op) o (record c { body = ops_by_position own })
   unfolding body_ops position_in
   inlined o there =
-      let seen : ops_by_position (ops_of b) ≡ map (op_by (position_of (ids_in p.front ++ (op.index ∷ ids_in p.back)))) (p.front ++ (p.x ∷ p.back)) =
+      let seen : ops_by_position (ops_of b) ≡ map (op_by (position_of (ids_in p.prefix ++ (op.index ∷ ids_in p.back)))) (p.prefix ++ (p.x ∷ p.back)) =
       ap₂ (λ (ids : List ℕ) (os : List BodyOp). map (op_by (position_of ids)) os) (old_ids_are b b1 of op c own wires p) p.all in
-      let here : op_by (position_of (ids_in p.front ++ (op.index ∷ ids_in p.back))) p.x ≡ o = own_op o there in
+      let here : op_by (position_of (ids_in p.prefix ++ (op.index ∷ ids_in p.back))) p.x ≡ o = own_op o there in
       let name : own_name p.x.parts.kind ≡ instance_name o = sym (name_is o o.kind ∙ ap (λ (z : Op). own_name z.kind) (sym here)) in
       record {
         ops = ops_are
             ∙ ap (λ (os : List BodyOp). unwire (first_position (ids_in os) wires) (length wires) (ops_by_position os)) left
-            ∙ finished p.front p.x p.back op p.same (own_name p.x.parts.kind) c own wires (ops_of b1) p.put (ids_once b1) (olds b b1 of op c own wires p)
-            ∙ ap (λ (z : Op). unwire (length (ids_in p.front)) (wire_count z) (inline_op (renamed (own_name p.x.parts.kind)) (length (ids_in p.front)) z (record c { body = ops_by_position own })
-            (map (op_by (position_of (ids_in p.front ++ (op.index ∷ ids_in p.back)))) (p.front ++ (p.x ∷ p.back))))) here
+            ∙ finished p.prefix p.x p.back op p.same (own_name p.x.parts.kind) c own wires (ops_of b1) p.put (ids_once b1) (olds b b1 of op c own wires p)
+            ∙ ap (λ (z : Op). unwire (length (ids_in p.prefix)) (wire_count z) (inline_op (renamed (own_name p.x.parts.kind)) (length (ids_in p.prefix)) z (record c { body = ops_by_position own })
+            (map (op_by (position_of (ids_in p.prefix ++ (op.index ∷ ids_in p.back)))) (p.prefix ++ (p.x ∷ p.back))))) here
             ∙ ap₂ (λ (u : Name) (n : ℕ). unwire n (wire_count o) (inline_op (renamed u) n o (record c { body = ops_by_position own })
-            (map (op_by (position_of (ids_in p.front ++ (op.index ∷ ids_in p.back)))) (p.front ++ (p.x ∷ p.back))))) name (sym place_is)
+            (map (op_by (position_of (ids_in p.prefix ++ (op.index ∷ ids_in p.back)))) (p.prefix ++ (p.x ∷ p.back))))) name (sym place_is)
             ∙ ap (inlined_at (position_of (ids_of b) op.index) o (record c { body = ops_by_position own })) (sym seen);
         fresh = numbers p.put.copies;
-        many = many_moved p.front p.x p.back op p.same (own_name p.x.parts.kind) c own wires (ops_of b1) p.put (ids_once b1) (olds b b1 of op c own wires p);
+        many = many_moved p.prefix p.x p.back op p.same (own_name p.x.parts.kind) c own wires (ops_of b1) p.put (ids_once b1) (olds b b1 of op c own wires p);
         ids = ids_are ∙ ap (λ (os : List BodyOp). ids_without wires (ids_in os)) left
-            ∙ finished_ids p.front p.x p.back op p.same (own_name p.x.parts.kind) c own wires (ops_of b1) p.put (ids_once b1)
+            ∙ finished_ids p.prefix p.x p.back op p.same (own_name p.x.parts.kind) c own wires (ops_of b1) p.put (ids_once b1)
             ∙ sym (ap₂ (λ (n : ℕ) (ids : List ℕ). take n ids ++ (numbers p.put.copies ++ drop (suc n) ids)) place_is (old_ids_are b b1 of op c own wires p)
-            ∙ ap₂ (λ ps qs. ps ++ (numbers p.put.copies ++ qs)) (take_front (ids_in p.front) (op.index ∷ ids_in p.back)) (drop_front (ids_in p.front) op.index (ids_in p.back)));
+            ∙ ap₂ (λ ps qs. ps ++ (numbers p.put.copies ++ qs)) (take_prefix (ids_in p.prefix) (op.index ∷ ids_in p.back)) (drop_prefix (ids_in p.prefix) op.index (ids_in p.back)));
       }
     where
       own_op : (o : Op) → slice_get (ops_by_position (ops_of b)) (position_of (ids_of b) op.index) ≡ Some o
-          → op_by (position_of (ids_in p.front ++ (op.index ∷ ids_in p.back))) p.x ≡ o
+          → op_by (position_of (ids_in p.prefix ++ (op.index ∷ ids_in p.back))) p.x ≡ o
       own_op o there =
           let at : Some (op_by (position_of (ids_of b)) p.x) ≡ Some o = sym (op_at_position (op_by (position_of (ids_of b))) op.index (ops_of b) p.x p.found) ∙ there in
           let is : op_by (position_of (ids_of b)) p.x ≡ o = cc in

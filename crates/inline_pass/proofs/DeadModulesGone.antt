@@ -10,9 +10,9 @@ use Rattle.hw_model.proofs.Finite.{module_found}
 use Rattle.design_cycles.proofs.Callees.{found_at}
 use Rattle.op_verifier.specs.Verdict.{IsAccepted}
 use Rattle.op_verifier.proofs.AcceptedDesigns.{accepted_distinct}
-use Rattle.accepted_edits.specs.Keeps.{IsFit}
-use Rattle.accepted_edits.proofs.Accepted.{accepted_fit}
-use Rattle.accepted_edits.proofs.NameCounts.{accepted_again}
+use Rattle.acceptance_laws.specs.Keeps.{IsFit}
+use Rattle.acceptance_laws.proofs.Accepted.{accepted_fit}
+use Rattle.acceptance_laws.proofs.NameCounts.{accepted_again}
 use Rattle.pass_pipeline.specs.declared.pass.Pass.TheVariants.{SymbolDce}
 use Rattle.pass_laws.specs.Remaining.{symbols, IsReached}
 use Rattle.pass_laws.specs.PassLaw.{IsModuleAfter, PassLaw}
@@ -43,7 +43,7 @@ module _ (d e : Design) (fit : IsFit d) (without : IsWithoutDead d e) where
       let same : n ≡ m = cc in
       record {
         mark = ap (λ (x : Module). x.is_private) same;
-        place = ap (λ (x : Module). x.place) same;
+        location = ap (λ (x : Module). x.location) same;
         ports = ap (λ (x : Module). x.ports) same;
         registers = registers_kept (IsReached d) d e (reached_more d) (reached_found (IsReached d) d e without) fit.valid.finite left.fit.valid.finite s reached;
         instances = ap (λ o. callee_symbols (body_of o)) found;

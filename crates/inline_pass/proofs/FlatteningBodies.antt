@@ -1,16 +1,15 @@
 -- A body is taken out of a design, instances in it are inlined, and it is put back.
-use Rattle.std.proofs.Common.{◌≡◌, ℕ, zero, suc, List, [], ◌∷◌, map, length, option_map, Option, Some, None, slice_get, refl, sym, ap, subst, ◌∙◌}
+use Rattle.std.proofs.Common.{◌≡◌, ℕ, zero, suc, List, [], ◌∷◌, map, length, option_map, Option, Some, None, slice_get, refl, sym, ap, subst, ◌∙◌, option_and_then}
 use Rattle.std.proofs.lemmas.Option.{slice_get-map}
-use Rattle.wiring.specs.Options.{bind}
 use Rattle.wiring.specs.Wiring.{In}
 use Rattle.hw_model.specs.Types.{Name}
 use Rattle.hw_model.specs.Design.{Module, Design, find_module}
 use Rattle.hw_model.specs.Hierarchy.{callee_symbols}
 use Rattle.hw_model.specs.Sound.{body_of}
-use Rattle.hw_edits.specs.Laws.{with_body}
-use Rattle.hw_edits.proofs.Follows.{set_each}
-use Rattle.hw_edits.proofs.ResetsKept.{find_symbol}
-use Rattle.accepted_edits.specs.Keeps.{IsFit}
+use Rattle.edit_laws.specs.Laws.{with_body}
+use Rattle.edit_laws.proofs.Follows.{set_each}
+use Rattle.edit_laws.proofs.ResetsKept.{find_symbol}
+use Rattle.acceptance_laws.specs.Keeps.{IsFit}
 use Rattle.ir_store.specs.declared.body.Body.{Body}
 use Rattle.ir_store.specs.BodyOps.{BodyOp}
 use Rattle.ir_store.specs.Bodies.{ops_of}
@@ -72,7 +71,7 @@ module _ (d : Design) (fit : IsFit d) (k : ℕ) (m : Module) (at : slice_get d k
   inlined_without : inline_all (private_callee (with_body d k m [])) m.body ≡ inline_all (private_callee d) m.body
   inlined_without =
       ap (λ f. inline_all f m.body) (private_by_symbol (with_body d k m []))
-      ∙ work_alike (private_found (with_body d k m [])) (private_found d) (length m.body) 0 m.body (λ s here. ap (λ x. bind x if_private) (found_without s here))
+      ∙ work_alike (private_found (with_body d k m [])) (private_found d) (length m.body) 0 m.body (λ s here. ap (λ x. option_and_then if_private x) (found_without s here))
       ∙ sym (ap (λ f. inline_all f m.body) (private_by_symbol d))
 
 -- another module is found as it was

@@ -1,8 +1,7 @@
 -- Flat bodies do not depend on the depth, where it is enough, and instance no private module.
-use Rattle.std.proofs.Common.{◌≡◌, ℕ, zero, suc, ◌<◌, ◌≤◌, Bool, true, false, cond, List, length, map, Option, Some, None, refl, sym, ap, subst, ◌∙◌, arith}
+use Rattle.std.proofs.Common.{◌≡◌, ℕ, zero, suc, ◌<◌, ◌≤◌, Bool, true, false, cond, List, length, map, Option, Some, None, refl, sym, ap, subst, ◌∙◌, arith, option_and_then, option_map}
 use Rattle.std.proofs.lemmas.List.{length-map}
 use mathlib.Core.Path.{fun_ext}
-use Rattle.wiring.specs.Options.{bind, omap}
 use Rattle.wiring.specs.Wiring.{In, IsHeight, HasHeights}
 use Rattle.wiring.proofs.Heights.{FallsAlong-height, height-le}
 use Rattle.hw_model.specs.Types.{Name}
@@ -21,7 +20,7 @@ abbrev pub flat_to : ℕ → Design → Module → Module
 flat_to n d c = record c { body = flat_body n d c.body }
 
 abbrev pub flat_found : ℕ → Design → Name → Option Module
-flat_found n d s = omap (flat_to n d) (private_found d s)
+flat_found n d s = option_map (flat_to n d) (private_found d s)
 
 -- a module with its flat body
 abbrev pub flat_module : Design → Module → Module
@@ -32,14 +31,14 @@ flat_module d m = flat_to (depth d) d m
 pub private_by_symbol : (d : Design) → private_callee d ≡ by_symbol (private_found d)
 private_by_symbol d = fun_ext (λ o. go (instance_in o.kind))
   where
-    go : (x : Option Instance) → bind (bind x (λ (i : Instance). find_module d i.symbol)) if_private ≡ bind x (λ (i : Instance). private_found d i.symbol)
+    go : (x : Option Instance) → option_and_then if_private (option_and_then (λ (i : Instance). find_module d i.symbol) x) ≡ option_and_then (λ (i : Instance). private_found d i.symbol) x
     go None = refl
     go (Some i) = refl
 
-flat_by_symbol : (n : ℕ) (d : Design) → (λ (o : Op). omap (flat_to n d) (private_callee d o)) ≡ by_symbol (flat_found n d)
-flat_by_symbol n d = fun_ext (λ o. ap (λ f. omap (flat_to n d) (f o)) (private_by_symbol d) ∙ go (instance_in o.kind))
+flat_by_symbol : (n : ℕ) (d : Design) → (λ (o : Op). option_map (flat_to n d) (private_callee d o)) ≡ by_symbol (flat_found n d)
+flat_by_symbol n d = fun_ext (λ o. ap (λ f. option_map (flat_to n d) (f o)) (private_by_symbol d) ∙ go (instance_in o.kind))
   where
-    go : (x : Option Instance) → omap (flat_to n d) (bind x (λ (i : Instance). private_found d i.symbol)) ≡ bind x (λ (i : Instance). flat_found n d i.symbol)
+    go : (x : Option Instance) → option_map (flat_to n d) (option_and_then (λ (i : Instance). private_found d i.symbol) x) ≡ option_and_then (λ (i : Instance). flat_found n d i.symbol) x
     go None = refl
     go (Some i) = refl
 
@@ -47,14 +46,14 @@ pub flat_is : (n : ℕ) (d : Design) (os : List Op) → flat_body (suc n) d os �
 flat_is n d os = ap (λ f. inline_all f os) (flat_by_symbol n d)
 
 -- a symbol's private module in two ways
-private_alike : (d : Design) (s : Name) (f g : Module → Module) → ((c : Module) → find_module d s ≡ Some c → f c ≡ g c) → omap f (private_found d s) ≡ omap g (private_found d s)
+private_alike : (d : Design) (s : Name) (f g : Module → Module) → ((c : Module) → find_module d s ≡ Some c → f c ≡ g c) → option_map f (private_found d s) ≡ option_map g (private_found d s)
 private_alike d s f g same = go (find_module d s) refl
   where
-    by_mark : (c : Module) (b : Bool) → f c ≡ g c → omap f (cond b (Some c) None) ≡ omap g (cond b (Some c) None)
+    by_mark : (c : Module) (b : Bool) → f c ≡ g c → option_map f (cond b (Some c) None) ≡ option_map g (cond b (Some c) None)
     by_mark c true e = ap Some e
     by_mark c false e = refl
 
-    go : (x : Option Module) → find_module d s ≡ x → omap f (bind x if_private) ≡ omap g (bind x if_private)
+    go : (x : Option Module) → find_module d s ≡ x → option_map f (option_and_then if_private x) ≡ option_map g (option_and_then if_private x)
     go None is = refl
     go (Some c) is = by_mark c c.is_private (same c is)
 
@@ -97,7 +96,7 @@ module _ (d : Design) (h : Name → ℕ) (height : IsHeight (calls d) h) where
   height_small s = subst (λ k. h s ≤ suc k) (length-map d (λ (m : Module). m.symbol)) (height-le (calls d) (map (λ (m : Module). m.symbol) d) (calls_within d) h height s)
 
   -- one more than the number of modules is enough, and so is that number
-  enough_found : (t : Name) → omap (flat_module d) (private_found d t) ≡ flat_found (length d) d t
+  enough_found : (t : Name) → option_map (flat_module d) (private_found d t) ≡ flat_found (length d) d t
   enough_found t =
       private_alike d t (flat_module d) (flat_to (length d) d)
       (λ c is.
@@ -122,7 +121,7 @@ module _ (d : Design) (h : Name → ℕ) (height : IsHeight (calls d) h) where
       not_private : (u : Name) → In u (callee_symbols os) → flat_found n d u ≡ None → private_found d u ≡ None
       not_private u here none = go (private_found d u) none
         where
-          go : (x : Option Module) → omap (flat_to n d) x ≡ None → x ≡ None
+          go : (x : Option Module) → option_map (flat_to n d) x ≡ None → x ≡ None
           go None is = refl
           go (Some c) is = cc
 
@@ -133,12 +132,12 @@ module _ (d : Design) (h : Name → ℕ) (height : IsHeight (calls d) h) where
           let lower : h u < h s = FallsAlong-height (calls d) h height s u here in
           go (find_module d u) refl is (again (omega arith) v)
         where
-          by_mark : (m : Module) (b : Bool) → omap (flat_to n d) (cond b (Some m) None) ≡ Some c
+          by_mark : (m : Module) (b : Bool) → option_map (flat_to n d) (cond b (Some m) None) ≡ Some c
               → (In v (callee_symbols (flat_body n d m.body)) → private_found d v ≡ None) → private_found d v ≡ None
           by_mark m true e rest = let same : flat_to n d m ≡ c = cc in rest (subst (λ (y : Module). In v (callee_symbols y.body)) (sym same) inside)
           by_mark m false e rest = cc
 
-          go : (x : Option Module) → find_module d u ≡ x → omap (flat_to n d) (bind x if_private) ≡ Some c
+          go : (x : Option Module) → find_module d u ≡ x → option_map (flat_to n d) (option_and_then if_private x) ≡ Some c
               → (In v (callee_symbols (flat_body n d (body_of (find_module d u)))) → private_found d v ≡ None) → private_found d v ≡ None
           go None found e rest = cc
           go (Some m) found e rest = by_mark m m.is_private e (subst (λ o. In v (callee_symbols (flat_body n d (body_of o))) → private_found d v ≡ None) found rest)
@@ -154,7 +153,7 @@ flat_calls d finite s m is t named =
 
 -- the flat body of a module is what the work makes of it where its private modules are flat
 pub flat_from_flat : (d : Design) → HasNoRecursion d → (m : Module) (look : Name → Option Module)
-    → ((t : Name) → In t (callee_symbols m.body) → look t ≡ omap (flat_module d) (private_found d t)) → inline_all (by_symbol look) m.body ≡ (flat_module d m).body
+    → ((t : Name) → In t (callee_symbols m.body) → look t ≡ option_map (flat_module d) (private_found d t)) → inline_all (by_symbol look) m.body ≡ (flat_module d m).body
 flat_from_flat d finite m look flat =
     work_alike look (flat_found (length d) d) (length m.body) 0 m.body (λ t named. flat t named ∙ enough_found d high.0 high.1 t) ∙ sym (flat_is (length d) d m.body)
   where

@@ -1,7 +1,6 @@
 -- `hw-flatten-modules` meets the law of passes; a design has one result, which is fit where the design is.
-use Rattle.std.proofs.Common.{◌≡◌, ◌≤◌, zero, suc, Bool, true, false, cond, [], ◌∷◌, map, Option, Some, None, refl, sym, ap, ap₂, subst, ◌∙◌, arith}
+use Rattle.std.proofs.Common.{◌≡◌, ◌≤◌, zero, suc, Bool, true, false, cond, [], ◌∷◌, map, Option, Some, None, refl, sym, ap, ap₂, subst, ◌∙◌, arith, option_and_then, option_map}
 use Rattle.std.specs.Prelude.{⊤}
-use Rattle.wiring.specs.Options.{bind, omap}
 use Rattle.wiring.specs.Wiring.{In}
 use Rattle.hw_model.specs.Types.{Name}
 use Rattle.hw_model.specs.Design.{Module, Design, find_module, same_name}
@@ -12,10 +11,10 @@ use Rattle.hw_model.specs.Weight.{weight}
 use Rattle.hw_model.proofs.Finite.{module_found}
 use Rattle.hw_model.proofs.Machines.{same_then}
 use Rattle.op_verifier.specs.Verdict.{IsAccepted}
-use Rattle.printable_designs.specs.Printable.{Printable}
-use Rattle.accepted_edits.specs.Keeps.{IsFit}
-use Rattle.accepted_edits.proofs.Accepted.{accepted_fit}
-use Rattle.accepted_edits.proofs.NameCounts.{accepted_again}
+use Rattle.printing_laws.specs.Printable.{Printable}
+use Rattle.acceptance_laws.specs.Keeps.{IsFit}
+use Rattle.acceptance_laws.proofs.Accepted.{accepted_fit}
+use Rattle.acceptance_laws.proofs.NameCounts.{accepted_again}
 use Rattle.pass_pipeline.specs.declared.pass.Pass.TheVariants.{HwFlattenModules}
 use Rattle.pass_laws.specs.Remaining.{symbols, IsPublic, IsReached, AreThose}
 use Rattle.pass_laws.specs.PassLaw.{InstancesStay, IsModuleAfter, PassLaw}
@@ -32,16 +31,16 @@ use Rattle.inline_pass.proofs.FlatteningProgress.{flat_inlines}
 
 -- ---- the modules of a flat design
 
-found_map : (f : Module → Module) → ((m : Module) → (f m).symbol ≡ m.symbol) → (d : Design) (s : Name) → find_module (map f d) s ≡ omap f (find_module d s)
+found_map : (f : Module → Module) → ((m : Module) → (f m).symbol ≡ m.symbol) → (d : Design) (s : Name) → find_module (map f d) s ≡ option_map f (find_module d s)
 found_map f named [] s = refl
 found_map f named (m ∷ d) s =
     ap₂ (λ n rest. cond (same_name n s) (Some (f m)) rest) (named m) (found_map f named d s) ∙ go (same_name m.symbol s)
   where
-    go : (b : Bool) → cond b (Some (f m)) (omap f (find_module d s)) ≡ omap f (cond b (Some m) (find_module d s))
+    go : (b : Bool) → cond b (Some (f m)) (option_map f (find_module d s)) ≡ option_map f (cond b (Some m) (find_module d s))
     go true = refl
     go false = refl
 
-flat_found_is : (d : Design) (s : Name) → find_module (flat_design d) s ≡ omap (flat_module d) (find_module d s)
+flat_found_is : (d : Design) (s : Name) → find_module (flat_design d) s ≡ option_map (flat_module d) (find_module d s)
 flat_found_is d s = found_map (flat_module d) (λ m. refl) d s
 
 symbols_map : (f : Module → Module) → ((m : Module) → (f m).symbol ≡ m.symbol) → (d : Design) → symbols (map f d) ≡ symbols d
@@ -52,10 +51,10 @@ symbols_map f named (m ∷ d) = ap₂ (λ s ss. s ∷ ss) (named m) (symbols_map
 public_was : (d : Design) (s : Name) → IsPublic (flat_design d) s → IsPublic d s
 public_was d s (x, found, public) = go (find_module d s) refl (sym (flat_found_is d s) ∙ found)
   where
-    go : (y : Option Module) → find_module d s ≡ y → omap (flat_module d) (find_module d s) ≡ Some x → IsPublic d s
-    go None none is = let clash : None ≡ Some x = sym (ap (omap (flat_module d)) none) ∙ is in cc
+    go : (y : Option Module) → find_module d s ≡ y → option_map (flat_module d) (find_module d s) ≡ Some x → IsPublic d s
+    go None none is = let clash : None ≡ Some x = sym (ap (option_map (flat_module d)) none) ∙ is in cc
     go (Some m) some is =
-        let both : Some (flat_module d m) ≡ Some x = sym (ap (omap (flat_module d)) some) ∙ is in
+        let both : Some (flat_module d m) ≡ Some x = sym (ap (option_map (flat_module d)) some) ∙ is in
         let same : flat_module d m ≡ x = cc in
         (m, some, ap (λ (z : Module). z.is_private) same ∙ public)
 
@@ -69,12 +68,12 @@ called_public d finite s t named here = go (find_module d s) refl (subst (λ o. 
     by_mark : (b : Bool) → there.0.is_private ≡ b → private_found d t ≡ None → IsPublic d t
     by_mark false mark none = (there.0, there.1, mark)
     by_mark true mark none =
-        let clash : Some there.0 ≡ None = sym (ap (λ x. bind x if_private) there.1 ∙ ap (λ b. cond b (Some there.0) None) mark) ∙ none in cc
+        let clash : Some there.0 ≡ None = sym (ap (λ x. option_and_then if_private x) there.1 ∙ ap (λ b. cond b (Some there.0) None) mark) ∙ none in cc
 
-    go : (x : Option Module) → find_module d s ≡ x → In t (callee_symbols (body_of (omap (flat_module d) (find_module d s)))) → IsPublic d t
-    go None is called = absurd (subst (λ x. In t (callee_symbols (body_of (omap (flat_module d) x)))) is called)
+    go : (x : Option Module) → find_module d s ≡ x → In t (callee_symbols (body_of (option_map (flat_module d) (find_module d s)))) → IsPublic d t
+    go None is called = absurd (subst (λ x. In t (callee_symbols (body_of (option_map (flat_module d) x)))) is called)
     go (Some m) is called =
-        by_mark there.0.is_private refl (flat_calls d finite s m is t (subst (λ x. In t (callee_symbols (body_of (omap (flat_module d) x)))) is called))
+        by_mark there.0.is_private refl (flat_calls d finite s m is t (subst (λ x. In t (callee_symbols (body_of (option_map (flat_module d) x)))) is called))
 
 -- what is reached from public modules is public
 reached_public : (d : Design) → HasNoRecursion d → (s : Name) → In s (symbols d) → IsReached (flat_design d) s → IsPublic d s
@@ -126,11 +125,11 @@ module _ (d e : Design) (fit : IsFit d) (flattened : IsFlattened d e) where
   module_flattened s m n was now =
       let reached : IsReached (flat_design d) s = those_meet (IsReached (flat_design d)) s (symbols (flat_design d)) (symbols e) left_symbols (module_found e s n now) in
       let found : find_module e s ≡ find_module (flat_design d) s = reached_found (IsReached (flat_design d)) (flat_design d) e flattened s reached in
-      let both : Some n ≡ Some (flat_module d m) = sym now ∙ found ∙ flat_found_is d s ∙ ap (omap (flat_module d)) was in
+      let both : Some n ≡ Some (flat_module d m) = sym now ∙ found ∙ flat_found_is d s ∙ ap (option_map (flat_module d)) was in
       let same : n ≡ flat_module d m = cc in
       record {
         mark = ap (λ (x : Module). x.is_private) same;
-        place = ap (λ (x : Module). x.place) same;
+        location = ap (λ (x : Module). x.location) same;
         ports = ap (λ (x : Module). x.ports) same;
         registers =
             registers_kept (IsReached (flat_design d)) (flat_design d) e (reached_more (flat_design d))

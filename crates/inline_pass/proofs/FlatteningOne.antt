@@ -1,12 +1,11 @@
 -- One body of a design is worked on its own, with the flat bodies of the modules that it instances.
-use Rattle.std.proofs.Common.{◌≡◌, ℕ, Option, Some, slice_get, sym, ap, ◌∙◌}
-use Rattle.wiring.specs.Options.{omap}
+use Rattle.std.proofs.Common.{◌≡◌, ℕ, Option, Some, slice_get, sym, ap, ◌∙◌, option_map}
 use Rattle.wiring.specs.Wiring.{In}
 use Rattle.hw_model.specs.Types.{Name}
 use Rattle.hw_model.specs.Design.{Module, Design, find_module}
 use Rattle.hw_model.specs.Flat.{depth}
 use Rattle.hw_model.specs.Hierarchy.{callee_symbols}
-use Rattle.accepted_edits.specs.Keeps.{IsFit}
+use Rattle.acceptance_laws.specs.Keeps.{IsFit}
 use Rattle.ir_store.specs.declared.body.Body.{Body}
 use Rattle.body_edits.specs.Views.{body_ops}
 use Rattle.inline_pass.specs.Flattening.{private_found, by_symbol, inline_all, flat_body}
@@ -17,7 +16,7 @@ use Rattle.inline_pass.proofs.InliningSteps.{private_is}
 
 -- `look` gives the private modules that module m instances, with their flat bodies, and no others
 pub record GivesFlat (d : Design) (m : Module) (look : Name → Option Module) : Type 0 where
-  pub flat : (t : Name) → In t (callee_symbols m.body) → look t ≡ omap (flat_module d) (private_found d t)
+  pub flat : (t : Name) → In t (callee_symbols m.body) → look t ≡ option_map (flat_module d) (private_found d t)
   pub named : (t : Name) (c : Module) → look t ≡ Some c → In t (callee_symbols m.body)
 
 module _ (d : Design) (fit : IsFit d) (k : ℕ) (m : Module) (at : slice_get d k ≡ Some m) (look : Name → Option Module) (gives : GivesFlat d m look) (b : Body) (is : m.body ≡ body_ops b) where

@@ -9,13 +9,13 @@ use Rattle.graphs.specs.Graphs.{has_mark}
 use Rattle.graphs.proofs.Marking.{marked_same, marked_kept, none_marked}
 use Rattle.hw_model.specs.Design.{Module, Design}
 use Rattle.hw_model.specs.Hierarchy.{callee_symbols}
-use Rattle.hw_edits.specs.Laws.{with_body}
+use Rattle.edit_laws.specs.Laws.{with_body}
 use Rattle.design_cycles.specs.Asked.{HasDistinctSymbols}
 use Rattle.design_cycles.specs.Calls.{symbols_in, numbers_of, call_lists}
 use Rattle.design_cycles.specs.Weighing.{IsWhole}
 use Rattle.design_cycles.proofs.Callees.{call_edges, In-numbers, found_at}
 use Rattle.op_verifier.proofs.Distinct.{distinct_symbols}
-use Rattle.accepted_edits.specs.Keeps.{IsFit}
+use Rattle.acceptance_laws.specs.Keeps.{IsFit}
 use Rattle.inline_pass.specs.FlatBodies.{HasInlinedAt}
 use Rattle.inline_pass.specs.Flattening.{inline_all, private_callee, flat_design}
 use Rattle.inline_pass.proofs.FlatteningDepth.{flat_module}

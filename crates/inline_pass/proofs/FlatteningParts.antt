@@ -8,8 +8,8 @@ use Rattle.wiring.proofs.Members.{In-append_left, In-append_right, In-append_cas
 use Rattle.hw_model.specs.Types.{Name}
 use Rattle.hw_model.specs.Design.{Op, Module, output_refs, is_output_op, instance_in}
 use Rattle.hw_model.specs.Hierarchy.{callee_symbols, called_by}
-use Rattle.hw_edits.specs.Edit.{retarget}
-use Rattle.hw_edits.proofs.Anchors.{called-retarget}
+use Rattle.edit_laws.specs.Edit.{retarget}
+use Rattle.edit_laws.proofs.Anchors.{called-retarget}
 use Rattle.inline_laws.specs.Inline.{moved_count, before_output, outer_ref, inner_ref, wire_count, inlined_wires, inlined_ops, inline_op}
 use Rattle.inline_laws.specs.Unwire.{unwire}
 use Rattle.inline_laws.proofs.Ends.{wires_length}
@@ -59,49 +59,49 @@ module _ (i : ℕ) (o : Op) (c : Module) (os : List Op) (there : slice_get os i 
   rename : Op → Op
   rename = renamed (instance_name o)
 
-  front : List Op
-  front = map (retarget (outer_ref i o c)) (take i os)
+  prefix : List Op
+  prefix = map (retarget (outer_ref i o c)) (take i os)
 
   back : List Op
   back = map (retarget (outer_ref i o c)) (drop (suc i) os)
 
-  others : Others front (inlined_ops rename i o c ++ back) (inlined_at i o c os)
-  unfolding rename front back
+  others : Others prefix (inlined_ops rename i o c ++ back) (inlined_at i o c os)
+  unfolding rename prefix back
   others =
-      subst (λ n. Others front (inlined_ops rename i o c ++ back) (unwire n (wire_count o) (inline_op rename i o c os)))
+      subst (λ n. Others prefix (inlined_ops rename i o c ++ back) (unwire n (wire_count o) (inline_op rename i o c os)))
       (length-map (take i os) (retarget (outer_ref i o c)) ∙ length_before os i o there)
-      (others_stay (wire_count o) front (inlined_wires i o c) (inlined_ops rename i o c ++ back) (wires_length o.place (inner_ref i o c) o.results (output_refs c.body)))
+      (others_stay (wire_count o) prefix (inlined_wires i o c) (inlined_ops rename i o c ++ back) (wires_length o.location (inner_ref i o c) o.results (output_refs c.body)))
 
   stand : Op → Op
   stand = retarget others.stand
 
-  parts_are : inlined_at i o c os ≡ map stand front ++ (map stand (inlined_ops rename i o c) ++ map stand back)
+  parts_are : inlined_at i o c os ≡ map stand prefix ++ (map stand (inlined_ops rename i o c) ++ map stand back)
   unfolding stand
-  parts_are = others.body_is ∙ ap (λ xs. map stand front ++ xs) (map-append stand (inlined_ops rename i o c) back)
+  parts_are = others.body_is ∙ ap (λ xs. map stand prefix ++ xs) (map-append stand (inlined_ops rename i o c) back)
 
-  front_length : length (map stand front) ≡ i
-  unfolding front
-  front_length = length-map front stand ∙ length-map (take i os) (retarget (outer_ref i o c)) ∙ length_before os i o there
+  prefix_length : length (map stand prefix) ≡ i
+  unfolding prefix
+  prefix_length = length-map prefix stand ∙ length-map (take i os) (retarget (outer_ref i o c)) ∙ length_before os i o there
 
   inside_length : length (map stand (inlined_ops rename i o c)) ≡ moved_count c
   inside_length = length-map (inlined_ops rename i o c) stand ∙ length-map (before_output c.body) (λ (y : Op). rename (retarget (inner_ref i o c) y))
 
   -- what is before the rest instances what was before the instance, and then what the module does before its output
   pub called_so_far : callee_symbols (take (i + moved_count c) (inlined_at i o c os)) ≡ callee_symbols (take i os) ++ callee_symbols (before_output c.body)
-  unfolding rename front stand
+  unfolding rename prefix stand
   called_so_far =
       ap (λ xs. callee_symbols (take (i + moved_count c) xs)) parts_are
-      ∙ ap callee_symbols (take_two i (moved_count c) (map stand front) (map stand (inlined_ops rename i o c)) (map stand back) front_length inside_length)
-      ∙ called_append (map stand front) (map stand (inlined_ops rename i o c))
+      ∙ ap callee_symbols (take_two i (moved_count c) (map stand prefix) (map stand (inlined_ops rename i o c)) (map stand back) prefix_length inside_length)
+      ∙ called_append (map stand prefix) (map stand (inlined_ops rename i o c))
       ∙ ap₂ (λ xs ys. xs ++ ys)
-      (called-retarget others.stand front ∙ called-retarget (outer_ref i o c) (take i os))
+      (called-retarget others.stand prefix ∙ called-retarget (outer_ref i o c) (take i os))
       (called-retarget others.stand (inlined_ops rename i o c)
       ∙ called_moved (inner_ref i o c) (λ (y : Op). rename (retarget (inner_ref i o c) y)) (moved_renamed rename (renamed_only (instance_name o)) (inner_ref i o c)) (before_output c.body))
 
   rest_is : drop (i + moved_count c) (inlined_at i o c os) ≡ map stand back
   rest_is =
       ap (drop (i + moved_count c)) parts_are
-      ∙ drop_two i (moved_count c) (map stand front) (map stand (inlined_ops rename i o c)) (map stand back) front_length inside_length
+      ∙ drop_two i (moved_count c) (map stand prefix) (map stand (inlined_ops rename i o c)) (map stand back) prefix_length inside_length
 
   -- the rest instances what was after the instance, and is as long
   pub called_rest : callee_symbols (drop (i + moved_count c) (inlined_at i o c os)) ≡ callee_symbols (drop (suc i) os)

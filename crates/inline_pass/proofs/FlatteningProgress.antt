@@ -1,9 +1,9 @@
 -- Modules of a design get their flat bodies one after another, each after those that it instances.
-use Rattle.std.proofs.Common.{◌≡◌, ℕ, zero, suc, ◌<◌, ◌≤◌, ◌≢◌, Bool, true, false, cond, eqb, List, [], ◌∷◌, length, set, replicate, option_map, Option, Some, None, slice_get, refl, sym, ap, subst, ◌∙◌, ◌⊎◌, inl, inr, arith, length-set}
+use Rattle.std.proofs.Common.{◌≡◌, ℕ, zero, suc, ◌<◌, ◌≤◌, ◌≢◌, Bool, true, false, cond, eqb, List, [], ◌∷◌, length, set, replicate, option_map, Option, Some, None, slice_get, refl, sym, ap, subst}
+use Rattle.std.proofs.Common.{◌∙◌, ◌⊎◌, inl, inr, arith, length-set, option_and_then}
 use Rattle.std.proofs.lemmas.Bool.{eqb-true, eqb-false}
 use Rattle.std.proofs.lemmas.List.{length-replicate}
 use Rattle.std.proofs.lemmas.Option.{slice_get_within, slice_get-map}
-use Rattle.wiring.specs.Options.{bind, omap}
 use Rattle.wiring.specs.Wiring.{In, IsHeight, HasHeights}
 use Rattle.wiring.proofs.Heights.{FallsAlong-height}
 use Rattle.wiring.proofs.Lists.{slice_get-set_same, slice_get-set_other, set_some, slice_get_some, same_positions}
@@ -15,14 +15,14 @@ use Rattle.hw_model.specs.Design.{Module, Design, find_module, same_name}
 use Rattle.hw_model.specs.Hierarchy.{callee_symbols, calls}
 use Rattle.hw_model.specs.Sound.{body_of}
 use Rattle.hw_model.proofs.Content.{call_heights}
-use Rattle.hw_edits.specs.Laws.{with_body}
-use Rattle.hw_edits.proofs.ResetsKept.{find_symbol}
+use Rattle.edit_laws.specs.Laws.{with_body}
+use Rattle.edit_laws.proofs.ResetsKept.{find_symbol}
 use Rattle.ir_store.specs.Symbols.{symbol_place}
 use Rattle.design_cycles.specs.Asked.{HasDistinctSymbols}
 use Rattle.design_cycles.specs.Calls.{symbols_in}
 use Rattle.design_cycles.proofs.Callees.{place_found, number_found, found_at}
 use Rattle.op_verifier.proofs.Distinct.{distinct_symbols}
-use Rattle.accepted_edits.specs.Keeps.{IsFit}
+use Rattle.acceptance_laws.specs.Keeps.{IsFit}
 use Rattle.inline_pass.specs.Flattening.{if_private, private_found, inline_all, private_callee, flat_design}
 use Rattle.inline_pass.proofs.FlatteningWork.{work_idle}
 use Rattle.inline_pass.proofs.FlatteningDepth.{flat_calls, flat_module, private_by_symbol, flat_from_flat}
@@ -93,18 +93,18 @@ module _ (d e : Design) (marks : List Bool) (fit : IsFit d) (so_far : IsFlatteni
     still_there = so_far.each k m at ∙ ap (λ b. Some (cond b (flat_module d m) m)) unset
 
     -- those that it instances are flat
-    pub private_flat : (t : Name) → In t (callee_symbols m.body) → private_found e t ≡ omap (flat_module d) (private_found d t)
+    pub private_flat : (t : Name) → In t (callee_symbols m.body) → private_found e t ≡ option_map (flat_module d) (private_found d t)
     private_flat t named = go (found_both (flat_if d marks) (λ j c. flat_symbol (has_mark marks j) c) d e so_far.size so_far.each t)
       where
-        by_mark : (c : Module) (b : Bool) → cond b (Some (flat_module d c)) None ≡ omap (flat_module d) (cond b (Some c) None)
+        by_mark : (c : Module) (b : Bool) → cond b (Some (flat_module d c)) None ≡ option_map (flat_module d) (cond b (Some c) None)
         by_mark c true = refl
         by_mark c false = refl
 
-        go : FoundBoth (flat_if d marks) d e t → private_found e t ≡ omap (flat_module d) (private_found d t)
-        go (inl (none, nothing)) = ap (λ x. bind x if_private) nothing ∙ sym (ap (λ x. omap (flat_module d) (bind x if_private)) none)
+        go : FoundBoth (flat_if d marks) d e t → private_found e t ≡ option_map (flat_module d) (private_found d t)
+        go (inl (none, nothing)) = ap (λ x. option_and_then if_private x) nothing ∙ sym (ap (λ x. option_map (flat_module d) (option_and_then if_private x)) none)
         go (inr (j, c, there, is, now)) =
             let mark : has_mark marks j ≡ true = callees j c there (subst (λ n. In n (callee_symbols m.body)) (sym (find_symbol d t c is)) named) in
-            ap (λ x. bind x if_private) (now ∙ ap (λ b. Some (cond b (flat_module d c) c)) mark) ∙ by_mark c c.is_private ∙ sym (ap (λ x. omap (flat_module d) (bind x if_private)) is)
+            ap (λ x. option_and_then if_private x) (now ∙ ap (λ b. Some (cond b (flat_module d c) c)) mark) ∙ by_mark c c.is_private ∙ sym (ap (λ x. option_map (flat_module d) (option_and_then if_private x)) is)
 
     pub worked_flat : inline_all (private_callee e) m.body ≡ (flat_module d m).body
     worked_flat = ap (λ f. inline_all f m.body) (private_by_symbol e) ∙ flat_from_flat d fit.valid.finite m (private_found e) private_flat
@@ -166,10 +166,10 @@ module _ (d e : Design) (marks : List Bool) (fit : IsFit d) (so_far : IsFlatteni
           gone = flat_calls d fit.valid.finite m.symbol m (found_at d (distinct_symbols d fit.unrefused) k m at).1 t named
 
           go : FoundBoth (flat_if d marks) d e t → private_found e t ≡ None
-          go (inl (nothing, also)) = ap (λ x. bind x if_private) also
+          go (inl (nothing, also)) = ap (λ x. option_and_then if_private x) also
           go (inr (j, c, there, is, now)) =
-              ap (λ x. bind x if_private) now
-              ∙ by_mark c (flat_if d marks j c) (mark_of (has_mark marks j) c) c.is_private refl (sym (ap (λ x. bind x if_private) is) ∙ gone)
+              ap (λ x. option_and_then if_private x) now
+              ∙ by_mark c (flat_if d marks j c) (mark_of (has_mark marks j) c) c.is_private refl (sym (ap (λ x. option_and_then if_private x) is) ∙ gone)
 
   -- where all have their marks the design is flat
   pub flattening_ends : ((k : ℕ) (m : Module) → slice_get d k ≡ Some m → has_mark marks k ≡ true) → e ≡ flat_design d

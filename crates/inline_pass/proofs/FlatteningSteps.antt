@@ -1,8 +1,7 @@
 -- Designs that come of one another by inlining instances of private modules: from themselves, one after another, by one
 -- instance, and by all of a body.
-use Rattle.std.proofs.Common.{◌≡◌, ℕ, zero, suc, ◌+◌, ◌≤◌, Bool, true, false, cond, List, [], ◌∷◌, ◌++◌, take, drop, Option, Some, None, slice_get, refl, sym, ap, subst, ◌∙◌, ◌⊎◌, inl, inr, arith}
+use Rattle.std.proofs.Common.{◌≡◌, ℕ, zero, suc, ◌+◌, ◌≤◌, Bool, true, false, cond, List, [], ◌∷◌, ◌++◌, take, drop, Option, Some, None, slice_get, refl, sym, ap, subst, ◌∙◌, ◌⊎◌, inl, inr, arith, option_and_then}
 use Rattle.std.proofs.lemmas.Option.{slice_get_within}
-use Rattle.wiring.specs.Options.{bind}
 use Rattle.wiring.specs.Wiring.{In}
 use Rattle.wiring.proofs.Lists.{slice_get-set_same, set_some}
 use Rattle.hw_model.specs.Types.{Name}
@@ -13,9 +12,9 @@ use Rattle.hw_model.specs.Meaning.{machine}
 use Rattle.hw_model.specs.Sound.{body_of}
 use Rattle.hw_model.specs.Weight.{weight}
 use Rattle.hw_model.proofs.Machines.{same_self, same_then}
-use Rattle.hw_edits.specs.Laws.{with_body}
-use Rattle.hw_edits.proofs.Follows.{valid_settles, set_each}
-use Rattle.accepted_edits.specs.Keeps.{IsFit}
+use Rattle.edit_laws.specs.Laws.{with_body}
+use Rattle.edit_laws.proofs.Follows.{valid_settles, set_each}
+use Rattle.acceptance_laws.specs.Keeps.{IsFit}
 use Rattle.pass_laws.specs.PassLaw.{register_types, InstancesStay}
 use Rattle.pass_laws.specs.Remaining.{IsPublic, AreThose, AreWithin}
 use Rattle.pass_laws.proofs.Those.{those_meet, within_then, within_those}
@@ -66,9 +65,9 @@ module _ (d : Design) where
   stay_more [] xs ys stay = stay
   stay_more (z ∷ zs) xs ys stay = let rest = stay_more zs xs ys stay in (rest.0, rest.1, inr rest.2)
 
-  stay_inlined : (front inside back : List Name) (t : Name) → (IsPublic d t → ⊥) → Stay (front ++ (t ∷ back)) (front ++ (inside ++ back))
+  stay_inlined : (prefix inside back : List Name) (t : Name) → (IsPublic d t → ⊥) → Stay (prefix ++ (t ∷ back)) (prefix ++ (inside ++ back))
   stay_inlined [] inside back t not = let rest = stay_more inside back back (stay_self back) in (rest.0, inr (not, rest.1), rest.2)
-  stay_inlined (x ∷ front) inside back t not = stay_one x (front ++ (t ∷ back)) (front ++ (inside ++ back)) (stay_inlined front inside back t not)
+  stay_inlined (x ∷ prefix) inside back t not = stay_one x (prefix ++ (t ∷ back)) (prefix ++ (inside ++ back)) (stay_inlined prefix inside back t not)
 
 -- ---- designs
 
@@ -112,7 +111,7 @@ inlines_then d e f first second = record {
 
 -- ---- one instance
 
-private_is : (x : Option Module) (c : Module) → bind x if_private ≡ Some c → (x ≡ Some c) × (c.is_private ≡ true)
+private_is : (x : Option Module) (c : Module) → option_and_then if_private x ≡ Some c → (x ≡ Some c) × (c.is_private ≡ true)
 private_is None c is = cc
 private_is (Some m) c is = go m.is_private refl is
   where
@@ -202,7 +201,7 @@ module _ (d : Design) (k : ℕ) (m : Module) (at : slice_get d k ≡ Some m) whe
               leads : callee e o ≡ Some c
               leads = named_leads (instance_in o.kind) named.0 named.1 (still_found os so_far.fit named.0 (called_whole os i o there named.0 named.1) c found.0)
                 where
-                  named_leads : (x : Option _) (s : Name) → In s (called_by x) → find_module e s ≡ Some c → bind x (λ i. find_module e i.symbol) ≡ Some c
+                  named_leads : (x : Option _) (s : Name) → In s (called_by x) → find_module e s ≡ Some c → option_and_then (λ i. find_module e i.symbol) x ≡ Some c
                   named_leads None s here is = absurd here
                   named_leads (Some y) s (inl same) is = ap (find_module e) (sym same) ∙ is
                   named_leads (Some y) s (inr never) is = absurd never

@@ -1,7 +1,6 @@
 -- Work on a body, instance by instance: what decides it, where it does nothing, and what the body then instances.
-use Rattle.std.proofs.Common.{◌≡◌, ℕ, zero, suc, ◌+◌, ◌≤◌, List, [], ◌∷◌, ◌++◌, length, take, drop, Option, Some, None, slice_get, refl, sym, ap, subst, ◌∙◌, ◌⊎◌, inl, inr, arith}
+use Rattle.std.proofs.Common.{◌≡◌, ℕ, zero, suc, ◌+◌, ◌≤◌, List, [], ◌∷◌, ◌++◌, length, take, drop, Option, Some, None, slice_get, refl, sym, ap, subst, ◌∙◌, ◌⊎◌, inl, inr, arith, option_and_then}
 use Rattle.std.proofs.lemmas.List.{nil_from_length}
-use Rattle.wiring.specs.Options.{bind}
 use Rattle.wiring.specs.Wiring.{In}
 use Rattle.wiring.proofs.Lists.{take-suc_some, drop_some, split_at}
 use Rattle.wiring.proofs.Members.{In-append_left, In-append_right, In-append_cases}
@@ -47,21 +46,21 @@ module _ (look : Name → Option Module) (o : Op) where
   pub symbols_alike : (other : Name → Option Module) → ((s : Name) → In s (called_by (instance_in o.kind)) → look s ≡ other s) → by_symbol look o ≡ by_symbol other o
   symbols_alike other same = go (instance_in o.kind) same
     where
-      go : (x : Option Instance) → ((s : Name) → In s (called_by x) → look s ≡ other s) → bind x (λ (y : Instance). look y.symbol) ≡ bind x (λ (y : Instance). other y.symbol)
+      go : (x : Option Instance) → ((s : Name) → In s (called_by x) → look s ≡ other s) → option_and_then (λ (y : Instance). look y.symbol) x ≡ option_and_then (λ (y : Instance). other y.symbol) x
       go None each = refl
       go (Some y) each = each y.symbol (inl refl)
 
   pub none_named : ((s : Name) → In s (called_by (instance_in o.kind)) → look s ≡ None) → by_symbol look o ≡ None
   none_named each = go (instance_in o.kind) each
     where
-      go : (x : Option Instance) → ((s : Name) → In s (called_by x) → look s ≡ None) → bind x (λ (y : Instance). look y.symbol) ≡ None
+      go : (x : Option Instance) → ((s : Name) → In s (called_by x) → look s ≡ None) → option_and_then (λ (y : Instance). look y.symbol) x ≡ None
       go None none = refl
       go (Some y) none = none y.symbol (inl refl)
 
   pub named_none : by_symbol look o ≡ None → (s : Name) → In s (called_by (instance_in o.kind)) → look s ≡ None
   named_none none s here = go (instance_in o.kind) none here
     where
-      go : (x : Option Instance) → bind x (λ (y : Instance). look y.symbol) ≡ None → In s (called_by x) → look s ≡ None
+      go : (x : Option Instance) → option_and_then (λ (y : Instance). look y.symbol) x ≡ None → In s (called_by x) → look s ≡ None
       go None is named = absurd named
       go (Some y) is (inl same) = ap look same ∙ is
       go (Some y) is (inr never) = absurd never
@@ -69,7 +68,7 @@ module _ (look : Name → Option Module) (o : Op) where
   pub named_some : (c : Module) → by_symbol look o ≡ Some c → (s : Name) × In s (called_by (instance_in o.kind)) × (look s ≡ Some c)
   named_some c some = go (instance_in o.kind) some
     where
-      go : (x : Option Instance) → bind x (λ (y : Instance). look y.symbol) ≡ Some c → (s : Name) × In s (called_by x) × (look s ≡ Some c)
+      go : (x : Option Instance) → option_and_then (λ (y : Instance). look y.symbol) x ≡ Some c → (s : Name) × In s (called_by x) × (look s ≡ Some c)
       go None is = cc
       go (Some y) is = (y.symbol, inl refl, is)
 

@@ -8,7 +8,7 @@ use Rattle.hw_model.specs.Design.{Module, Design, find_module}
 use Rattle.hw_model.specs.Hierarchy.{callee_symbols, calls}
 use Rattle.hw_model.specs.Sound.{body_of}
 use Rattle.port_checks.proofs.Least.{found_module}
-use Rattle.hw_edits.proofs.ResetsKept.{find_symbol}
+use Rattle.edit_laws.proofs.ResetsKept.{find_symbol}
 use Rattle.inline_pass.specs.DeadModules.{AreReachedOf}
 use Rattle.inline_pass.proofs.ReachedLists.{reached_meets, is_known}
 

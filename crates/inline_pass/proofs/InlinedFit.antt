@@ -1,50 +1,43 @@
 -- A fit design stays fit where an instance is inlined.
-use Rattle.std.proofs.Common.{◌≡◌, ◌⊎◌, ℕ, zero, suc, true, false, List, [], ◌∷◌, ◌++◌, length, map, take, drop, set, Some, slice_get, refl, sym, ap, subst, ◌∙◌, inl, inr, append_assoc}
-use Rattle.std.proofs.lemmas.List.{length-map}
+use Rattle.std.proofs.Common.{◌≡◌, ◌⊎◌, ℕ, zero, suc, true, false, List, [], ◌∷◌, ◌++◌, map, take, drop, set, Some, slice_get, refl, sym, ap, subst, ◌∙◌, inl, inr, append_assoc}
 use Rattle.std.proofs.lemmas.Option.{slice_get_within}
-use Rattle.wiring.specs.Options.{bind}
 use Rattle.wiring.specs.Wiring.{In}
-use Rattle.wiring.proofs.Lists.{slice_get-append_at, slice_get-set_same, set_some}
+use Rattle.wiring.proofs.Lists.{slice_get-set_same}
 use Rattle.wiring.proofs.Members.{position_of_In, In-slice_get, In-append_cases, from_In-map}
-use Rattle.wiring.proofs.Options.{bind_some}
+use Rattle.wiring.proofs.Options.{and_then_some}
 use Rattle.hw_model.specs.Types.{Name}
 use Rattle.hw_model.specs.Kinds.{Kind, Instance}
 use Rattle.hw_model.specs.Kinds.Kind.{instance}
-use Rattle.hw_model.specs.Resets.{is_constant, ResetsFromPorts}
+use Rattle.hw_model.specs.Resets.{ResetsFromPorts}
 use Rattle.hw_model.specs.Design.{Ref, Op, Module, Design, find_module, instance_in, is_output_op, is_output_kind, callee, output_refs}
-use Rattle.hw_model.specs.Design.Ref.{undefined}
-use Rattle.canonical_form.specs.Bytes.{AreBytes}
-use Rattle.canonical_form.specs.Kinds.{IsWritten}
+use Rattle.stored_form.specs.Bytes.{AreBytes}
+use Rattle.stored_form.specs.Kinds.{IsWritten}
 use Rattle.design_cycles.specs.Asked.{HasDistinctSymbols}
 use Rattle.design_cycles.proofs.Callees.{found_at}
 use Rattle.port_checks.specs.ResetPorts.{is_reset_port}
 use Rattle.port_checks.proofs.Least.{found_module}
-use Rattle.op_verifier.specs.OpChecks.{is_nonzero_kind}
 use Rattle.op_verifier.proofs.Distinct.{distinct_symbols}
 use Rattle.op_verifier.proofs.WholeDesigns.{some_from}
-use Rattle.printable_designs.specs.Printable as printer
-use Rattle.hw_edits.specs.Edit.{retarget}
-use Rattle.hw_edits.specs.Resets.{marks_by_symbol}
-use Rattle.hw_edits.specs.Laws.{without, erase_op, with_body}
-use Rattle.accepted_edits.specs.Keeps.{IsFit}
-use Rattle.accepted_edits.proofs.Accepted.{fit_found}
-use Rattle.accepted_edits.proofs.Ends.{ends_retarget}
-use Rattle.accepted_edits.proofs.Resets.{no_other_reset, no_other_join}
-use Rattle.accepted_edits.proofs.TakenOut.{fit_erased}
-use Rattle.inline_laws.specs.Inline.{EndsWithOutput, wire_count, ref_or_undefined, inner_ref, inlined_wires, inlined_between, inline_op, IsInlined}
-use Rattle.inline_laws.specs.Unwire.{IsWireAt, operand_at, unwire, inline_without_wires}
+use Rattle.printing_laws.specs.Printable as printer
+use Rattle.edit_laws.specs.Edit.{retarget}
+use Rattle.edit_laws.specs.Resets.{marks_by_symbol}
+use Rattle.edit_laws.specs.Laws.{with_body}
+use Rattle.acceptance_laws.specs.Keeps.{IsFit}
+use Rattle.acceptance_laws.proofs.Ends.{ends_retarget}
+use Rattle.acceptance_laws.proofs.Resets.{no_other_reset, no_other_join}
+use Rattle.inline_laws.specs.Inline.{EndsWithOutput, wire_count, inner_ref, inlined_wires, inlined_between, inline_op, IsInlined}
+use Rattle.inline_laws.specs.Unwire.{unwire, inline_without_wires}
 use Rattle.inline_laws.proofs.Ends.{HasNoOutput, before_has_none, are_wires, wires_no_output}
-use Rattle.inline_laws.proofs.Inlining.{Finds, Inlining, inner, outer_stand, inner_stand, new_front, new_wires, new_inner, new_back, new_body, new_module}
+use Rattle.inline_laws.proofs.Inlining.{Finds, Inlining, inner, outer_stand, inner_stand, new_prefix, new_wires, new_inner, new_back, new_body, new_module}
 use Rattle.inline_laws.proofs.Inlining.Finds.{changed, unchanged}
 use Rattle.inline_laws.proofs.Follows.{length_before, valid_inlined, inlining}
-use Rattle.inline_laws.proofs.Unwired.{wire_erased_in}
-use Rattle.inline_laws.proofs.WithoutWires.{IsBareWire, bare_wires, bare_retarget, erased_is, set_twice, front_part, back_part, part_length, wires_are}
+use Rattle.inline_laws.proofs.WithoutWires.{bare_wires, set_twice, prefix_part, back_part, part_length, wires_are}
 use Rattle.inline_pass.specs.Renaming.{renamed}
 use Rattle.inline_pass.specs.Flattening.{instance_name, inlined_at}
 use Rattle.inline_pass.proofs.Renaming.{renamed_only}
 use Rattle.inline_pass.proofs.RenamedKinds.{kind_same}
-use Rattle.inline_pass.proofs.FitModules.{IsFitModule, fit_module, fit_of_modules}
-use Rattle.inline_pass.proofs.InlinedOperands.{instance_kind}
+use Rattle.pass_laws.proofs.FitWithoutWires.{fit_without_wires}
+use Rattle.acceptance_laws.proofs.FitModules.{IsFitModule, fit_module, fit_of_modules, instance_kind}
 use Rattle.inline_pass.proofs.InlinedResets.{resets_inlined}
 use Rattle.inline_pass.proofs.InlinedFitting.{called_still, all_inside}
 
@@ -103,8 +96,8 @@ module _ (S : Inlining) (u : Name) (is_renamed : S.rename ≡ renamed u) (bytes 
 
   new_ends : printer.EndsWithOutput (new_body S)
   new_ends =
-      subst (λ os. printer.EndsWithOutput (new_front S ++ os)) (append_assoc (new_wires S) (new_inner S) (new_back S))
-      (ends_replaced (outer_stand S) S.front S.o S.back (new_wires S ++ new_inner S) o_plain both_none
+      subst (λ os. printer.EndsWithOutput (new_prefix S ++ os)) (append_assoc (new_wires S) (new_inner S) (new_back S))
+      (ends_replaced (outer_stand S) S.prefix S.o S.back (new_wires S ++ new_inner S) o_plain both_none
       (subst printer.EndsWithOutput S.body_is (fit_module S.d fit k S.md at).ends))
     where
       o_plain : is_output_op S.o ≡ false
@@ -120,7 +113,7 @@ module _ (S : Inlining) (u : Name) (is_renamed : S.rename ≡ renamed u) (bytes 
       both_none y here = go (In-append_cases y (new_wires S) (new_inner S) here)
         where
           go : In y (new_wires S) ⊎ In y (new_inner S) → is_output_op y ≡ false
-          go (inl there) = wires_no_output (new_wires S) (are_wires S.o.place (inner_stand S) S.o.results (output_refs S.c.body)) y there
+          go (inl there) = wires_no_output (new_wires S) (are_wires S.o.location (inner_stand S) S.o.results (output_refs S.c.body)) y there
           go (inr there) = inner_none y there
 
   new_fit : find_module S.e S.md.symbol ≡ Some (new_module S) → IsFitModule S.e (new_module S)
@@ -182,71 +175,13 @@ module _ (S : Inlining) (u : Name) (is_renamed : S.rename ≡ renamed u) (bytes 
   fit_with_wires : IsFit S.e
   fit_with_wires = fit_of_modules S.e distinct (valid_inlined S) each_fit
 
--- ---- wires are taken out
-
--- a fit design stays fit without wires that stand side by side
-pub fit_without_wires : (n : ℕ) (front ws back : List Op) → length ws ≡ n → ((y : Op) → In y ws → IsBareWire y)
-    → (d : Design) (k : ℕ) (m : Module) → IsFit d → slice_get d k ≡ Some m → m.body ≡ front ++ (ws ++ back)
-    → IsFit (with_body d k m (unwire (length front) n m.body))
-fit_without_wires zero front ws back size bare d k m fit at body_is = subst IsFit (sym (set_some d k m at)) fit
-fit_without_wires (suc n) front [] back size bare d k m fit at body_is = cc
-fit_without_wires (suc n) front (w ∷ ws) back size bare d k m fit at body_is =
-    subst IsFit (set_twice d k m' (record m { body = unwire (length front) n os }))
-    (subst (λ i. IsFit (set e k (record m { body = unwire i n os }))) (length-map front (retarget f))
-    (fit_without_wires n (map (retarget f) front) (map (retarget f) ws) (map (retarget f) back) (length-map ws (retarget f) ∙ less size) bare_still e k m' fit_once
-    (slice_get-set_same d k m' (slice_get_within d k m at)) (ap (erase_op (length front) x) body_is ∙ erased_is front w ws back x)))
-  where
-    x : Ref
-    x = operand_at (length front) m.body
-
-    f : Ref → Ref
-    f = without (length front) (without (length front) undefined x)
-
-    os : List Op
-    os = erase_op (length front) x m.body
-
-    m' : Module
-    m' = record m { body = os }
-
-    e : Design
-    e = with_body d k m os
-
-    less : suc (length ws) ≡ suc n → length ws ≡ n
-    less same = cc
-
-    there : slice_get m.body (length front) ≡ Some w
-    there = ap (λ zs. slice_get zs (length front)) body_is ∙ slice_get-append_at front w (ws ++ back)
-
-    wire_is : IsBareWire w
-    wire_is = bare w (inl refl)
-
-    operand_is : x ≡ wire_is.operand
-    operand_is = ap (λ y. ref_or_undefined (bind y (λ (o : Op). slice_get o.operands 0))) there ∙ ap (λ rs. ref_or_undefined (slice_get rs 0)) wire_is.operand_is
-
-    wire_at : IsWireAt m.body (length front) w wire_is.type x
-    wire_at = record { there = there; kind_is = wire_is.kind_is; operand_is = wire_is.operand_is ∙ ap (λ r. r ∷ []) (sym operand_is); result_is = wire_is.result_is }
-
-    fit_once : IsFit e
-    fit_once =
-        fit_erased d k m (length front) w wire_is.type x fit at
-        (wire_erased_in d m.symbol m (length front) w wire_is.type x fit.valid (fit_found d fit k m at) wire_at)
-        (record {
-          known = λ h. let clash : false ≡ true = sym (ap is_nonzero_kind wire_is.kind_is) ∙ h in cc;
-          constant = λ h. let clash : false ≡ true = sym (ap is_constant wire_is.kind_is) ∙ h in cc;
-        })
-
-    bare_still : (y : Op) → In y (map (retarget f) ws) → IsBareWire y
-    bare_still y here =
-        let from = from_In-map (retarget f) y ws here in
-        subst IsBareWire (sym from.2) (bare_retarget f from.0 (bare from.0 (inr from.1)))
-
 -- ---- an instance
 
 -- an instance of a module of a fit design may be inlined
 pub is_inlined : (d : Design) (k : ℕ) (m : Module) (i : ℕ) (o : Op) (c : Module) → IsFit d → slice_get d k ≡ Some m → slice_get m.body i ≡ Some o → callee d o ≡ Some c
     → IsInlined d m i o c
 is_inlined d k m i o c fit at there leads =
-    let named = bind_some (instance_in o.kind) (λ (x : Instance). find_module d x.symbol) leads in
+    let named = and_then_some (instance_in o.kind) (λ (x : Instance). find_module d x.symbol) leads in
     let spot = position_of_In c d (found_module d named.0.symbol c named.2) in
     record { there = there; target = named.0; is_instance = named.1; is_found = named.2; ends = ends_here c.body (fit_module d fit spot.0 c spot.1).ends }
 
@@ -277,8 +212,8 @@ module _ (d : Design) (k : ℕ) (m : Module) (i : ℕ) (o : Op) (c : Module) (fi
   fit_here =
       subst IsFit (set_twice d k now (record m { body = inline_without_wires (renamed (instance_name o)) i o c m.body }))
       (subst (λ n. IsFit (set (with_body d k m now.body) k (record m { body = unwire n (wire_count o) now.body }))) (part_length d m i o c (renamed (instance_name o)) is)
-      (fit_without_wires (wire_count o) (front_part d m i o c (renamed (instance_name o)) is) (inlined_wires i o c) (back_part d m i o c (renamed (instance_name o)) is)
-      (wires_are d m i o c (renamed (instance_name o)) is) (bare_wires o.place (inner_ref i o c) o.results (output_refs c.body))
+      (fit_without_wires (wire_count o) (prefix_part d m i o c (renamed (instance_name o)) is) (inlined_wires i o c) (back_part d m i o c (renamed (instance_name o)) is)
+      (wires_are d m i o c (renamed (instance_name o)) is) (bare_wires o.location (inner_ref i o c) o.results (output_refs c.body))
       (with_body d k m now.body) k now fit_wired (slice_get-set_same d k now (slice_get_within d k m at)) refl))
     where
       now : Module

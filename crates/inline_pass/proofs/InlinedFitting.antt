@@ -19,14 +19,14 @@ use Rattle.op_checks.specs.OwnChecks.{own_cause}
 use Rattle.op_verifier.specs.Answers.{when}
 use Rattle.op_verifier.specs.OpChecks.{settled_type, has_again, has_undefined, has_other_outputs, value_cause, alone_cause}
 use Rattle.op_verifier.proofs.Unrefused.{or_none, when_none}
-use Rattle.canonical_form.specs.Bytes.{AreBytes}
-use Rattle.printable_designs.proofs.VerifiedDesigns.{defined_of, all_defined}
-use Rattle.hw_edits.specs.Edit.{retarget}
-use Rattle.accepted_edits.specs.Asked.{Operand, operand_in, operands_in, some_undefined, second_known, AllowsMore, AllowMore}
-use Rattle.accepted_edits.specs.Keeps.{IsFitting, IsFit}
-use Rattle.accepted_edits.proofs.Accepted.{fit_found, printable_with}
-use Rattle.accepted_edits.proofs.Causes.{undefined_told, types_told, known_told, undefined_more, types_more, known_more, length_more, own_more, none_or, when_false}
-use Rattle.accepted_edits.proofs.FitBodies.{operand_there, settled_here}
+use Rattle.stored_form.specs.Bytes.{AreBytes}
+use Rattle.printing_laws.proofs.VerifiedDesigns.{defined_of, all_defined}
+use Rattle.edit_laws.specs.Edit.{retarget}
+use Rattle.acceptance_laws.specs.Asked.{Operand, operand_in, operands_in, some_undefined, second_known, AllowsMore, AllowMore}
+use Rattle.acceptance_laws.specs.Keeps.{IsFitting, IsFit}
+use Rattle.acceptance_laws.proofs.Accepted.{fit_found, printable_with}
+use Rattle.acceptance_laws.proofs.Causes.{undefined_told, types_told, known_told, undefined_more, types_more, known_more, length_more, own_more, none_or, when_false}
+use Rattle.acceptance_laws.proofs.FitBodies.{operand_there, settled_here}
 use Rattle.inline_laws.specs.Inline.{wire_op}
 use Rattle.inline_laws.proofs.Ends.{before_has_none}
 use Rattle.inline_laws.proofs.Inlining.{Finds, Inlining, inner, outer_stand, inner_stand, new_wires, new_body, new_module}
@@ -35,9 +35,9 @@ use Rattle.inline_laws.proofs.Types.{in_module, each_op, wire_found, inner_type}
 use Rattle.inline_pass.specs.Renaming.{renamed_kind, renamed}
 use Rattle.inline_pass.proofs.RenamedKinds.{kind_same, own_cause_renamed}
 use Rattle.inline_pass.proofs.RenamedPrinting.{printable_renamed}
-use Rattle.inline_pass.proofs.FitModules.{IsFitOp, fit_module}
+use Rattle.acceptance_laws.proofs.FitModules.{IsFitOp, fit_module, instance_kind}
 use Rattle.inline_pass.proofs.InlinedWires.{IsWireType, wire_unrefused, wire_printable, result_wire_type, wire_from}
-use Rattle.inline_pass.proofs.InlinedOperands.{unported, instance_kind, instance_among, module_there, outer_allows, inner_allows}
+use Rattle.inline_pass.proofs.InlinedOperands.{unported, instance_among, module_there, outer_allows, inner_allows}
 
 -- ---- operands, but for whether they are input ports
 
@@ -182,13 +182,13 @@ module _ (S : Inlining) (u : Name) (is_renamed : S.rename ≡ renamed u) (bytes 
       values = none_or None (when (has_undefined S.md.ports (new_body S) (inner_stand S found.1 ∷ [])) cause.Undefined) refl
           (when_false (has_undefined S.md.ports (new_body S) (inner_stand S found.1 ∷ [])) cause.Undefined (ap (λ b. cond b false true) there));
       alone = ap (λ x. own_cause wire (found.0 ∷ []) (found.0 ∷ []) 1 (x ∷ []) false) settled ∙ wire_unrefused found.0 false typed;
-      printable = wire_printable S.md.ports (new_body S) S.o.place found.0 (inner_stand S found.1) typed (defined_of S.md.ports (new_body S) (inner_stand S found.1) there);
+      printable = wire_printable S.md.ports (new_body S) S.o.location found.0 (inner_stand S found.1) typed (defined_of S.md.ports (new_body S) (inner_stand S found.1) there);
     };
     outputs = refl;
     called = refl;
   })
     where
-      found : (t : HwType) × (r : Ref) × (y ≡ wire_op S.o.place t (inner_stand S r)) × (type_in S.c.ports S.c.body r ≡ Some t)
+      found : (t : HwType) × (r : Ref) × (y ≡ wire_op S.o.location t (inner_stand S r)) × (type_in S.c.ports S.c.body r ≡ Some t)
       found = wire_found S sound y here
 
       there : is_some (type_in S.md.ports (new_body S) (inner_stand S found.1)) ≡ true
@@ -199,7 +199,7 @@ module _ (S : Inlining) (u : Name) (is_renamed : S.rename ≡ renamed u) (bytes 
           (inner_allows S u is_renamed fit k at sound found.1 (ap is_some found.3)).type ∙ settled_here S.d fit (module_there S).0 S.c (module_there S).1 found.1 ∙ found.3
 
       from : (x : OpResult) × In x S.o.results × (y.types ≡ x.type ∷ [])
-      from = wire_from S.o.place (inner_stand S) S.o.results (output_refs S.c.body) y here
+      from = wire_from S.o.location (inner_stand S) S.o.results (output_refs S.c.body) y here
 
       typed : IsWireType found.0
       typed =

@@ -1,17 +1,15 @@
 -- What is asked of values once an instance is inlined: no less than before, but for whether they are input ports.
-use Rattle.std.proofs.Common.{◌≡◌, ℕ, zero, suc, ◌+◌, ◌<◌, Bool, true, false, cond, ◌&&◌, nat_eq, [], ◌∷◌, take, Option, Some, None, slice_get, refl, sym, ap, ap₂, subst, ◌∙◌}
+use Rattle.std.proofs.Common.{◌≡◌, ℕ, zero, suc, ◌+◌, ◌<◌, Bool, true, false, cond, ◌&&◌, nat_eq, [], ◌∷◌, take, Option, Some, None, slice_get, refl, sym, ap, ap₂, subst, ◌∙◌, option_and_then, option_map}
 use Rattle.std.specs.Prelude.{is_some, slice_index_or}
 use Rattle.std.proofs.lemmas.Option.{slice_get-map}
-use Rattle.wiring.specs.Options.{bind, omap}
 use Rattle.wiring.proofs.Lists.{slice_get-append_at, slice_get-append_right}
 use Rattle.wiring.specs.Wiring.{In}
 use Rattle.wiring.proofs.Members.{position_of_In, In-slice_get}
-use Rattle.wiring.proofs.Options.{omap_some}
+use Rattle.wiring.proofs.Options.{option_map_some}
 use Rattle.hw_model.specs.Types.{HwType}
-use Rattle.hw_model.specs.Kinds.{Kind, Instance}
-use Rattle.hw_model.specs.Kinds.Kind.{instance}
 use Rattle.hw_model.specs.Types.{Name}
-use Rattle.hw_model.specs.Design.{Ref, Port, OpResult, Op, instance_in, result_type, output_refs}
+use Rattle.hw_model.specs.Kinds.Kind.{instance}
+use Rattle.hw_model.specs.Design.{Ref, Port, OpResult, Op, result_type, output_refs}
 use Rattle.hw_model.specs.Design.Ref.{port, result, undefined}
 use Rattle.hw_model.specs.Flat.{input_count, operand_for}
 use Rattle.hw_model.specs.Resets.{is_constant}
@@ -19,20 +17,20 @@ use Rattle.hw_model.specs.Sound.{input_type, input_types, type_in, SoundBody}
 use Rattle.hw_model.proofs.NetWidths.{input_found, typed_at}
 use Rattle.port_checks.proofs.Least.{found_module}
 use Rattle.op_verifier.specs.OpChecks.{settled_by, is_nonzero_kind}
-use Rattle.op_verifier.proofs.WholeDesigns.{some_from}
-use Rattle.hw_edits.specs.Edit.{retarget}
-use Rattle.accepted_edits.specs.Asked.{Operand, operand_in, AllowsMore}
-use Rattle.accepted_edits.specs.Keeps.{IsFit}
-use Rattle.accepted_edits.proofs.FitBodies.{settled_result, own_cause_none, settled_here}
-use Rattle.accepted_edits.proofs.Values.{result_operand, operand_retarget}
+use Rattle.edit_laws.specs.Edit.{retarget}
+use Rattle.acceptance_laws.specs.Asked.{Operand, operand_in, AllowsMore}
+use Rattle.acceptance_laws.specs.Keeps.{IsFit}
+use Rattle.acceptance_laws.proofs.FitModules.{instance_kind}
+use Rattle.acceptance_laws.proofs.FitBodies.{settled_result, own_cause_none, settled_here}
+use Rattle.acceptance_laws.proofs.Values.{result_operand, operand_retarget}
 use Rattle.inline_laws.specs.Inline.{Side, side, wire_count, moved_count, outer_result, inner_result, wire_result, wire_op, ref_or_undefined}
 use Rattle.inline_laws.specs.Inline.Side.{in_first, in_second}
-use Rattle.inline_laws.proofs.Sides.{from_front, from_back}
-use Rattle.inline_laws.proofs.Parts.{get_front}
+use Rattle.inline_laws.proofs.Sides.{from_prefix, from_back}
+use Rattle.inline_laws.proofs.Parts.{get_prefix}
 use Rattle.inline_laws.proofs.Ends.{get_wire}
 use Rattle.inline_laws.proofs.Inlining.{Inlining, place, inner, outer_stand, inner_stand, new_body, end_is}
 use Rattle.inline_laws.proofs.Origins.{typed_within, operands_fit}
-use Rattle.inline_laws.proofs.Types.{front_at, wire_at, inner_at, back_at, inner_type}
+use Rattle.inline_laws.proofs.Types.{prefix_at, wire_at, inner_at, back_at, inner_type}
 use Rattle.inline_pass.specs.Renaming.{renamed}
 use Rattle.inline_pass.proofs.RenamedKinds.{operand_renamed}
 use Rattle.inline_pass.proofs.InlinedWires.{wire_settles}
@@ -53,15 +51,10 @@ allows_unported a b same = record {
   input = λ h. cc;
 }
 
--- an instance is no constant
-pub instance_kind : (k : Kind) (i : Instance) → instance_in k ≡ Some i → k ≡ instance i
-instance_kind (instance x) i is = ap instance (some_from is)
-instance_kind k i is = cc
-
 -- ---- where an instance is inlined
 
 pub instance_there : (S : Inlining) → slice_get S.md.body (place S) ≡ Some S.o
-instance_there S = ap (λ os. slice_get os (place S)) S.body_is ∙ slice_get-append_at S.front S.o S.back
+instance_there S = ap (λ os. slice_get os (place S)) S.body_is ∙ slice_get-append_at S.prefix S.o S.back
 
 pub instance_among : (S : Inlining) → In S.o S.md.body
 instance_among S = In-slice_get S.o S.md.body (place S) (instance_there S)
@@ -82,14 +75,14 @@ module _ (S : Inlining) (u : Name) (is_renamed : S.rename ≡ renamed u) (fit : 
   -- ---- values of the body
 
   old_past : (j n : ℕ) → j ≡ place S + n → slice_get S.md.body j ≡ slice_get (S.o ∷ S.back) n
-  old_past j n is = ap₂ (λ os m. slice_get os m) S.body_is is ∙ slice_get-append_right S.front (S.o ∷ S.back) n
+  old_past j n is = ap₂ (λ os m. slice_get os m) S.body_is is ∙ slice_get-append_right S.prefix (S.o ∷ S.back) n
 
-  front_same : (j n x : ℕ) → side (place S) j ≡ in_first x → result_operand n (slice_get (new_body S) x) ≡ result_operand n (slice_get S.md.body j)
-  front_same j n x is =
-      let from = from_front (place S) j x is in
-      ap (result_operand n) (front_at S x (subst (λ y. y < place S) (sym from.0) from.1) ∙ slice_get-map (retarget (outer_stand S)) S.front x)
-      ∙ operand_retarget (outer_stand S) n (slice_get S.front x)
-      ∙ ap (result_operand n) (sym (ap (λ os. slice_get os j) S.body_is ∙ get_front S.front (S.o ∷ S.back) j x is))
+  prefix_same : (j n x : ℕ) → side (place S) j ≡ in_first x → result_operand n (slice_get (new_body S) x) ≡ result_operand n (slice_get S.md.body j)
+  prefix_same j n x is =
+      let from = from_prefix (place S) j x is in
+      ap (result_operand n) (prefix_at S x (subst (λ y. y < place S) (sym from.0) from.1) ∙ slice_get-map (retarget (outer_stand S)) S.prefix x)
+      ∙ operand_retarget (outer_stand S) n (slice_get S.prefix x)
+      ∙ ap (result_operand n) (sym (ap (λ os. slice_get os j) S.body_is ∙ get_prefix S.prefix (S.o ∷ S.back) j x is))
 
   back_same : (j n x : ℕ) → side (place S) j ≡ in_second (suc x)
       → result_operand n (slice_get (new_body S) (place S + (wire_count S.o + (moved_count S.c + x)))) ≡ result_operand n (slice_get S.md.body j)
@@ -102,14 +95,14 @@ module _ (S : Inlining) (u : Name) (is_renamed : S.rename ≡ renamed u) (fit : 
   o_kind = instance_kind S.o.kind S.target S.is_instance
 
   -- a wire stands for a result of the instance
-  wire_there : (n : ℕ) (t : HwType) → result_type S.o n ≡ Some t → (r : Ref) × (slice_get (new_body S) (place S + n) ≡ Some (wire_op S.o.place t r))
+  wire_there : (n : ℕ) (t : HwType) → result_type S.o n ≡ Some t → (r : Ref) × (slice_get (new_body S) (place S + n) ≡ Some (wire_op S.o.location t r))
   wire_there n t typed =
-      let found = omap_some (λ (r : OpResult). r.type) (slice_get S.o.results n) typed in
-      let operand : Ref = ref_or_undefined (omap (inner_stand S) (slice_get (output_refs S.c.body) n)) in (
+      let found = option_map_some (λ (r : OpResult). r.type) (slice_get S.o.results n) typed in
+      let operand : Ref = ref_or_undefined (option_map (inner_stand S) (slice_get (output_refs S.c.body) n)) in (
         operand,
-        wire_at S n (typed_within S.o n t typed) ∙ get_wire S.o.place (inner_stand S) S.o.results (output_refs S.c.body) n
-            ∙ ap (omap (λ (x : OpResult). wire_op S.o.place x.type (ref_or_undefined (omap (inner_stand S) (slice_get (output_refs S.c.body) n))))) found.1
-            ∙ ap (λ y. Some (wire_op S.o.place y (ref_or_undefined (omap (inner_stand S) (slice_get (output_refs S.c.body) n))))) found.2,
+        wire_at S n (typed_within S.o n t typed) ∙ get_wire S.o.location (inner_stand S) S.o.results (output_refs S.c.body) n
+            ∙ ap (option_map (λ (x : OpResult). wire_op S.o.location x.type (ref_or_undefined (option_map (inner_stand S) (slice_get (output_refs S.c.body) n))))) found.1
+            ∙ ap (λ y. Some (wire_op S.o.location y (ref_or_undefined (option_map (inner_stand S) (slice_get (output_refs S.c.body) n))))) found.2,
       )
 
   wire_allows : (n : ℕ) (t : HwType) → result_type S.o n ≡ Some t → AllowsMore (unported (result_operand n (Some S.o))) (new_operand (result (place S + n) 0))
@@ -123,7 +116,7 @@ module _ (S : Inlining) (u : Name) (is_renamed : S.rename ≡ renamed u) (fit : 
         input = λ h. cc;
       })
     where
-      wire_type : (r : Ref) → slice_index_or (settled_by (wire_op S.o.place t r)) 0 None ≡ Some t
+      wire_type : (r : Ref) → slice_index_or (settled_by (wire_op S.o.location t r)) 0 None ≡ Some t
       wire_type r = ap (λ ts. slice_index_or ts 0 None) (wire_settles t 1)
 
       never : (b : Bool) → (b && is_nonzero_kind S.o.kind) ≡ false
@@ -145,10 +138,10 @@ module _ (S : Inlining) (u : Name) (is_renamed : S.rename ≡ renamed u) (fit : 
       own : slice_get S.md.body j ≡ Some S.o → AllowsMore (unported (outer_operand (result j n))) (new_operand (wire_result (place S) n (result_type S.o n)))
       own here =
           subst (λ x. AllowsMore (unported (result_operand n x)) (new_operand (wire_result (place S) n (result_type S.o n)))) (sym here)
-          (by_type (result_type S.o n) refl (sym (ap (λ x. is_some (bind x (λ (y : Op). result_type y n))) here) ∙ h))
+          (by_type (result_type S.o n) refl (sym (ap (λ x. is_some (option_and_then (λ (y : Op). result_type y n) x)) here) ∙ h))
 
       go : (s : Side) → side (place S) j ≡ s → AllowsMore (unported (outer_operand (result j n))) (new_operand (outer_result (place S) S.o S.c n s))
-      go (in_first x) is = allows_unported (outer_operand (result j n)) (new_operand (result x n)) (front_same j n x is)
+      go (in_first x) is = allows_unported (outer_operand (result j n)) (new_operand (result x n)) (prefix_same j n x is)
       go (in_second zero) is = own (old_past j 0 (from_back (place S) j 0 is))
       go (in_second (suc x)) is =
           allows_unported (outer_operand (result j n)) (new_operand (result (place S + (wire_count S.o + (moved_count S.c + x))) n)) (back_same j n x is)
@@ -158,14 +151,14 @@ module _ (S : Inlining) (u : Name) (is_renamed : S.rename ≡ renamed u) (fit : 
   inner_same : (j n x : ℕ) → side (moved_count S.c) j ≡ in_first x
       → result_operand n (slice_get (new_body S) (place S + (wire_count S.o + x))) ≡ result_operand n (slice_get S.c.body j)
   inner_same j n x is =
-      let from = from_front (moved_count S.c) j x is in
+      let from = from_prefix (moved_count S.c) j x is in
       ap (result_operand n) (inner_at S x (subst (λ y. y < moved_count S.c) (sym from.0) from.1)
       ∙ slice_get-map (λ (y : Op). S.rename (retarget (inner_stand S) y)) (inner S) x
-      ∙ ap (λ g. omap (λ (y : Op). g (retarget (inner_stand S) y)) (slice_get (inner S) x)) is_renamed)
+      ∙ ap (λ g. option_map (λ (y : Op). g (retarget (inner_stand S) y)) (slice_get (inner S) x)) is_renamed)
       ∙ moved (slice_get (inner S) x)
-      ∙ ap (result_operand n) (sym (ap (λ os. slice_get os j) (end_is S).body_is ∙ get_front (inner S) ((end_is S).last ∷ []) j x is))
+      ∙ ap (result_operand n) (sym (ap (λ os. slice_get os j) (end_is S).body_is ∙ get_prefix (inner S) ((end_is S).last ∷ []) j x is))
     where
-      moved : (y : Option Op) → result_operand n (omap (λ (z : Op). renamed u (retarget (inner_stand S) z)) y) ≡ result_operand n y
+      moved : (y : Option Op) → result_operand n (option_map (λ (z : Op). renamed u (retarget (inner_stand S) z)) y) ≡ result_operand n y
       moved None = refl
       moved (Some z) = operand_renamed u (inner_stand S) n z
 
@@ -195,7 +188,7 @@ module _ (S : Inlining) (u : Name) (is_renamed : S.rename ≡ renamed u) (fit : 
 
         joined_is : inner_stand S (port j) ≡ outer_stand S found.0
         joined_is =
-            ap (λ x. ref_or_undefined (omap (outer_stand S) x))
+            ap (λ x. ref_or_undefined (option_map (outer_stand S) x))
             (ap (λ p. operand_for p S.o.operands (input_count (take j S.c.ports))) there
             ∙ ap (λ b. cond b None (slice_get S.o.operands (input_count (take j S.c.ports)))) way
             ∙ found.1)

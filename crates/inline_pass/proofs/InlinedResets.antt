@@ -1,10 +1,9 @@
 -- Once an instance is inlined asynchronous resets come from the ports that were reset ports.
-use Rattle.std.proofs.Common.{◌≡◌, ℕ, Bool, true, false, cond, List, [], ◌∷◌, map, take, Option, Some, None, slice_get, refl, sym, ap, subst, ◌∙◌}
+use Rattle.std.proofs.Common.{◌≡◌, ℕ, Bool, true, false, cond, List, [], ◌∷◌, map, take, Option, Some, None, slice_get, refl, sym, ap, subst, ◌∙◌, option_and_then, option_map}
 use Rattle.std.proofs.lemmas.Option.{slice_get-map}
-use Rattle.wiring.specs.Options.{bind, omap}
 use Rattle.wiring.specs.Wiring.{In}
 use Rattle.wiring.proofs.Members.{position_of_In, In-slice_get}
-use Rattle.wiring.proofs.Options.{bind_some}
+use Rattle.wiring.proofs.Options.{and_then_some}
 use Rattle.hw_model.specs.Types.{Name}
 use Rattle.hw_model.specs.Kinds.{Instance}
 use Rattle.hw_model.specs.Kinds.Kind.{wire}
@@ -12,17 +11,17 @@ use Rattle.hw_model.specs.Design.{Ref, Port, Op, Module, find_module, instance_i
 use Rattle.hw_model.specs.Flat.{ResetBy, has_async_reset, async_parts, async_reset_in, input_count, operand_for, port_ref}
 use Rattle.hw_model.specs.Resets.{IsMarkedInput, IsConstantOf, ResetsFromPorts}
 use Rattle.hw_model.specs.Sound.{SoundBody}
-use Rattle.hw_edits.specs.Edit.{retarget}
-use Rattle.hw_edits.specs.Resets.{has_mark, marks_by_symbol}
-use Rattle.hw_edits.proofs.ResetsKept.{find_symbol}
+use Rattle.edit_laws.specs.Edit.{retarget}
+use Rattle.edit_laws.specs.Resets.{has_mark, marks_by_symbol}
+use Rattle.edit_laws.proofs.ResetsKept.{find_symbol}
 use Rattle.port_checks.specs.ResetPorts.{is_reset_port}
 use Rattle.op_verifier.specs.ResetChecks.{is_constant_ref}
 use Rattle.op_verifier.proofs.InputResets.{constant_is, resets_from_ports}
 use Rattle.op_verifier.proofs.WholeDesigns.{some_from}
-use Rattle.accepted_edits.specs.Keeps.{IsFit}
-use Rattle.accepted_edits.proofs.Accepted.{fit_found}
-use Rattle.accepted_edits.proofs.FitBodies.{operand_there}
-use Rattle.accepted_edits.proofs.Resets.{constant_told}
+use Rattle.acceptance_laws.specs.Keeps.{IsFit}
+use Rattle.acceptance_laws.proofs.Accepted.{fit_found}
+use Rattle.acceptance_laws.proofs.FitBodies.{operand_there}
+use Rattle.acceptance_laws.proofs.Resets.{constant_told}
 use Rattle.inline_laws.specs.Inline.{ref_or_undefined}
 use Rattle.inline_laws.proofs.Ends.{are_wires}
 use Rattle.inline_laws.proofs.Inlining.{Finds, Inlining, inner, outer_stand, inner_stand, new_wires, new_body, new_module}
@@ -71,7 +70,7 @@ joined_moved f ps rs j q is = go (slice_get ps j) is
   where
     by_way : (b : Bool) (n : ℕ) → cond b None (slice_get rs n) ≡ Some q → cond b None (slice_get (map f rs) n) ≡ Some (f q)
     by_way true n h = cc
-    by_way false n h = slice_get-map f rs n ∙ ap (omap f) h
+    by_way false n h = slice_get-map f rs n ∙ ap (option_map f) h
 
     go : (p : Option Port) → operand_for p rs (input_count (take j ps)) ≡ Some q → operand_for p (map f rs) (input_count (take j ps)) ≡ Some (f q)
     go None h = cc
@@ -142,7 +141,7 @@ module _ (S : Inlining) (u : Name) (is_renamed : S.rename ≡ renamed u) (fit : 
   -- ---- ports of the instance's module
 
   o_callee : callee S.d S.o ≡ Some S.c
-  o_callee = ap (λ x. bind x (λ (i : Instance). find_module S.d i.symbol)) S.is_instance ∙ S.is_found
+  o_callee = ap (λ x. option_and_then (λ (i : Instance). find_module S.d i.symbol) x) S.is_instance ∙ S.is_found
 
   outer_port : (r : Ref) → IsMarkedInput old_marks S.md r → outer_stand S r ≡ r
   outer_port r i = ap (outer_stand S) i.is_port ∙ sym i.is_port
@@ -152,7 +151,7 @@ module _ (S : Inlining) (u : Name) (is_renamed : S.rename ≡ renamed u) (fit : 
   inner_port r given =
       let joins = resets.joined S.md.symbol S.md S.o S.c r md_found (instance_among S) o_callee given in
       marked_same old_marks S.md joins.0 (inner_stand S r)
-      (ap (inner_stand S) given.is_port ∙ ap (λ x. ref_or_undefined (omap (outer_stand S) x)) joins.1 ∙ outer_port joins.0 joins.2) joins.2
+      (ap (inner_stand S) given.is_port ∙ ap (λ x. ref_or_undefined (option_map (outer_stand S) x)) joins.1 ∙ outer_port joins.0 joins.2) joins.2
 
   -- ---- the new body
 
@@ -172,7 +171,7 @@ module _ (S : Inlining) (u : Name) (is_renamed : S.rename ≡ renamed u) (fit : 
 
   wire_reset : (y : Op) → In y (new_wires S) → IsResetFrom y
   wire_reset y here r is =
-      let kind : y.kind ≡ wire = are_wires S.o.place (inner_stand S) S.o.results (output_refs S.c.body) y here in
+      let kind : y.kind ≡ wire = are_wires S.o.location (inner_stand S) S.o.results (output_refs S.c.body) y here in
       let none : None ≡ Some r = sym (ap (λ z. cond (has_async_reset z) (async_parts y.operands) None) kind) ∙ is in
       cc
 
@@ -200,7 +199,7 @@ module _ (S : Inlining) (u : Name) (is_renamed : S.rename ≡ renamed u) (fit : 
       → (q : Ref) × (port_ref c.ports z.operands given.number ≡ Some q) × IsMarkedInput old_marks S.md q
 
   leads : (y : Op) (i : Instance) (c : Module) → instance_in y.kind ≡ Some i → find_module S.d i.symbol ≡ Some c → callee S.d y ≡ Some c
-  leads y i c inst found = ap (λ x. bind x (λ (j : Instance). find_module S.d j.symbol)) inst ∙ found
+  leads y i c inst found = ap (λ x. option_and_then (λ (j : Instance). find_module S.d j.symbol) x) inst ∙ found
 
   outer_joined : (y : Op) → In y S.md.body → IsJoinedFrom (retarget (outer_stand S) y)
   outer_joined y here i c r inst found given =
@@ -212,7 +211,7 @@ module _ (S : Inlining) (u : Name) (is_renamed : S.rename ≡ renamed u) (fit : 
 
   wire_joined : (y : Op) → In y (new_wires S) → IsJoinedFrom y
   wire_joined y here i c r inst found given =
-      let kind : y.kind ≡ wire = are_wires S.o.place (inner_stand S) S.o.results (output_refs S.c.body) y here in
+      let kind : y.kind ≡ wire = are_wires S.o.location (inner_stand S) S.o.results (output_refs S.c.body) y here in
       let none : None ≡ Some i = sym (ap instance_in kind) ∙ inst in
       cc
 
@@ -220,7 +219,7 @@ module _ (S : Inlining) (u : Name) (is_renamed : S.rename ≡ renamed u) (fit : 
   inner_joined y inside = subst (λ g. IsJoinedFrom (g (retarget (inner_stand S) y))) (sym is_renamed) from
     where
       symbol_in : Option Instance → Option Name
-      symbol_in x = omap (λ (i : Instance). i.symbol) x
+      symbol_in x = option_map (λ (i : Instance). i.symbol) x
 
       from : IsJoinedFrom (renamed u (retarget (inner_stand S) y))
       from i c r inst found given =
@@ -232,7 +231,7 @@ module _ (S : Inlining) (u : Name) (is_renamed : S.rename ≡ renamed u) (fit : 
             inner_port joins.0 joins.2,
           )
         where
-          by_symbol : (x : Option Instance) → symbol_in x ≡ Some i.symbol → find_module S.d i.symbol ≡ Some c → bind x (λ (j : Instance). find_module S.d j.symbol) ≡ Some c
+          by_symbol : (x : Option Instance) → symbol_in x ≡ Some i.symbol → find_module S.d i.symbol ≡ Some c → option_and_then (λ (j : Instance). find_module S.d j.symbol) x ≡ Some c
           by_symbol None is there = cc
           by_symbol (Some j) is there = ap (find_module S.d) (some_from is) ∙ there
 
@@ -262,7 +261,7 @@ module _ (S : Inlining) (u : Name) (is_renamed : S.rename ≡ renamed u) (fit : 
     joined_in_module o c r here leads_to given = go (S.finds s)
       where
         inst : (i : Instance) × (instance_in o.kind ≡ Some i) × (find_module S.e i.symbol ≡ Some c)
-        inst = bind_some (instance_in o.kind) (λ (i : Instance). find_module S.e i.symbol) leads_to
+        inst = and_then_some (instance_in o.kind) (λ (i : Instance). find_module S.e i.symbol) leads_to
 
         called : WasFound inst.0.symbol c
         called = was_found inst.0.symbol c inst.2

@@ -6,21 +6,22 @@ use Rattle.wiring.proofs.Members.{position_of_In, from_In-map, from_In-drop}
 use Rattle.hw_model.specs.Types.{HwType}
 use Rattle.hw_model.specs.Kinds.{Kind, Instance}
 use Rattle.hw_model.specs.Kinds.Kind.{wire, instance}
-use Rattle.hw_model.specs.Design.{Ref, Port, OpResult, Op, Place}
+use Rattle.hw_model.specs.Design.{Ref, Port, OpResult, Op, Location}
 use Rattle.hw_model.specs.SameType.{type_self}
 use Rattle.ir_store.specs.ResultTypes.{result_types, result_count, result_type as type_of_result}
 use Rattle.op_checks.specs.TypeChecks.{is_outside, has_bad_field, has_clock_part, is_clock}
 use Rattle.op_checks.specs.OperandChecks.{has_other_form, has_other_operand, has_other_result, has_mismatch}
-use Rattle.op_checks.specs.LimitChecks.{has_type_outside, has_constant_outside, has_extract_outside, has_broken_copy, has_wide_concat, has_unknown_divisor, has_wrong_index, has_wrong_field, has_unequal_widths, value_types, has_clock_operand, has_clock_value}
+use Rattle.op_checks.specs.LimitChecks.{has_type_outside, has_constant_outside, has_extract_outside, has_broken_copy, has_wide_concat, has_unknown_divisor, has_wrong_index, has_wrong_field}
+use Rattle.op_checks.specs.LimitChecks.{has_unequal_widths, value_types, has_clock_operand, has_clock_value}
 use Rattle.op_checks.specs.CountChecks.{operands_written, operand_count, type_count, has_wrong_operands, has_wrong_results, has_miscounted_parts, has_wrong_count}
 use Rattle.op_checks.specs.OwnChecks.{own_cause}
 use Rattle.op_checks.proofs.Widths.{neither}
 use Rattle.op_verifier.specs.OpChecks.{alone_cause}
 use Rattle.op_verifier.proofs.NoCauseAlone.{no_cause_alone}
-use Rattle.canonical_form.specs.Bytes.{Each}
-use Rattle.canonical_form.specs.Limits.{IsAnyType}
-use Rattle.printable_designs.specs.Printable.{IsDefined, settled_result, IsPrintableOp}
-use Rattle.accepted_edits.proofs.Accepted.{each_at}
+use Rattle.stored_form.specs.Bytes.{Each}
+use Rattle.stored_form.specs.Limits.{IsAnyType}
+use Rattle.printing_laws.specs.Printable.{IsDefined, settled_result, IsPrintableOp}
+use Rattle.acceptance_laws.proofs.Accepted.{each_at}
 use Rattle.inline_laws.specs.Inline.{wire_op, wire_ops}
 
 -- ---- members
@@ -51,7 +52,7 @@ pub wire_unrefused : (t : HwType) (known : Bool) → IsWireType t → own_cause 
 unfolding own_cause has_mismatch has_other_form has_other_operand has_other_result result_types type_of_result has_type_outside has_constant_outside has_extract_outside has_broken_copy has_wide_concat has_unknown_divisor has_wrong_index has_wrong_field has_unequal_widths has_clock_value has_clock_operand has_wrong_count has_wrong_operands has_wrong_results operand_count operands_written type_count has_miscounted_parts result_count
 wire_unrefused t known is = rw (type_self t, is.within, is.fields, is.clock_part, is.no_clock) refl
 
-pub wire_printable : (ports : List Port) (os : List Op) (at : Place) (t : HwType) (r : Ref) → IsWireType t → IsDefined ports os r → IsPrintableOp ports os (wire_op at t r)
+pub wire_printable : (ports : List Port) (os : List Op) (at : Location) (t : HwType) (r : Ref) → IsWireType t → IsDefined ports os r → IsPrintableOp ports os (wire_op at t r)
 unfolding operands_written type_count result_types type_of_result
 wire_printable ports os at t r is defined = record {
   defined = (defined, tt);
@@ -99,7 +100,7 @@ result_wire_type ports os o i kind none printable x here =
         }
 
 -- a wire has the type of a result that it stands for
-pub wire_from : (at : Place) (move : Ref → Ref) (xs : List OpResult) (rs : List Ref) (y : Op) → In y (wire_ops at move xs rs)
+pub wire_from : (at : Location) (move : Ref → Ref) (xs : List OpResult) (rs : List Ref) (y : Op) → In y (wire_ops at move xs rs)
     → (x : OpResult) × In x xs × (y.types ≡ x.type ∷ [])
 wire_from at move [] rs y here = absurd here
 wire_from at move (x ∷ xs) [] y (inl same) = (x, inl refl, ap (λ (z : Op). z.types) same)

@@ -2,9 +2,9 @@
 use Rattle.std.proofs.Common.{◌≡◌, ℕ, suc, Bool, true, false, cond, List, [], ◌∷◌, ◌++◌, length, map, take, drop, get_or, refl, ap, ap₂, ◌∙◌, arith}
 use Rattle.std.specs.Prelude.{All}
 use Rattle.hw_model.specs.Types.{Name}
-use Rattle.hw_model.specs.Design.{Ref, Op, OpResult, Place, is_output_kind, output_refs}
+use Rattle.hw_model.specs.Design.{Ref, Op, OpResult, Location, is_output_kind, output_refs}
 use Rattle.hw_model.specs.Design.Ref.{undefined}
-use Rattle.hw_edits.specs.Edit.{retarget}
+use Rattle.edit_laws.specs.Edit.{retarget}
 use Rattle.ir_store.specs.declared.operation.OpId.{OpId}
 use Rattle.ir_store.specs.declared.operation.Value.{Value}
 use Rattle.ir_store.specs.declared.operation.Value.TheVariants.{Undefined}
@@ -73,7 +73,7 @@ copies_seen p q f g u seen (i ∷ ids) (o ∷ os) many =
     (copies_seen p q f g u seen ids os (omega (arith, many)))
 
 -- wires
-pub wires_seen : (p q : ℕ → ℕ) (f : Value → Value) (g : Ref → Ref) → g undefined ≡ undefined → ((v : Value) → ref_by p (f v) ≡ g (ref_by q v)) → (at : Place) (ids : List OpId) (xs : List OpResult) (vs : List Value)
+pub wires_seen : (p q : ℕ → ℕ) (f : Value → Value) (g : Ref → Ref) → g undefined ≡ undefined → ((v : Value) → ref_by p (f v) ≡ g (ref_by q v)) → (at : Location) (ids : List OpId) (xs : List OpResult) (vs : List Value)
     → length ids ≡ length xs → map (op_by p) (map (with_values f) (with_ids ids (wires_of at xs vs))) ≡ wire_ops at g xs (map (ref_by q) vs)
 wires_seen p q f g none seen at [] [] vs many = refl
 wires_seen p q f g none seen at [] (x ∷ xs) vs many = absurd (omega (arith, many))
@@ -85,10 +85,10 @@ wires_seen p q f g none seen at (i ∷ ids) (x ∷ xs) (v ∷ vs) many =
 
 -- ---- the parts of a body
 
-pub take_front : {A : Type 0} (xs ys : List A) → take (length xs) (xs ++ ys) ≡ xs
-take_front [] ys = refl
-take_front (x ∷ xs) ys = ap (λ zs. x ∷ zs) (take_front xs ys)
+pub take_prefix : {A : Type 0} (xs ys : List A) → take (length xs) (xs ++ ys) ≡ xs
+take_prefix [] ys = refl
+take_prefix (x ∷ xs) ys = ap (λ zs. x ∷ zs) (take_prefix xs ys)
 
-pub drop_front : {A : Type 0} (xs : List A) (y : A) (ys : List A) → drop (suc (length xs)) (xs ++ (y ∷ ys)) ≡ ys
-drop_front [] y ys = refl
-drop_front (x ∷ xs) y ys = drop_front xs y ys
+pub drop_prefix : {A : Type 0} (xs : List A) (y : A) (ys : List A) → drop (suc (length xs)) (xs ++ (y ∷ ys)) ≡ ys
+drop_prefix [] y ys = refl
+drop_prefix (x ∷ xs) y ys = drop_prefix xs y ys

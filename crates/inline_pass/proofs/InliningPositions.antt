@@ -1,10 +1,9 @@
 -- Values of a body in which an instance is inlined, by positions.
-use Rattle.std.proofs.Common.{◌≡◌, ℕ, zero, suc, ◌+◌, ◌<◌, ◌≤◌, Bool, true, false, nat_eq, cond, List, [], ◌∷◌, ◌++◌, length, map, take, drop, get_or, Option, Some, None, slice_get, refl, sym, ap, ◌∙◌, inl, inr, arith}
+use Rattle.std.proofs.Common.{◌≡◌, ℕ, zero, suc, ◌+◌, ◌<◌, ◌≤◌, Bool, true, false, nat_eq, cond, List, [], ◌∷◌, ◌++◌, length, map, take, drop, get_or, Option, Some, None, slice_get, refl, sym, ap, ◌∙◌, inl, inr, arith, option_map}
 use Rattle.std.specs.Prelude.{◌⊎◌, All}
 use Rattle.std.proofs.lemmas.Bool.{eqb-true, eqb-false}
 use Rattle.std.proofs.lemmas.List.{length-map}
 use Rattle.std.proofs.lemmas.Option.{slice_get_past, slice_get_within}
-use Rattle.wiring.specs.Options.{omap}
 use Rattle.wiring.proofs.Members.{In-slice_get}
 use Rattle.hw_model.specs.Design.{Ref, Op, OpResult, Port as HwPort, Module}
 use Rattle.hw_model.specs.Design.Ref.{result, undefined}
@@ -18,11 +17,11 @@ use Rattle.ir_store.proofs.PositionTables.{position_found}
 use Rattle.linked_lists.specs.Ids.{times}
 use Rattle.linked_lists.proofs.IdLemmas.{contained_times, times-append}
 use Rattle.inline_laws.specs.Inline.{side, ref_or_undefined, wire_count, moved_count, wire_result, outer_result, outer_ref, inner_result, inner_ref}
-use Rattle.inline_laws.proofs.Sides.{side_front, side_back}
+use Rattle.inline_laws.proofs.Sides.{side_prefix, side_back}
 use Rattle.inline_laws.specs.Unwire.{unwire}
-use Rattle.inline_pass.specs.WiresOut.{first_position}
-use Rattle.inline_pass.specs.MovedOps.{joined_values, moved_value, value_or_undefined, copy_result}
-use Rattle.inline_pass.proofs.IdLists.{times_self, times_other, position_front, position_below, position_back, position_self, position_next}
+use Rattle.body_edits.specs.WiresOut.{first_position, value_or_undefined}
+use Rattle.inline_pass.specs.MovedOps.{joined_values, moved_value, copy_result}
+use Rattle.body_edits.proofs.IdLists.{times_self, times_other, position_prefix, position_below, position_back, position_self, position_next}
 use Rattle.inline_pass.proofs.InliningValues.{numbers, old_ids, new_ids, IsOld, wires_other, copies_other}
 use Rattle.inline_pass.proofs.ResultsReplaced.{redirect, redirect_other, redirect_result, not_of}
 
@@ -43,32 +42,32 @@ operand_next (Some p) [] n = refl
 operand_next (Some p) (r ∷ rs) n = refl
 
 pub joined_seen : (F : Value → Ref) (G : Ref → Ref) (h : Value → Ref) → F Undefined ≡ undefined → (ps : List HwPort) (vs : List Value) → All (λ v. F v ≡ G (h v)) vs → (j : ℕ)
-    → F (value_or_undefined (slice_get (joined_values ps vs) j)) ≡ ref_or_undefined (omap G (port_ref ps (map h vs) j))
+    → F (value_or_undefined (slice_get (joined_values ps vs) j)) ≡ ref_or_undefined (option_map G (port_ref ps (map h vs) j))
 joined_seen F G h none [] vs all j = none
 joined_seen F G h none (p ∷ ps) vs all zero = go p.is_output vs all
   where
     go : (b : Bool) (vs : List Value) → All (λ v. F v ≡ G (h v)) vs
         → F (value_or_undefined (slice_get (cond b (Undefined ∷ joined_values ps vs) (value_or_undefined (slice_get vs 0) ∷ joined_values ps (drop 1 vs))) 0))
-        ≡ ref_or_undefined (omap G (cond b None (slice_get (map h vs) 0)))
+        ≡ ref_or_undefined (option_map G (cond b None (slice_get (map h vs) 0)))
     go true vs all = none
     go false [] all = none
     go false (v ∷ vs) all = first_of_all (λ v. F v ≡ G (h v)) v vs all
 joined_seen F G h none (p ∷ ps) vs all (suc j) = go p.is_output vs all (λ ws each. joined_seen F G h none ps ws each j)
   where
     go : (b : Bool) (vs : List Value) → All (λ v. F v ≡ G (h v)) vs
-        → ((ws : List Value) → All (λ v. F v ≡ G (h v)) ws → F (value_or_undefined (slice_get (joined_values ps ws) j)) ≡ ref_or_undefined (omap G (port_ref ps (map h ws) j)))
+        → ((ws : List Value) → All (λ v. F v ≡ G (h v)) ws → F (value_or_undefined (slice_get (joined_values ps ws) j)) ≡ ref_or_undefined (option_map G (port_ref ps (map h ws) j)))
         → F (value_or_undefined (slice_get (cond b (Undefined ∷ joined_values ps vs) (value_or_undefined (slice_get vs 0) ∷ joined_values ps (drop 1 vs))) (suc j)))
-        ≡ ref_or_undefined (omap G (operand_for (slice_get ps j) (map h vs) (cond b (input_count (take j ps)) (suc (input_count (take j ps))))))
+        ≡ ref_or_undefined (option_map G (operand_for (slice_get ps j) (map h vs) (cond b (input_count (take j ps)) (suc (input_count (take j ps))))))
     go true vs all rest = rest vs all
-    go false [] all rest = rest [] all ∙ ap (λ r. ref_or_undefined (omap G r)) (sym (operand_next (slice_get ps j) [] (input_count (take j ps))))
+    go false [] all rest = rest [] all ∙ ap (λ r. ref_or_undefined (option_map G r)) (sym (operand_next (slice_get ps j) [] (input_count (take j ps))))
     go false (v ∷ vs) all rest =
         rest vs (rest_of_all (λ v. F v ≡ G (h v)) v vs all)
-        ∙ ap (λ r. ref_or_undefined (omap G r)) (sym (operand_next (slice_get ps j) (map h (v ∷ vs)) (input_count (take j ps))))
+        ∙ ap (λ r. ref_or_undefined (option_map G r)) (sym (operand_next (slice_get ps j) (map h (v ∷ vs)) (input_count (take j ps))))
 
 -- ---- values
 
-module _ (front : List ℕ) (op : OpId) (back : List ℕ) (wires copies : List OpId)
-    (apart : (v : ℕ) → times v front + (times v (numbers wires) + (times v (numbers copies) + times v (op.index ∷ back))) ≤ 1)
+module _ (prefix : List ℕ) (op : OpId) (back : List ℕ) (wires copies : List OpId)
+    (apart : (v : ℕ) → times v prefix + (times v (numbers wires) + (times v (numbers copies) + times v (op.index ∷ back))) ≤ 1)
     (o : Op) (c : Module) (many_wires : length wires ≡ wire_count o) (many_copies : length copies ≡ moved_count c) where
   wires_long : length (numbers wires) ≡ wire_count o
   wires_long = length-map wires (λ (i : OpId). i.index) ∙ many_wires
@@ -91,154 +90,154 @@ module _ (front : List ℕ) (op : OpId) (back : List ℕ) (wires copies : List O
       more false h = h
 
   -- a wire
-  wire_place : (k : ℕ) (w : OpId) → slice_get wires k ≡ Some w → position_of (new_ids front op back wires copies apart) w.index ≡ length front + k
+  wire_place : (k : ℕ) (w : OpId) → slice_get wires k ≡ Some w → position_of (new_ids prefix op back wires copies apart) w.index ≡ length prefix + k
   wire_place k w at =
       let here = number_at wires k w at in
       let some = counted_at (numbers wires) k w.index here in
       let few = apart w.index in
-      let none : times w.index front ≡ 0 = omega (arith, some, few) in
-      let past = position_back front (numbers wires ++ (numbers copies ++ back)) w.index none in
-      let first = position_front (numbers wires) (numbers copies ++ back) w.index some in
+      let none : times w.index prefix ≡ 0 = omega (arith, some, few) in
+      let past = position_back prefix (numbers wires ++ (numbers copies ++ back)) w.index none in
+      let first = position_prefix (numbers wires) (numbers copies ++ back) w.index some in
       let found = position_found (numbers wires) w.index k (omega (arith, few)) here in
       omega (arith, past, first, found)
 
   -- a copy
-  copy_place : (k : ℕ) (w : OpId) → slice_get copies k ≡ Some w → position_of (new_ids front op back wires copies apart) w.index ≡ length front + (wire_count o + k)
+  copy_place : (k : ℕ) (w : OpId) → slice_get copies k ≡ Some w → position_of (new_ids prefix op back wires copies apart) w.index ≡ length prefix + (wire_count o + k)
   copy_place k w at =
       let here = number_at copies k w at in
       let some = counted_at (numbers copies) k w.index here in
       let few = apart w.index in
-      let none : times w.index front ≡ 0 = omega (arith, some, few) in
+      let none : times w.index prefix ≡ 0 = omega (arith, some, few) in
       let no_wire : times w.index (numbers wires) ≡ 0 = omega (arith, some, few) in
-      let past = position_back front (numbers wires ++ (numbers copies ++ back)) w.index none in
+      let past = position_back prefix (numbers wires ++ (numbers copies ++ back)) w.index none in
       let next = position_back (numbers wires) (numbers copies ++ back) w.index no_wire in
-      let first = position_front (numbers copies) back w.index some in
+      let first = position_prefix (numbers copies) back w.index some in
       let found = position_found (numbers copies) w.index k (omega (arith, few)) here in
       omega (arith, past, next, first, found, wires_long)
 
   -- the instance itself
-  own_place : position_of (old_ids front op back wires copies apart) op.index ≡ length front + 0
+  own_place : position_of (old_ids prefix op back wires copies apart) op.index ≡ length prefix + 0
   own_place =
       let few = apart op.index in
       let own = times_self op.index back in
-      let none : times op.index front ≡ 0 = omega (arith, few, own) in
-      position_back front (op.index ∷ back) op.index none ∙ ap (λ n. length front + n) (position_self op.index back)
+      let none : times op.index prefix ≡ 0 = omega (arith, few, own) in
+      position_back prefix (op.index ∷ back) op.index none ∙ ap (λ n. length prefix + n) (position_self op.index back)
 
-  outer_of_op : (k : ℕ) (w : OpId) → slice_get wires k ≡ Some w → result (length front + k) 0 ≡ outer_result (length front) o c k (side (length front) (length front + 0))
+  outer_of_op : (k : ℕ) (w : OpId) → slice_get wires k ≡ Some w → result (length prefix + k) 0 ≡ outer_result (length prefix) o c k (side (length prefix) (length prefix + 0))
   outer_of_op k w at =
       let within = slice_get_within wires k w at in
       let one = there_at o.results k (omega (arith, within, many_wires)) in
-      sym (ap (outer_result (length front) o c k) (side_back (length front) 0) ∙ ap (wire_result (length front) k) (ap (omap (λ (x : OpResult). x.type)) one.1))
+      sym (ap (outer_result (length prefix) o c k) (side_back (length prefix) 0) ∙ ap (wire_result (length prefix) k) (ap (option_map (λ (x : OpResult). x.type)) one.1))
 
   -- a value that the body had
-  pub outer_seen : (v : Value) → IsOld front op back wires copies apart v
-      → ref_by (position_of (new_ids front op back wires copies apart)) (redirect op 0 wires v) ≡ outer_ref (length front) o c (ref_by (position_of (old_ids front op back wires copies apart)) v)
-  outer_seen (Port n) old = ap (ref_by (position_of (new_ids front op back wires copies apart))) (redirect_other op 0 wires (Port n) refl)
-  outer_seen Undefined old = ap (ref_by (position_of (new_ids front op back wires copies apart))) (redirect_other op 0 wires Undefined refl)
+  pub outer_seen : (v : Value) → IsOld prefix op back wires copies apart v
+      → ref_by (position_of (new_ids prefix op back wires copies apart)) (redirect op 0 wires v) ≡ outer_ref (length prefix) o c (ref_by (position_of (old_ids prefix op back wires copies apart)) v)
+  outer_seen (Port n) old = ap (ref_by (position_of (new_ids prefix op back wires copies apart))) (redirect_other op 0 wires (Port n) refl)
+  outer_seen Undefined old = ap (ref_by (position_of (new_ids prefix op back wires copies apart))) (redirect_other op 0 wires Undefined refl)
   outer_seen (Result id k) old = go (nat_eq id.index op.index) refl
     where
-      of_front : (id.index ≡ op.index → ⊥) → 0 < times id.index front
-          → position_of (new_ids front op back wires copies apart) id.index ≡ position_of front id.index
-      of_front other some = position_front front (numbers wires ++ (numbers copies ++ back)) id.index some
+      of_prefix : (id.index ≡ op.index → ⊥) → 0 < times id.index prefix
+          → position_of (new_ids prefix op back wires copies apart) id.index ≡ position_of prefix id.index
+      of_prefix other some = position_prefix prefix (numbers wires ++ (numbers copies ++ back)) id.index some
 
-      in_back : (id.index ≡ op.index → ⊥) → times id.index front ≡ 0 → 0 < times id.index back
+      in_back : (id.index ≡ op.index → ⊥) → times id.index prefix ≡ 0 → 0 < times id.index back
       in_back other none =
-          let here = contained_times (old_ids front op back wires copies apart) id.index old.live in
-          let both = times-append id.index front (op.index ∷ back) in
+          let here = contained_times (old_ids prefix op back wires copies apart) id.index old.live in
+          let both = times-append id.index prefix (op.index ∷ back) in
           let past = times_other id.index op.index back (λ same. other (sym same)) in
           omega (arith, here, both, past, none)
 
-      of_back : (id.index ≡ op.index → ⊥) → times id.index front ≡ 0
-          → position_of (new_ids front op back wires copies apart) id.index ≡ length front + (wire_count o + (moved_count c + position_of back id.index))
+      of_back : (id.index ≡ op.index → ⊥) → times id.index prefix ≡ 0
+          → position_of (new_ids prefix op back wires copies apart) id.index ≡ length prefix + (wire_count o + (moved_count c + position_of back id.index))
       of_back other none =
           let some = in_back other none in
           let few = apart id.index in
           let past = times_other id.index op.index back (λ same. other (sym same)) in
           let no_wire : times id.index (numbers wires) ≡ 0 = omega (arith, some, few, past) in
           let no_copy : times id.index (numbers copies) ≡ 0 = omega (arith, some, few, past) in
-          let a = position_back front (numbers wires ++ (numbers copies ++ back)) id.index none in
+          let a = position_back prefix (numbers wires ++ (numbers copies ++ back)) id.index none in
           let b = position_back (numbers wires) (numbers copies ++ back) id.index no_wire in
           let d = position_back (numbers copies) back id.index no_copy in
           omega (arith, a, b, d, wires_long, copies_long)
 
-      others : (id.index ≡ op.index → ⊥) → (times id.index front ≡ 0) ⊎ (0 < times id.index front)
-          → result (position_of (new_ids front op back wires copies apart) id.index) k
-          ≡ outer_result (length front) o c k (side (length front) (position_of (old_ids front op back wires copies apart) id.index))
+      others : (id.index ≡ op.index → ⊥) → (times id.index prefix ≡ 0) ⊎ (0 < times id.index prefix)
+          → result (position_of (new_ids prefix op back wires copies apart) id.index) k
+          ≡ outer_result (length prefix) o c k (side (length prefix) (position_of (old_ids prefix op back wires copies apart) id.index))
       others other (inl none) =
-          let old_place = position_back front (op.index ∷ back) id.index none ∙ ap (λ n. length front + n) (position_next op.index id.index back (λ same. other (sym same))) in
+          let old_place = position_back prefix (op.index ∷ back) id.index none ∙ ap (λ n. length prefix + n) (position_next op.index id.index back (λ same. other (sym same))) in
           ap (λ n. result n k) (of_back other none)
-          ∙ sym (ap (λ n. outer_result (length front) o c k (side (length front) n)) old_place ∙ ap (outer_result (length front) o c k) (side_back (length front) (suc (position_of back id.index))))
+          ∙ sym (ap (λ n. outer_result (length prefix) o c k (side (length prefix) n)) old_place ∙ ap (outer_result (length prefix) o c k) (side_back (length prefix) (suc (position_of back id.index))))
       others other (inr some) =
-          ap (λ n. result n k) (of_front other some)
-          ∙ sym (ap (λ n. outer_result (length front) o c k (side (length front) n)) (position_front front (op.index ∷ back) id.index some)
-          ∙ ap (outer_result (length front) o c k) (side_front (length front) (position_of front id.index) (position_below front id.index some)))
+          ap (λ n. result n k) (of_prefix other some)
+          ∙ sym (ap (λ n. outer_result (length prefix) o c k (side (length prefix) n)) (position_prefix prefix (op.index ∷ back) id.index some)
+          ∙ ap (outer_result (length prefix) o c k) (side_prefix (length prefix) (position_of prefix id.index) (position_below prefix id.index some)))
 
-      go : (b : Bool) → nat_eq id.index op.index ≡ b → ref_by (position_of (new_ids front op back wires copies apart)) (redirect op 0 wires (Result id k))
-          ≡ outer_result (length front) o c k (side (length front) (position_of (old_ids front op back wires copies apart) id.index))
+      go : (b : Bool) → nat_eq id.index op.index ≡ b → ref_by (position_of (new_ids prefix op back wires copies apart)) (redirect op 0 wires (Result id k))
+          ≡ outer_result (length prefix) o c k (side (length prefix) (position_of (old_ids prefix op back wires copies apart) id.index))
       go true is =
           let same = eqb-true id.index op.index is in
           let w = there_at wires k (old.within id k refl same) in
           let zero_add : 0 + k ≡ k = omega arith in
-          ap (ref_by (position_of (new_ids front op back wires copies apart)))
-          (ap (λ n. redirect op 0 wires (Result id n)) (sym zero_add) ∙ redirect_result op 0 wires k w.0 id (wires_other front op back wires copies apart) w.1 same)
+          ap (ref_by (position_of (new_ids prefix op back wires copies apart)))
+          (ap (λ n. redirect op 0 wires (Result id n)) (sym zero_add) ∙ redirect_result op 0 wires k w.0 id (wires_other prefix op back wires copies apart) w.1 same)
           ∙ ap (λ n. result n 0) (wire_place k w.0 w.1) ∙ outer_of_op k w.0 w.1
-          ∙ sym (ap (λ n. outer_result (length front) o c k (side (length front) n)) (ap (position_of (old_ids front op back wires copies apart)) same ∙ own_place))
+          ∙ sym (ap (λ n. outer_result (length prefix) o c k (side (length prefix) n)) (ap (position_of (old_ids prefix op back wires copies apart)) same ∙ own_place))
       go false is =
-          ap (ref_by (position_of (new_ids front op back wires copies apart))) (redirect_other op 0 wires (Result id k) is)
-          ∙ others (eqb-false id.index op.index is) (none_or_some (times id.index front))
+          ap (ref_by (position_of (new_ids prefix op back wires copies apart))) (redirect_other op 0 wires (Result id k) is)
+          ∙ others (eqb-false id.index op.index is) (none_or_some (times id.index prefix))
 
   -- the first of the wires stands where the instance stood
-  pub first_place : (os : List Op) → unwire (first_position (new_ids front op back wires copies apart) wires) (length wires) os ≡ unwire (length front) (length wires) os
+  pub first_place : (os : List Op) → unwire (first_position (new_ids prefix op back wires copies apart) wires) (length wires) os ≡ unwire (length prefix) (length wires) os
   first_place os = go wires refl
     where
-      go : (ws : List OpId) → wires ≡ ws → unwire (first_position (new_ids front op back wires copies apart) ws) (length ws) os ≡ unwire (length front) (length ws) os
+      go : (ws : List OpId) → wires ≡ ws → unwire (first_position (new_ids prefix op back wires copies apart) ws) (length ws) os ≡ unwire (length prefix) (length ws) os
       go [] is = refl
       go (w ∷ ws) is =
           let at : slice_get wires 0 ≡ Some w = ap (λ (ys : List OpId). slice_get ys 0) is in
-          let place : position_of (new_ids front op back wires copies apart) w.index ≡ length front = (let p = wire_place 0 w at in omega (arith, p)) in
+          let place : position_of (new_ids prefix op back wires copies apart) w.index ≡ length prefix = (let p = wire_place 0 w at in omega (arith, p)) in
           ap (λ n. unwire n (suc (length ws)) os) place
 
   -- the instance stood there
-  pub stood_at : position_of (old_ids front op back wires copies apart) op.index ≡ length front
+  pub stood_at : position_of (old_ids prefix op back wires copies apart) op.index ≡ length prefix
   stood_at = let p = own_place in omega (arith, p)
 
   -- a value of the module
-  module _ (vs : List Value) (all : All (IsOld front op back wires copies apart) vs)
-      (operands_are : o.operands ≡ map (ref_by (position_of (old_ids front op back wires copies apart))) vs) (ids rest : List ℕ) (ids_long : length ids ≡ length copies) where
-    nothing : ref_by (position_of (new_ids front op back wires copies apart)) (redirect op 0 wires Undefined) ≡ undefined
-    nothing = ap (ref_by (position_of (new_ids front op back wires copies apart))) (redirect_other op 0 wires Undefined refl)
+  module _ (vs : List Value) (all : All (IsOld prefix op back wires copies apart) vs)
+      (operands_are : o.operands ≡ map (ref_by (position_of (old_ids prefix op back wires copies apart))) vs) (ids rest : List ℕ) (ids_long : length ids ≡ length copies) where
+    nothing : ref_by (position_of (new_ids prefix op back wires copies apart)) (redirect op 0 wires Undefined) ≡ undefined
+    nothing = ap (ref_by (position_of (new_ids prefix op back wires copies apart))) (redirect_other op 0 wires Undefined refl)
 
-    pub inner_seen : (v : Value) → ref_by (position_of (new_ids front op back wires copies apart)) (redirect op 0 wires (moved_value (joined_values c.ports vs) ids copies v))
-        ≡ inner_ref (length front) o c (ref_by (position_of (ids ++ rest)) v)
+    pub inner_seen : (v : Value) → ref_by (position_of (new_ids prefix op back wires copies apart)) (redirect op 0 wires (moved_value (joined_values c.ports vs) ids copies v))
+        ≡ inner_ref (length prefix) o c (ref_by (position_of (ids ++ rest)) v)
     inner_seen Undefined = nothing
     inner_seen (Port j) =
-        joined_seen (λ v. ref_by (position_of (new_ids front op back wires copies apart)) (redirect op 0 wires v)) (outer_ref (length front) o c)
-        (ref_by (position_of (old_ids front op back wires copies apart))) nothing c.ports vs
+        joined_seen (λ v. ref_by (position_of (new_ids prefix op back wires copies apart)) (redirect op 0 wires v)) (outer_ref (length prefix) o c)
+        (ref_by (position_of (old_ids prefix op back wires copies apart))) nothing c.ports vs
         (λ k d below. outer_seen (get_or vs k d) (all k d below)) j
-        ∙ ap (λ (rs : List Ref). ref_or_undefined (omap (outer_ref (length front) o c) (port_ref c.ports rs j))) (sym operands_are)
+        ∙ ap (λ (rs : List Ref). ref_or_undefined (option_map (outer_ref (length prefix) o c) (port_ref c.ports rs j))) (sym operands_are)
     inner_seen (Result id k) = go (none_or_some (times id.index ids))
       where
         go : (times id.index ids ≡ 0) ⊎ (0 < times id.index ids)
-            → ref_by (position_of (new_ids front op back wires copies apart)) (redirect op 0 wires (copy_result (slice_get copies (position_of ids id.index)) k))
-            ≡ inner_result (length front) o k (side (moved_count c) (position_of (ids ++ rest) id.index))
+            → ref_by (position_of (new_ids prefix op back wires copies apart)) (redirect op 0 wires (copy_result (slice_get copies (position_of ids id.index)) k))
+            ≡ inner_result (length prefix) o k (side (moved_count c) (position_of (ids ++ rest) id.index))
         go (inr some) =
             let below = position_below ids id.index some in
             let one = there_at copies (position_of ids id.index) (omega (arith, below, ids_long)) in
             let among = In-slice_get one.0 copies (position_of ids id.index) one.1 in
-            ap (λ x. ref_by (position_of (new_ids front op back wires copies apart)) (redirect op 0 wires (copy_result x k))) one.1
-            ∙ ap (ref_by (position_of (new_ids front op back wires copies apart)))
-            (redirect_other op 0 wires (Result one.0 k) (not_of op one.0 k (copies_other front op back wires copies apart one.0 among)))
+            ap (λ x. ref_by (position_of (new_ids prefix op back wires copies apart)) (redirect op 0 wires (copy_result x k))) one.1
+            ∙ ap (ref_by (position_of (new_ids prefix op back wires copies apart)))
+            (redirect_other op 0 wires (Result one.0 k) (not_of op one.0 k (copies_other prefix op back wires copies apart one.0 among)))
             ∙ ap (λ n. result n k) (copy_place (position_of ids id.index) one.0 one.1)
-            ∙ sym (ap (λ n. inner_result (length front) o k (side (moved_count c) n)) (position_front ids rest id.index some)
-            ∙ ap (inner_result (length front) o k) (side_front (moved_count c) (position_of ids id.index) (omega (arith, below, ids_long, many_copies))))
+            ∙ sym (ap (λ n. inner_result (length prefix) o k (side (moved_count c) n)) (position_prefix ids rest id.index some)
+            ∙ ap (inner_result (length prefix) o k) (side_prefix (moved_count c) (position_of ids id.index) (omega (arith, below, ids_long, many_copies))))
         go (inl none) =
             let past = position_back ids rest id.index none in
             let missing = absent ids none in
             let at : position_of (ids ++ rest) id.index ≡ moved_count c + position_of rest id.index = omega (arith, past, ids_long, many_copies) in
-            ap (λ x. ref_by (position_of (new_ids front op back wires copies apart)) (redirect op 0 wires (copy_result x k)))
+            ap (λ x. ref_by (position_of (new_ids prefix op back wires copies apart)) (redirect op 0 wires (copy_result x k)))
             (slice_get_past copies (position_of ids id.index) (omega (arith, missing, ids_long)))
             ∙ nothing
-            ∙ sym (ap (λ n. inner_result (length front) o k (side (moved_count c) n)) at ∙ ap (inner_result (length front) o k) (side_back (moved_count c) (position_of rest id.index)))
+            ∙ sym (ap (λ n. inner_result (length prefix) o k (side (moved_count c) n)) at ∙ ap (inner_result (length prefix) o k) (side_back (moved_count c) (position_of rest id.index)))
           where
             absent : (js : List ℕ) → times id.index js ≡ 0 → position_of js id.index ≡ length js
             absent [] none = refl

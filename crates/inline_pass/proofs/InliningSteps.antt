@@ -1,7 +1,6 @@
 -- A body whose operations are inlined one after another.
-use Rattle.std.proofs.Common.{◌≡◌, ℕ, suc, ◌+◌, Bool, true, false, cond, List, [], ◌∷◌, ◌++◌, length, map, take, drop, Option, Some, None, slice_get, refl, sym, ap, ap₂, subst, ◌∙◌, arith}
+use Rattle.std.proofs.Common.{◌≡◌, ℕ, suc, ◌+◌, Bool, true, false, cond, List, [], ◌∷◌, ◌++◌, length, map, take, drop, Option, Some, None, slice_get, refl, sym, ap, ap₂, subst, ◌∙◌, arith, option_and_then}
 use Rattle.std.proofs.lemmas.List.{append_assoc, length-map, length-append}
-use Rattle.wiring.specs.Options.{bind}
 use Rattle.wiring.specs.Wiring.{In}
 use Rattle.wiring.proofs.Members.{In-slice_get}
 use Rattle.hw_model.specs.Types.{Name}
@@ -10,9 +9,9 @@ use Rattle.hw_model.specs.Design.{Op, Module, Design, find_module, instance_in, 
 use Rattle.hw_model.specs.Hierarchy.{callee_symbols}
 use Rattle.hw_model.specs.Sound.{body_of}
 use Rattle.hw_model.proofs.Gone.{called_In}
-use Rattle.hw_edits.specs.Laws.{with_body}
-use Rattle.hw_edits.proofs.Follows.{set_each}
-use Rattle.hw_edits.proofs.ResetsKept.{find_symbol}
+use Rattle.edit_laws.specs.Laws.{with_body}
+use Rattle.edit_laws.proofs.Follows.{set_each}
+use Rattle.edit_laws.proofs.ResetsKept.{find_symbol}
 use Rattle.design_cycles.proofs.Callees.{found_at}
 use Rattle.op_verifier.proofs.Distinct.{distinct_symbols}
 use Rattle.linked_lists.specs.Ids.{times}
@@ -24,21 +23,21 @@ use Rattle.ir_store.specs.BodyOps.{BodyOp, ids_in, op_at}
 use Rattle.ir_store.specs.Live.{AreDistinct}
 use Rattle.ir_store.specs.Numbered.{position_of, op_by}
 use Rattle.ir_store.proofs.BodyLemmas.{ids_once, index_ids}
-use Rattle.accepted_edits.specs.Keeps.{IsFit}
+use Rattle.acceptance_laws.specs.Keeps.{IsFit}
 use Rattle.pass_laws.proofs.Steps.{module_there}
 use Rattle.inline_laws.specs.Inline.{moved_count}
 use Rattle.body_edits.specs.Views.{HasOp, body_ops, position_in}
 use Rattle.body_edits.proofs.Positions.{op_at_position}
 use Rattle.inline_pass.specs.Flattening.{inlined_at, inline_at, inline_from, inline_all, if_private, by_kind, by_symbol}
 use Rattle.inline_pass.specs.Inlinable.{IsInlinable, IsStep, IsStepAt}
-use Rattle.inline_pass.proofs.IdLists.{once_before, times_self, position_back, position_self, parted, middle_found}
+use Rattle.body_edits.proofs.IdLists.{once_before, times_self, position_back, position_self, parted, middle_found}
 use Rattle.inline_pass.proofs.InliningValues.{numbers}
-use Rattle.inline_pass.proofs.InliningOps.{take_front, drop_front}
+use Rattle.inline_pass.proofs.InliningOps.{take_prefix, drop_prefix}
 use Rattle.inline_pass.proofs.InlinedFit.{is_inlined, fit_inlined}
 
 -- ---- the module of an instance
 
-pub private_is : (x : Option Module) (c : Module) → bind x if_private ≡ Some c → x ≡ Some c
+pub private_is : (x : Option Module) (c : Module) → option_and_then if_private x ≡ Some c → x ≡ Some c
 private_is None c is = cc
 private_is (Some y) c is = go y.is_private is
   where
@@ -57,7 +56,7 @@ module _ (d : Design) (fit : IsFit d) (k : ℕ) (m : Module) (at : slice_get d k
   callee_there : (look : Name → Option Module) → ((s : Name) (c : Module) → (s ≡ m.symbol → ⊥) → look s ≡ Some c → find_module d s ≡ Some c) → (o : Op) (c : Module) → In o m.body → by_symbol look o ≡ Some c → callee d o ≡ Some c
   callee_there look found o c among is = go (instance_in o.kind) refl is
     where
-      go : (z : Option Instance) → instance_in o.kind ≡ z → bind z (λ (i : Instance). look i.symbol) ≡ Some c → bind z (λ (i : Instance). find_module d i.symbol) ≡ Some c
+      go : (z : Option Instance) → instance_in o.kind ≡ z → option_and_then (λ (i : Instance). look i.symbol) z ≡ Some c → option_and_then (λ (i : Instance). find_module d i.symbol) z ≡ Some c
       go None own e = cc
       go (Some i) own e = found i.symbol c (not_itself i.symbol (called_In m.body o i among own)) e
 
@@ -129,7 +128,7 @@ walk_goes inner old now next id rest w step =
     let zero_is = position_self id.index (numbers rest) in
     let place : position_of (ids_of now) id.index ≡ length w.done = omega (arith, back, zero_is) in
     let p = parted id.index (ops_of now) (contained_times (ids_of now) id.index (next_there inner old now id rest w)) in
-    let found = ap₂ op_at p.all (sym p.is) ∙ middle_found p.front p.op p.back (ap (λ v. times v (ids_in p.front)) p.is ∙ p.none) in
+    let found = ap₂ op_at p.all (sym p.is) ∙ middle_found p.prefix p.op p.back (ap (λ v. times v (ids_in p.prefix)) p.is ∙ p.none) in
     let there = op_at_position (op_by (position_of (ids_of now))) id.index (ops_of now) p.op found in
     go (op_by (position_of (ids_of now)) p.op) (ap (slice_get (body_ops now)) (sym place) ∙ there) (inner (op_by (position_of (ids_of now)) p.op)) refl
     (subst (λ n. IsStep now next n (op_by (position_of (ids_of now)) p.op) (inner (op_by (position_of (ids_of now)) p.op))) place (step (op_by (position_of (ids_of now)) p.op) there))
@@ -146,7 +145,7 @@ walk_goes inner old now next id rest w step =
     go o there (Some c) is made = record {
       done = w.done ++ made.fresh;
       ids = made.ids ∙ ap (λ ids. take (length w.done) ids ++ (made.fresh ++ drop (suc (length w.done)) ids)) w.ids
-          ∙ ap₂ (λ ps qs. ps ++ (made.fresh ++ qs)) (take_front w.done (id.index ∷ numbers rest)) (drop_front w.done id.index (numbers rest))
+          ∙ ap₂ (λ ps qs. ps ++ (made.fresh ++ qs)) (take_prefix w.done (id.index ∷ numbers rest)) (drop_prefix w.done id.index (numbers rest))
           ∙ sym (append_assoc w.done made.fresh (numbers rest));
       left =
           let long : length (w.done ++ made.fresh) ≡ length w.done + moved_count c = length-append w.done made.fresh ∙ ap (λ n. length w.done + n) made.many in

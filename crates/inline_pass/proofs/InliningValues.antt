@@ -12,22 +12,22 @@ use Rattle.ir_store.specs.Live.{IsLive}
 use Rattle.ir_store.specs.Numbered.{position_of}
 use Rattle.linked_lists.specs.Ids.{times}
 use Rattle.linked_lists.proofs.IdLemmas.{contained_times, times_contained, times-append}
-use Rattle.inline_pass.specs.MovedOps.{moved_value, value_or_undefined, copy_result}
-use Rattle.inline_pass.specs.WiresOut.{IsFirstOf}
-use Rattle.inline_pass.proofs.IdLists.{times_self, times_other}
+use Rattle.body_edits.specs.WiresOut.{value_or_undefined, IsFirstOf}
+use Rattle.inline_pass.specs.MovedOps.{moved_value, copy_result}
+use Rattle.body_edits.proofs.IdLists.{times_self, times_other}
 use Rattle.inline_pass.proofs.ResultsReplaced.{redirect, redirect_other, redirect_result, not_of}
 
 -- the numbers of ids
 abbrev pub numbers : List OpId → List ℕ
 numbers ids = map (λ (i : OpId). i.index) ids
 
-module _ (front : List ℕ) (op : OpId) (back : List ℕ) (wires copies : List OpId)
-    (apart : (v : ℕ) → times v front + (times v (numbers wires) + (times v (numbers copies) + times v (op.index ∷ back))) ≤ 1) where
+module _ (prefix : List ℕ) (op : OpId) (back : List ℕ) (wires copies : List OpId)
+    (apart : (v : ℕ) → times v prefix + (times v (numbers wires) + (times v (numbers copies) + times v (op.index ∷ back))) ≤ 1) where
   abbrev pub old_ids : List ℕ
-  old_ids = front ++ (op.index ∷ back)
+  old_ids = prefix ++ (op.index ∷ back)
 
   abbrev pub new_ids : List ℕ
-  new_ids = front ++ (numbers wires ++ (numbers copies ++ back))
+  new_ids = prefix ++ (numbers wires ++ (numbers copies ++ back))
 
   -- a value of the body as it was, which is a result of the instance only where that has a wire for it
   pub record IsOld (v : Value) : Type 0 where
@@ -50,15 +50,15 @@ module _ (front : List ℕ) (op : OpId) (back : List ℕ) (wires copies : List O
   counted : (w : OpId) (ids : List OpId) → In w ids → 0 < times w.index (numbers ids)
   counted w ids among = contained_times (numbers ids) w.index (Contains-from_In w.index (numbers ids) (In-map (λ (i : OpId). i.index) w ids among))
 
-  new_count : (v : ℕ) → times v new_ids ≡ times v front + (times v (numbers wires) + (times v (numbers copies) + times v back))
+  new_count : (v : ℕ) → times v new_ids ≡ times v prefix + (times v (numbers wires) + (times v (numbers copies) + times v back))
   new_count v =
-      let a = times-append v front (numbers wires ++ (numbers copies ++ back)) in
+      let a = times-append v prefix (numbers wires ++ (numbers copies ++ back)) in
       let b = times-append v (numbers wires) (numbers copies ++ back) in
       let d = times-append v (numbers copies) back in
       omega (arith, a, b, d)
 
-  old_count : (v : ℕ) → times v old_ids ≡ times v front + times v (op.index ∷ back)
-  old_count v = times-append v front (op.index ∷ back)
+  old_count : (v : ℕ) → times v old_ids ≡ times v prefix + times v (op.index ∷ back)
+  old_count v = times-append v prefix (op.index ∷ back)
 
   pub wires_other : (w : OpId) → In w wires → w.index ≡ op.index → ⊥
   wires_other w among same =

@@ -7,11 +7,9 @@ pub mod HighestUnreached
 pub mod OneByOne
 pub mod RegistersKept
 pub mod DeadModulesGone
-pub mod IdLists
 pub mod PuttingBefore
 pub mod PutInlined
 pub mod ReadingModules
-pub mod WiresTakenOut
 pub mod ResultsReplaced
 pub mod InliningForm
 pub mod InliningValues
@@ -23,7 +21,6 @@ pub mod InliningSteps
 pub mod Renaming
 pub mod RenamedKinds
 pub mod RenamedPrinting
-pub mod FitModules
 pub mod InlinedWires
 pub mod InlinedOperands
 pub mod InlinedResets

@@ -12,10 +12,10 @@ use Rattle.hw_model.specs.Sound.{body_of}
 use Rattle.hw_model.specs.Weight.{weight}
 use Rattle.hw_model.proofs.Content.{call_heights}
 use Rattle.hw_model.proofs.Machines.{same_self, same_then}
-use Rattle.hw_edits.proofs.Follows.{valid_settles}
-use Rattle.hw_edits.proofs.ModuleGone.{removed_others, remove_module_preserves}
-use Rattle.accepted_edits.specs.Keeps.{IsFit}
-use Rattle.accepted_edits.proofs.ModuleRemoved.{is_without, fit_without_module, lighter_without_module}
+use Rattle.edit_laws.proofs.Follows.{valid_settles}
+use Rattle.edit_laws.proofs.ModuleGone.{removed_others, remove_module_preserves}
+use Rattle.acceptance_laws.specs.Keeps.{IsFit}
+use Rattle.acceptance_laws.proofs.ModuleRemoved.{is_without, fit_without_module, lighter_without_module}
 use Rattle.inline_pass.specs.DeadModules.{AreReachedOf}
 use Rattle.inline_pass.proofs.HighestUnreached.{HasHighest, highest_unreached, IsClosed, nothing_calls}
 

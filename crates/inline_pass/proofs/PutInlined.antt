@@ -4,7 +4,7 @@ use Rattle.std.specs.Prelude.{All, Contains}
 use Rattle.std.proofs.lemmas.List.{length-map}
 use Rattle.wiring.proofs.Members.{In-map, All-from_members, Contains-from_In}
 use Rattle.hw_model.specs.Types.{Name}
-use Rattle.hw_model.specs.Design.{Port, OpResult, Place, is_output_kind}
+use Rattle.hw_model.specs.Design.{Port, OpResult, Location, is_output_kind}
 use Rattle.linked_lists.specs.Ids.{times}
 use Rattle.linked_lists.proofs.IdLemmas.{contained_times, times_contained}
 use Rattle.ir_store.specs.declared.operation.OpId.{OpId}
@@ -80,7 +80,7 @@ ids_moved f (i ∷ ids) ops = ids_moved f ids (operands_at i.index (map f) ops) 
 -- ---- all of it
 
 pub are_put_before : (u : Name) (ports : List Port) (own : List BodyOp) (o : BodyOp) (ops0 ops1 ops2 ops3 ops4 : List BodyOp) (wires copies ids : List OpId) (moved_ops wire_ops : List NewOp)
-    (given joined : List Value) (f : Value → Value) → AreMoved u own ids moved_ops given → map without_id wire_ops ≡ wires_of o.parts.place o.parts.results given
+    (given joined : List Value) (f : Value → Value) → AreMoved u own ids moved_ops given → map without_id wire_ops ≡ wires_of o.parts.location o.parts.results given
     → length wires ≡ length wire_ops → length wires < 2 ^ 32 → length copies ≡ length moved_ops
     → ops1 ≡ all_put_before o.id (with_ids wires (map without_id wire_ops)) ops0
     → ops2 ≡ all_put_before o.id (with_ids copies (map without_id moved_ops)) ops1
@@ -91,17 +91,17 @@ are_put_before u ports own o ops0 ops1 ops2 ops3 ops4 wires copies ids moved_ops
     record {
       copies = copies;
       few = few;
-      many_wires = many ∙ sym (length-map wire_ops without_id) ∙ ap length (wired) ∙ as_many o.parts.place o.parts.results given;
+      many_wires = many ∙ sym (length-map wire_ops without_id) ∙ ap length (wired) ∙ as_many o.parts.location o.parts.results given;
       many_copies = many_copies ∙ sym (length-map moved_ops without_id) ∙ ap length moved.copies_are ∙ length-map (ops_before_output own) (copy_of u);
       ops = moved_copies ∙ ap (operands_moved f copies) (moved_wires ∙ ap (operands_moved f wires) (put_copies
           ∙ ap₂ (λ (xs ys : List BodyOp). all_put_before o.id (with_ids copies xs) ys) moved.copies_are (put_wires ∙ ap (λ (xs : List BodyOp). all_put_before o.id (with_ids wires xs) ops0)
-          (wired ∙ ap (wires_of o.parts.place o.parts.results) moved.given_are))))
+          (wired ∙ ap (wires_of o.parts.location o.parts.results) moved.given_are))))
           ∙ ap (λ (g : Value → Value). operands_moved g copies (operands_moved g wires
-          (all_put_before o.id (with_ids copies (map (copy_of u) (ops_before_output own))) (all_put_before o.id (with_ids wires (wires_of o.parts.place o.parts.results (output_values own))) ops0))))
+          (all_put_before o.id (with_ids copies (map (copy_of u) (ops_before_output own))) (all_put_before o.id (with_ids wires (wires_of o.parts.location o.parts.results (output_values own))) ops0))))
           (f_is ∙ ap₂ (λ (vs : List Value) (ns : List ℕ). moved_value vs ns copies) joined_is moved.ids_are);
     }
   where
-    as_many : (at : Place) (xs : List OpResult) (vs : List Value) → length (wires_of at xs vs) ≡ length xs
+    as_many : (at : Location) (xs : List OpResult) (vs : List Value) → length (wires_of at xs vs) ≡ length xs
     as_many at [] vs = refl
     as_many at (x ∷ xs) vs = ap suc (as_many at xs (drop 1 vs))
 

@@ -10,18 +10,18 @@ use Rattle.ir_store.specs.declared.operation.NewOp.{NewOp}
 use Rattle.ir_store.specs.BodyOps.{BodyOp, ids_in, put_before, as_new}
 use Rattle.ir_store.specs.Live.{AreDistinct}
 use Rattle.inline_pass.specs.MovedOps.{with_ids, all_put_before, without_id}
-use Rattle.inline_pass.proofs.IdLists.{ids_append}
+use Rattle.body_edits.proofs.IdLists.{ids_append}
 
 -- ---- lists
 
 -- where the operation is known
-pub put_between : (front : List BodyOp) (x : BodyOp) (back others : List BodyOp) → times x.id (ids_in front) ≡ 0 → all_put_before x.id others (front ++ (x ∷ back)) ≡ front ++ (others ++ (x ∷ back))
+pub put_between : (prefix : List BodyOp) (x : BodyOp) (back others : List BodyOp) → times x.id (ids_in prefix) ≡ 0 → all_put_before x.id others (prefix ++ (x ∷ back)) ≡ prefix ++ (others ++ (x ∷ back))
 put_between [] x back others none = ap (λ b. cond b (others ++ x ∷ back) (x ∷ all_put_before x.id others back)) (eq-eqb x.id x.id refl)
-put_between (p ∷ front) x back others none = go (nat_eq p.id x.id) none (put_between front x back others)
+put_between (p ∷ prefix) x back others none = go (nat_eq p.id x.id) none (put_between prefix x back others)
   where
-    go : (b : Bool) → cond b (suc (times x.id (ids_in front))) (times x.id (ids_in front)) ≡ 0
-        → (times x.id (ids_in front) ≡ 0 → all_put_before x.id others (front ++ (x ∷ back)) ≡ front ++ (others ++ (x ∷ back)))
-        → cond b (others ++ p ∷ (front ++ (x ∷ back))) (p ∷ all_put_before x.id others (front ++ (x ∷ back))) ≡ p ∷ front ++ (others ++ (x ∷ back))
+    go : (b : Bool) → cond b (suc (times x.id (ids_in prefix))) (times x.id (ids_in prefix)) ≡ 0
+        → (times x.id (ids_in prefix) ≡ 0 → all_put_before x.id others (prefix ++ (x ∷ back)) ≡ prefix ++ (others ++ (x ∷ back)))
+        → cond b (others ++ p ∷ (prefix ++ (x ∷ back))) (p ∷ all_put_before x.id others (prefix ++ (x ∷ back))) ≡ p ∷ prefix ++ (others ++ (x ∷ back))
     go true none rest = absurd (omega (arith, none))
     go false none rest = ap (λ os. p ∷ os) (rest none)
 

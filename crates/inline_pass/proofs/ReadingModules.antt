@@ -10,7 +10,7 @@ use Rattle.ir_store.specs.Bodies.{op_id}
 use Rattle.ir_store.specs.BodyOps.{BodyOp, ids_in, op_at}
 use Rattle.ir_store.specs.Live.{AreDistinct}
 use Rattle.inline_pass.specs.MovedOps.{ops_before_output, output_values, copy_of, without_id, AreMoved}
-use Rattle.inline_pass.proofs.IdLists.{ids_append, once_before, middle_found}
+use Rattle.body_edits.proofs.IdLists.{ids_append, once_before, middle_found}
 
 pub record IsReading (u : Name) (ops : List BodyOp) (left : List OpId) (ids : List OpId) (copies : List NewOp) : Type 0 where
   pub done : List BodyOp

@@ -1,15 +1,14 @@
 -- Bodies that were received are those of the modules that a body instances.
-use Rattle.std.proofs.Common.{◌≡◌, ℕ, ◌+◌, ◌<◌, Bool, true, false, cond, nat_eq, List, [], ◌∷◌, length, map, Option, Some, None, option_map, slice_get, get_or, refl, sym, ap, subst, ◌∙◌, ◌⊎◌, inl, inr, arith}
+use Rattle.std.proofs.Common.{◌≡◌, ℕ, ◌+◌, ◌<◌, Bool, true, false, cond, nat_eq, List, [], ◌∷◌, length, map, Option, Some, None, option_map, slice_get, get_or, refl, sym, ap, subst, ◌∙◌, ◌⊎◌, inl, inr, arith, option_and_then}
 use Rattle.std.proofs.lemmas.Bool.{eqb-true, eqb-false}
 use Rattle.std.proofs.lemmas.Option.{slice_get-map, slice_get_within, slice_get-get_or}
 use Rattle.std.specs.HashMap.{HashMap}
 use Rattle.std.specs.Arc.{arc_value}
 use Rattle.std.specs.declared.sync.Arc.{Arc}
-use Rattle.wiring.specs.Options.{bind, omap}
 use Rattle.wiring.specs.Wiring.{In}
 use Rattle.wiring.proofs.Lists.{slice_get_some}
 use Rattle.wiring.proofs.Members.{In-slice_get, position_of_In}
-use Rattle.wiring.proofs.Options.{bind_some}
+use Rattle.wiring.proofs.Options.{and_then_some}
 use Rattle.hw_model.specs.Types.{Name}
 use Rattle.hw_model.specs.Design.{Module, Design, find_module}
 use Rattle.hw_model.specs.Flat.{depth}
@@ -131,8 +130,8 @@ module _ {Z : Type 0} (d : Design) (k : ℕ) (headers : List StoredModule) (numb
 
   named : (t : Name) (c : Module) → received_look headers have t ≡ Some c → In t (callee_symbols one.own.owner.body)
   named t c is =
-      let placed = bind_some (symbol_place t (map (λ (m : StoredModule). m.symbol) headers)) _ is in
-      let there = bind_some (have placed.0) _ placed.2 in
+      let placed = and_then_some (symbol_place t (map (λ (m : StoredModule). m.symbol) headers)) _ is in
+      let there = and_then_some (have placed.0) _ placed.2 in
       let source = are.from placed.0 there.0 there.1 in
       let j = source.0 in
       let listed : In placed.0 numbers = In-slice_get placed.0 numbers j (slice_get-get_or numbers j 0 source.2 ∙ ap Some source.3) in
@@ -168,11 +167,11 @@ module _ {Z : Type 0} (d : Design) (k : ℕ) (headers : List StoredModule) (numb
             ap ops_by_position (sym source.5 ∙ ap ops_in same) ∙ subst (λ n. IsFlatBody d n (arc_value from.0)) source.3 from.2 m at,
       )
 
-  by_mark : (m : Module) (v : Bool) → cond v (Some (flat_module d m)) None ≡ omap (flat_module d) (cond v (Some m) None)
+  by_mark : (m : Module) (v : Bool) → cond v (Some (flat_module d m)) None ≡ option_map (flat_module d) (cond v (Some m) None)
   by_mark m true = refl
   by_mark m false = refl
 
-  flat : (t : Name) → In t (callee_symbols one.own.owner.body) → received_look headers have t ≡ omap (flat_module d) (private_found d t)
+  flat : (t : Name) → In t (callee_symbols one.own.owner.body) → received_look headers have t ≡ option_map (flat_module d) (private_found d t)
   flat t here = go (find_module d t) refl
     where
       nothing : find_module d t ≡ None → (x : Option ℕ) → symbol_place t (symbols_in d) ≡ x → received_look headers have t ≡ None
@@ -183,8 +182,8 @@ module _ {Z : Type 0} (d : Design) (k : ℕ) (headers : List StoredModule) (numb
           let found = place_found d t q place in
           let clash : None ≡ Some found.0 = sym none ∙ found.3 in cc
 
-      go : (x : Option Module) → find_module d t ≡ x → received_look headers have t ≡ omap (flat_module d) (private_found d t)
-      go None none = nothing none (symbol_place t (symbols_in d)) refl ∙ sym (ap (λ x. omap (flat_module d) (bind x if_private)) none)
+      go : (x : Option Module) → find_module d t ≡ x → received_look headers have t ≡ option_map (flat_module d) (private_found d t)
+      go None none = nothing none (symbol_place t (symbols_in d)) refl ∙ sym (ap (λ x. option_map (flat_module d) (option_and_then if_private x)) none)
       go (Some c) is =
           let number = number_found d t c is in
           let q = number.0 in
@@ -196,7 +195,7 @@ module _ {Z : Type 0} (d : Design) (k : ℕ) (headers : List StoredModule) (numb
           let placed : symbol_place t (map (λ (x : StoredModule). x.symbol) headers) ≡ Some q = ap (symbol_place t) symbols_same ∙ number.1 in
           let now : numbered_module (record header.0 { ops = holds.0 }) ≡ flat_module d m =
           ap (λ (z : Module). record z { body = ops_by_position holds.0 }) header.2 ∙ ap (λ os. record m { body = os }) (holds.2 m found.1) in
-          looked q holds.0 header.0 placed holds.1 header.1 ∙ ap if_private now ∙ by_mark m m.is_private ∙ sym (ap (λ x. omap (flat_module d) (bind x if_private)) found.3)
+          looked q holds.0 header.0 placed holds.1 header.1 ∙ ap if_private now ∙ by_mark m m.is_private ∙ sym (ap (λ x. option_map (flat_module d) (option_and_then if_private x)) found.3)
         where
           looked : (q : ℕ) (ops : List BodyOp) (h : StoredModule) → symbol_place t (map (λ (x : StoredModule). x.symbol) headers) ≡ Some q → have q ≡ Some ops → slice_get headers q ≡ Some h
               → received_look headers have t ≡ if_private (numbered_module (record h { ops = ops }))

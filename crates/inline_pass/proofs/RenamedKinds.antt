@@ -9,12 +9,13 @@ use Rattle.hw_model.specs.Design.{Ref, Op, result_type}
 use Rattle.hw_model.specs.Resets.{is_constant}
 use Rattle.ir_store.specs.ResultTypes.{result_types, result_count}
 use Rattle.op_checks.specs.OperandChecks.{has_other_form, has_other_operand, has_other_result, has_mismatch}
-use Rattle.op_checks.specs.LimitChecks.{has_type_outside, has_constant_outside, has_extract_outside, has_broken_copy, has_wide_concat, has_unknown_divisor, has_wrong_index, has_wrong_field, has_unequal_widths, has_clock_operand, has_clock_value}
+use Rattle.op_checks.specs.LimitChecks.{has_type_outside, has_constant_outside, has_extract_outside, has_broken_copy, has_wide_concat, has_unknown_divisor, has_wrong_index, has_wrong_field}
+use Rattle.op_checks.specs.LimitChecks.{has_unequal_widths, has_clock_operand, has_clock_value}
 use Rattle.op_checks.specs.CountChecks.{operands_written, operand_count, type_count, has_wrong_operands, has_wrong_results, has_miscounted_parts, has_wrong_count}
 use Rattle.op_checks.specs.OwnChecks.{own_cause}
 use Rattle.op_verifier.specs.OpChecks.{is_nonzero_kind}
-use Rattle.hw_edits.specs.Edit.{retarget}
-use Rattle.accepted_edits.proofs.Values.{result_operand}
+use Rattle.edit_laws.specs.Edit.{retarget}
+use Rattle.acceptance_laws.proofs.Values.{result_operand}
 use Rattle.inline_pass.specs.Renaming.{joined_name, renamed_kind, renamed}
 
 -- what does not look at the name of an instance is the same of a kind that is renamed

@@ -11,12 +11,12 @@ use Rattle.hw_model.specs.Design.Attribute.{text_value}
 use Rattle.ir_store.specs.ResultTypes.{result_types}
 use Rattle.opcode.specs.declared.listed.Listed.{Listed}
 use Rattle.op_checks.specs.CountChecks.{operands_written, type_count}
-use Rattle.canonical_form.specs.Bytes.{Each, AreBytes}
-use Rattle.canonical_form.specs.Dictionaries.{takes_bin, string_keys, is_empty_text, has_name, is_name_entry, is_dropped, AreInOrder, IsKeptDictionary}
-use Rattle.canonical_form.specs.Kinds.{KeepsConstants, IsWritten}
-use Rattle.canonical_form.specs.Limits.{IsValue, IsEntry}
-use Rattle.printable_designs.specs.NameHints.{is_pack}
-use Rattle.printable_designs.specs.Printable.{IsDefined, settled_result, IsPrintableOp}
+use Rattle.stored_form.specs.Bytes.{Each, AreBytes}
+use Rattle.stored_form.specs.Dictionaries.{takes_bin, string_keys, is_empty_text, has_name, is_name_entry, is_dropped, AreInOrder, IsKeptDictionary}
+use Rattle.stored_form.specs.Kinds.{KeepsConstants, IsWritten}
+use Rattle.stored_form.specs.Limits.{IsValue, IsEntry}
+use Rattle.printing_laws.specs.NameHints.{is_pack}
+use Rattle.printing_laws.specs.Printable.{IsDefined, settled_result, IsPrintableOp}
 use Rattle.inline_pass.specs.Renaming.{joined_name, renamed_kind, renamed_value, renamed_entry, renamed}
 use Rattle.inline_pass.proofs.RenamedKinds.{kind_same, results_renamed}
 

@@ -1,7 +1,7 @@
 -- Designs in which one body has no instances of private modules left (CIRCT, HW dialect: `hw-flatten-modules`).
 use Rattle.std.specs.Prelude.{◌≡◌, ℕ, Some, slice_get}
 use Rattle.hw_model.specs.Design.{Module, Design}
-use Rattle.hw_edits.specs.Laws.{with_body}
+use Rattle.edit_laws.specs.Laws.{with_body}
 use Rattle.inline_pass.specs.Flattening.{inline_all, private_callee}
 
 -- the second design is the first one with all instances of private modules inlined in the module at a position

@@ -1,6 +1,5 @@
 -- Designs whose private modules have become parts of those that instance them (CIRCT, HW dialect: `hw-flatten-modules`).
-use Rattle.std.specs.Prelude.{ℕ, zero, suc, ◌+◌, cond, List, [], map, length, Option, Some, None, slice_get}
-use Rattle.wiring.specs.Options.{bind, omap}
+use Rattle.std.specs.Prelude.{ℕ, zero, suc, ◌+◌, cond, List, [], map, length, Option, Some, None, slice_get, option_and_then, option_map}
 use Rattle.hw_model.specs.Types.{Name}
 use Rattle.hw_model.specs.Kinds.{Kind, Instance}
 use Rattle.hw_model.specs.Design.{Op, Module, Design, instance_in, find_module, callee}
@@ -45,7 +44,7 @@ inline_all inner os = inline_from inner (length os) 0 os
 
 -- the private module of which an operation is an instance
 abbrev pub private_callee : Design → Op → Option Module
-private_callee d o = bind (callee d o) (λ (c : Module). cond c.is_private (Some c) None)
+private_callee d o = option_and_then (λ (c : Module). cond c.is_private (Some c) None) (callee d o)
 
 -- a module, if it is private
 abbrev pub if_private : Module → Option Module
@@ -53,11 +52,11 @@ if_private c = cond c.is_private (Some c) None
 
 -- the private module of a symbol
 abbrev pub private_found : Design → Name → Option Module
-private_found d s = bind (find_module d s) if_private
+private_found d s = option_and_then if_private (find_module d s)
 
 -- the module that `look` gives for the symbol of which an operation of a kind is an instance
 abbrev pub by_kind : (Name → Option Module) → Kind → Option Module
-by_kind look k = bind (instance_in k) (λ (i : Instance). look i.symbol)
+by_kind look k = option_and_then (λ (i : Instance). look i.symbol) (instance_in k)
 
 -- so for an operation
 abbrev pub by_symbol : (Name → Option Module) → Op → Option Module
@@ -66,7 +65,7 @@ by_symbol look o = by_kind look o.kind
 -- a body in which no private module is instanced, down to a depth of instances
 abbrev pub flat_body : ℕ → Design → List Op → List Op
 flat_body zero d os = os
-flat_body (suc n) d os = inline_all (λ o. omap (λ (c : Module). record c { body = flat_body n d c.body }) (private_callee d o)) os
+flat_body (suc n) d os = inline_all (λ o. option_map (λ (c : Module). record c { body = flat_body n d c.body }) (private_callee d o)) os
 
 -- a design in which no private module is instanced
 abbrev pub flat_design : Design → Design

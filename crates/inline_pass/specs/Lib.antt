@@ -9,4 +9,3 @@ pub mod OneBody
 pub mod Places
 pub mod Received
 pub mod Renaming
-pub mod WiresOut

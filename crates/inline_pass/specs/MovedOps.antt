@@ -2,23 +2,19 @@
 use Rattle.std.specs.Prelude.{◌≡◌, ◌<◌, ◌^◌, ℕ, suc, false, cond, nat_eq, List, [], ◌∷◌, ◌++◌, map, drop, Option, Some, None, slice_get, length}
 use Rattle.hw_model.specs.Types.{Name, HwType}
 use Rattle.hw_model.specs.Kinds.Kind.{wire}
-use Rattle.hw_model.specs.Design.{OpResult, Place, Port, is_output_kind}
+use Rattle.hw_model.specs.Design.{OpResult, Location, Port, is_output_kind}
 use Rattle.ir_store.specs.declared.operation.OpId.{OpId}
 use Rattle.ir_store.specs.declared.operation.NewOp.{NewOp}
 use Rattle.ir_store.specs.declared.operation.Value.{Value}
 use Rattle.ir_store.specs.declared.operation.Value.TheVariants.{Port as PortValue, Result, Undefined}
-use Rattle.ir_store.specs.BodyOps.{BodyOp, operands_at, all_replaced, as_new, is_of}
+use Rattle.ir_store.specs.BodyOps.{BodyOp, operands_at, all_replaced, as_new}
 use Rattle.ir_store.specs.Bodies.{op_id}
 use Rattle.ir_store.specs.Numbered.{position_of}
 use Rattle.ir_store.specs.OperationViews.{OpParts}
+use Rattle.body_edits.specs.WiresOut.{value_or_undefined}
 use Rattle.inline_pass.specs.Renaming.{joined_name, renamed_kind, renamed_entry}
 
 -- ---- values
-
--- the value, where there is one
-abbrev pub value_or_undefined : Option Value → Value
-value_or_undefined None = Undefined
-value_or_undefined (Some v) = v
 
 -- what an instance with these operands joins to each port of its module
 abbrev pub joined_values : List Port → List Value → List Value
@@ -35,10 +31,6 @@ abbrev pub moved_value : List Value → List ℕ → List OpId → Value → Val
 moved_value joined ids copies (PortValue j) = value_or_undefined (slice_get joined j)
 moved_value joined ids copies (Result id k) = copy_result (slice_get copies (position_of ids id.index)) k
 moved_value joined ids copies Undefined = Undefined
-
--- the value, unless it is a result of the operation of an id
-abbrev pub other_value : ℕ → Value → Value
-other_value id v = cond (is_of id v) Undefined v
 
 -- ---- operations of a module
 
@@ -65,7 +57,7 @@ abbrev pub copy_of : Name → BodyOp → BodyOp
 copy_of u o = record { id = 0; parts = renamed_parts u o.parts; operands = o.operands }
 
 -- a wire without a name that carries a value of a module
-abbrev pub wire_of : Place → HwType → Value → BodyOp
+abbrev pub wire_of : Location → HwType → Value → BodyOp
 wire_of at t v = record {
   id = 0;
   parts = record {
@@ -76,13 +68,13 @@ wire_of at t v = record {
     name = [];
     dictionary = [];
     bin = false;
-    place = at;
+    location = at;
   };
   operands = v ∷ [];
 }
 
 -- one for each result of an instance, for the value that the module gives to its output of that number
-abbrev pub wires_of : Place → List OpResult → List Value → List BodyOp
+abbrev pub wires_of : Location → List OpResult → List Value → List BodyOp
 wires_of at [] vs = []
 wires_of at (x ∷ xs) vs = wire_of at x.type (value_or_undefined (slice_get vs 0)) ∷ wires_of at xs (drop 1 vs)
 
@@ -124,4 +116,4 @@ pub record ArePutBefore (u : Name) (ports : List Port) (own : List BodyOp) (o : 
   pub ops : after ≡ operands_moved (moved_value (joined_values ports o.operands) (map (λ (y : BodyOp). y.id) (ops_before_output own)) copies) copies
       (operands_moved (moved_value (joined_values ports o.operands) (map (λ (y : BodyOp). y.id) (ops_before_output own)) copies) wires
       (all_put_before o.id (with_ids copies (map (copy_of u) (ops_before_output own)))
-      (all_put_before o.id (with_ids wires (wires_of o.parts.place o.parts.results (output_values own))) before)))
+      (all_put_before o.id (with_ids wires (wires_of o.parts.location o.parts.results (output_values own))) before)))

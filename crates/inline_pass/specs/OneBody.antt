@@ -5,7 +5,7 @@ use Rattle.std.specs.declared.sync.Arc.{Arc}
 use Rattle.hw_model.specs.Design.{Module, Design}
 use Rattle.hw_model.specs.Flat.{depth}
 use Rattle.hw_model.specs.Hierarchy.{callee_symbols}
-use Rattle.accepted_edits.specs.Keeps.{IsFit}
+use Rattle.acceptance_laws.specs.Keeps.{IsFit}
 use Rattle.ir_store.specs.declared.body.Body.{Body}
 use Rattle.ir_store.specs.Designs.{StoredModule, numbered_module}
 use Rattle.design_cycles.specs.Calls.{symbols_in, numbers_of}

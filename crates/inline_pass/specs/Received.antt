@@ -1,9 +1,8 @@
 -- Bodies that were received, by the numbers of their modules.
-use Rattle.std.specs.Prelude.{◌≡◌, ℕ, ◌<◌, cond, List, map, Option, Some, None, slice_get, slice_index_or, option_map, nat_eq}
+use Rattle.std.specs.Prelude.{◌≡◌, ℕ, ◌<◌, cond, List, map, Option, Some, None, slice_get, slice_index_or, option_map, nat_eq, option_and_then}
 use Rattle.std.specs.HashMap.{get, HashMap}
 use Rattle.std.specs.Arc.{arc_value}
 use Rattle.std.specs.declared.sync.Arc.{Arc}
-use Rattle.wiring.specs.Options.{bind}
 use Rattle.hw_model.specs.Types.{Name}
 use Rattle.hw_model.specs.Design.{Module}
 use Rattle.ir_store.specs.declared.body.Body.{Body}
@@ -36,5 +35,4 @@ module _ {Z : Type 0} where
 -- the module of a symbol, with the operations that are held for it, if it is private
 abbrev pub received_look : List StoredModule → (ℕ → Option (List BodyOp)) → Name → Option Module
 received_look headers have s =
-    bind (symbol_place s (map (λ (m : StoredModule). m.symbol) headers))
-    (λ q. bind (have q) (λ ops. bind (slice_get headers q) (λ (m : StoredModule). if_private (numbered_module (record m { ops = ops })))))
+    option_and_then (λ q. option_and_then (λ ops. option_and_then (λ (m : StoredModule). if_private (numbered_module (record m { ops = ops }))) (slice_get headers q)) (have q)) (symbol_place s (map (λ (m : StoredModule). m.symbol) headers))

@@ -3,11 +3,12 @@ ghost use Rattle.std.specs.Prelude.{◌≡◌, ◌<◌, ◌^◌, length, map, Al
 ghost use Rattle.ir_store.specs.Bodies.{ids_of, ops_of};
 ghost use Rattle.body_edits.specs.Views.{HasOp, body_ops};
 ghost use Rattle.inline_laws.specs.Unwire.{unwire};
-ghost use Rattle.inline_pass.specs.MovedOps.{without_id, with_ids, all_put_before, operands_moved, results_replaced, other_value};
+ghost use Rattle.inline_pass.specs.MovedOps.{without_id, with_ids, all_put_before, operands_moved, results_replaced};
 ghost use Rattle.inline_pass.specs.Places.{ArePlaces, value_there};
-ghost use Rattle.inline_pass.specs.WiresOut.{StandTogether, first_position, ids_without, carried_value};
+ghost use Rattle.body_edits.specs.WiresOut.{StandTogether, first_position, ids_without};
 
 use crate::moved_ops::Places;
+use body_edits::wires::carried_value;
 use ir_store::body::Body;
 use ir_store::operation::{NewOp, OpId, Value};
 use std::alloc::{AllocError, Global};
@@ -76,32 +77,5 @@ pub(crate) fn take_wires_out(body: &mut Body, wires: &[OpId])
         let value = carried_value(body, *wire);
         body.replace_all_uses(Value::Result(*wire, 0), value);
         body.erase(*wire);
-    }
-}
-
-/// What a wire carries: its first operand, unless that is its own result.
-pub fn carried_value(body: &Body, wire: OpId) -> Value
-    requires { HasOp body.now wire }
-    ensures { result ≡ carried_value wire.index (ops_of body.now) }
-{
-    match body.op(wire).operands.first() {
-        Some(value) => other_than(wire, *value),
-        None => Value::Undefined,
-    }
-}
-
-/// The value, unless it is a result of an operation.
-fn other_than(op: OpId, value: Value) -> Value
-    ensures { result ≡ other_value op.index value }
-{
-    match value {
-        Value::Result(id, _) => {
-            if id.number() == op.number() {
-                Value::Undefined
-            } else {
-                value
-            }
-        }
-        Value::Port(_) | Value::Undefined => value,
     }
 }

@@ -3,7 +3,7 @@ ghost use Rattle.std.specs.Prelude.{◌≡◌, length, IfOk, OnOk};
 ghost use Rattle.std.specs.List.{list_all};
 ghost use Rattle.ir_store.specs.Designs.{design_of};
 ghost use Rattle.design_cycles.specs.Asked.{HasDistinctSymbols};
-ghost use Rattle.accepted_edits.specs.Keeps.{IsFit};
+ghost use Rattle.acceptance_laws.specs.Keeps.{IsFit};
 ghost use Rattle.inline_pass.specs.DeadModules.{IsWithoutDead};
 ghost use Rattle.inline_pass.specs.Marks.{ArePublicBefore, AreReachedMarks, marked};
 

@@ -1,7 +1,7 @@
 //! Instances of private modules that become the bodies of their modules, in a whole design.
 ghost use Rattle.std.specs.Prelude.{◌≡◌, ◌<◌, length, OnOk};
 ghost use Rattle.ir_store.specs.Designs.{design_of, modules_of};
-ghost use Rattle.accepted_edits.specs.Keeps.{IsFit};
+ghost use Rattle.acceptance_laws.specs.Keeps.{IsFit};
 ghost use Rattle.inline_pass.specs.Flattening.{flat_design, IsFlattened};
 ghost use Rattle.inline_pass.specs.FlatBodies.{HasInlinedAt};
 

@@ -99,7 +99,7 @@ fn put_inlined(
     let moved = moved_ops(alloc, own_name(instance.kind), callee.body)?;
     let joined = values_joined(alloc, &callee.header.ports, instance.operands)?;
     let given = moved.given.as_slice();
-    let wires = wires_for(alloc, instance.results, given, instance.place)?;
+    let wires = wires_for(alloc, instance.results, given, instance.location)?;
     let positions = positions_of(alloc, moved.ids.as_slice())?;
     let wires = put_all_before(alloc, body, op, wires)?;
     let copies = put_all_before(alloc, body, op, moved.copies)?;

@@ -6,7 +6,7 @@ ghost use Rattle.hw_model.specs.Types.{Name};
 ghost use Rattle.hw_model.specs.Design.{Module, Design};
 ghost use Rattle.hw_model.specs.Hierarchy.{calls};
 ghost use Rattle.op_verifier.specs.Verdict.{IsAccepted};
-ghost use Rattle.accepted_edits.specs.Keeps.{IsFit};
+ghost use Rattle.acceptance_laws.specs.Keeps.{IsFit};
 ghost use Rattle.pass_pipeline.specs.declared.pass.Pass.TheVariants.{HwFlattenModules, SymbolDce};
 ghost use Rattle.pass_laws.specs.PassLaw.{PassLaw};
 ghost use Rattle.inline_pass.specs.DeadModules.{IsWithoutDead};

@@ -12,5 +12,4 @@ mod moved_ops;
 pub mod received;
 mod renamed_ops;
 
-pub use body_changes::carried_value;
 pub use laws::{dead_modules_go_once, flattening_keeps, symbol_dce_keeps};

@@ -4,14 +4,15 @@ ghost use Rattle.hw_model.specs.KindViews.{kind_of};
 ghost use Rattle.hw_model.specs.Design.{is_output_kind};
 ghost use Rattle.ir_store.specs.Bodies.{ops_of};
 ghost use Rattle.ir_store.specs.Designs.{ports_in};
-ghost use Rattle.ir_store.specs.OperationViews.{results_in, place_of};
+ghost use Rattle.ir_store.specs.OperationViews.{results_in, location_of};
 ghost use Rattle.ir_store.specs.Numbered.{position_of};
 ghost use Rattle.hw_model.specs.TypeViews.{type_of};
-ghost use Rattle.inline_pass.specs.MovedOps.{AreMoved, joined_values, value_or_undefined, without_id, wire_of, wires_of};
+ghost use Rattle.body_edits.specs.WiresOut.{value_or_undefined};
+ghost use Rattle.inline_pass.specs.MovedOps.{AreMoved, joined_values, without_id, wire_of, wires_of};
 ghost use Rattle.inline_pass.specs.Places.{ArePlaces, place_ids, value_there};
 
 use crate::renamed_ops::renamed_op;
-use diag::refusal::Place;
+use diag::refusal::Location;
 use hw_model::kinds::OpKind;
 use hw_model::types::Ty;
 use io_edge::byte_text::Text;
@@ -101,9 +102,9 @@ pub(crate) fn wires_for(
     alloc: Global,
     results: &NewResultList,
     given: &[Value],
-    place: Place,
+    location: Location,
 ) -> Result<Vec<NewOp>, AllocError>
-    ensures { IfOk result (λ wires. map without_id wires.items ≡ wires_of (place_of place) (results_in results.now) given.now) }
+    ensures { IfOk result (λ wires. map without_id wires.items ≡ wires_of (location_of location) (results_in results.now) given.now) }
 {
     let mut wires = Vec::new(alloc);
     let mut rest = given;
@@ -115,14 +116,14 @@ pub(crate) fn wires_for(
             }
             None => Value::Undefined,
         };
-        wires.push(wire_for(alloc, &one.ty, value, place)?)?;
+        wires.push(wire_for(alloc, &one.ty, value, location)?)?;
     }
     Ok(wires)
 }
 
 /// A wire without a name that carries a value.
-fn wire_for(alloc: Global, ty: &Ty, value: Value, place: Place) -> Result<NewOp, AllocError>
-    ensures { IfOk result (λ wire. without_id wire ≡ wire_of (place_of place) (type_of ty.now) value) }
+fn wire_for(alloc: Global, ty: &Ty, value: Value, location: Location) -> Result<NewOp, AllocError>
+    ensures { IfOk result (λ wire. without_id wire ≡ wire_of (location_of location) (type_of ty.now) value) }
 {
     Ok(NewOp {
         kind: OpKind::Wire,
@@ -136,7 +137,7 @@ fn wire_for(alloc: Global, ty: &Ty, value: Value, place: Place) -> Result<NewOp,
         name: Text::new(alloc),
         dictionary: Dictionary::new(alloc),
         bin: false,
-        place,
+        location,
     })
 }
 

@@ -29,7 +29,7 @@ pub(crate) fn renamed_op(alloc: Global, instance: &[u8], op: &Op<'_>) -> Result<
         name: joined_name(alloc, instance, op.name.as_bytes())?,
         dictionary: renamed_dictionary(alloc, instance, op.dictionary)?,
         bin: op.bin,
-        place: op.place,
+        location: op.location,
     })
 }
 

@@ -5,9 +5,9 @@ use Rattle.std.specs.Prelude.{◌≡◌, ℕ, ◌≤◌, List, ◌++◌, take, l
 abbrev pub Appends : Option (List ℕ) → Option (List ℕ) → List ℕ → Type 0
 Appends before after bytes = (held : List ℕ) → before ≡ Some held → after ≡ Some (held ++ bytes)
 
--- told bytes grow by a front of `bytes`
-abbrev pub AppendsFront : Option (List ℕ) → Option (List ℕ) → List ℕ → Type 0
-AppendsFront before after bytes =
+-- told bytes grow by a prefix of `bytes`
+abbrev pub AppendsPrefix : Option (List ℕ) → Option (List ℕ) → List ℕ → Type 0
+AppendsPrefix before after bytes =
     (held : List ℕ) → before ≡ Some held → (count : ℕ) × (count ≤ length bytes) × (after ≡ Some (held ++ take count bytes))
 
 -- told bytes begin with `bytes`, and lose them

@@ -11,7 +11,7 @@ abbrev pub file_at : List ℕ → List (List ℕ × List ℕ) → Option (List �
 file_at name [] = None
 file_at name (file ∷ files) = if pointwise nat_eq file.0 name then Some file.1 else file_at name files
 
--- a read that gave a text gave the front of the told file of this name; a name that no told file has is never answered
+-- a read that gave a text gave the prefix of the told file of this name; a name that no told file has is never answered
 abbrev pub Reads : Option (List (List ℕ × List ℕ)) → List ℕ → ℕ → Result (List ℕ) FileFail → Type 0
 Reads told name limit (Ok text) = (files : List (List ℕ × List ℕ)) → told ≡ Some files → option_map (take limit) (file_at name files) ≡ Some text
 Reads told name limit (Err fail) = ⊤

@@ -15,7 +15,7 @@ abbrev pub place_in : List ℕ → List (List ℕ × List ℕ) → ℕ
 place_in name [] = 0
 place_in name (file ∷ files) = if pointwise nat_eq file.0 name then 0 else suc (place_in name files)
 
--- told files after a write: the named one has the bytes; after a fault it is as it was or has a front of them; where memory
+-- told files after a write: the named one has the bytes; after a fault it is as it was or has a prefix of them; where memory
 -- runs out, and for every other name, nothing changes
 abbrev pub Writes : {T : Type 0} → Option (List (List ℕ × List ℕ)) → Option (List (List ℕ × List ℕ)) → List ℕ → List ℕ → Result T FileFail → Type 0
 Writes before after name bytes (Ok value) =

@@ -114,7 +114,7 @@ impl Eq for Text {
     ghost laws = { Prim.search (comparing, rules) };
 }
 
-/// Texts are in the order of their first different bytes; a front comes before the whole.
+/// Texts are in the order of their first different bytes; a prefix comes before the whole.
 impl PartialOrd for Text {
     ghost partial_cmp = { as_partial_cmp (slice_cmp nat_cmp) };
 

@@ -62,7 +62,7 @@ pub trait Files {
         ensures step { reads self.old name.now limit result self.new };
 
     /// Gives the file of this name these bytes; a name that no file has gets one. It fails with
-    /// `Failed` where the file cannot be written, which then is as it was or has a front of the
+    /// `Failed` where the file cannot be written, which then is as it was or has a prefix of the
     /// bytes, and with `NoMemory` when out of memory, which changes nothing. No other file changes.
     fn write(&mut self, alloc: Global, name: &str, bytes: &[u8]) -> Result<(), FileFail>
         ensures files { Writes (files self.old) (files self.new) name.now bytes.now result }

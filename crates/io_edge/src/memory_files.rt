@@ -142,7 +142,7 @@ impl Files for MemoryFiles {
                 self.read_faults = self.read_faults.saturating_add(1);
                 Err(FileFail::Failed)
             }
-            Some(bytes) => Ok(Text::of(alloc, front(bytes, limit))?),
+            Some(bytes) => Ok(Text::of(alloc, prefix(bytes, limit))?),
         }
     }
 
@@ -202,7 +202,7 @@ fn bytes_of<'a>(files: &'a [MemoryFile], name: &[u8]) -> Option<&'a [u8]>
 }
 
 // The first `limit` bytes, or all where there are fewer.
-fn front(bytes: &[u8], limit: u64) -> &[u8]
+fn prefix(bytes: &[u8], limit: u64) -> &[u8]
     ensures { result.now ≡ take limit bytes.now }
 {
     let limit = limit as usize;

@@ -1,7 +1,7 @@
 //! The system's files and standard input.
 ghost use Rattle.std.specs.Prelude.{◌≡◌, ◌≤◌, ◌<◌, length, None, IfOk, OnOk, OnErr, false};
-ghost use Rattle.io_edge.specs.Bytes.{Appends, AppendsFront, Loses};
-ghost use Rattle.io_edge.specs.Source.{IsFront, Moves};
+ghost use Rattle.io_edge.specs.Bytes.{Appends, AppendsPrefix, Loses};
+ghost use Rattle.io_edge.specs.Source.{IsPrefix, Moves};
 ghost use Rattle.io_edge.specs.Faults.{HasRisen};
 ghost use Rattle.io_edge.specs.Reading.{HasFileCause};
 
@@ -109,7 +109,7 @@ pub fn read_text<S: Read>(
     limit: u64,
     faults: &mut u64,
 ) -> Result<Text, FileFail>
-    ensures text { IfOk result (IsFront (S.remaining source.old) limit) }
+    ensures text { IfOk result (IsPrefix (S.remaining source.old) limit) }
     ensures no_further { IfOk result (Loses (S.remaining source.old) (S.remaining source.new)) }
     ensures within { IfOk result (λ text. length text ≤ limit) }
     ensures cause { HasFileCause faults.old faults.new result }
@@ -165,7 +165,7 @@ fn read_some<S: Read>(
 // Writes all bytes, and counts each fault.
 fn write_text<W: Write>(writer: &mut W, bytes: &[u8], faults: &mut u64) -> Result<(), FileFail>
     ensures ok { OnOk result (Appends (W.contents writer.old) (W.contents writer.new) bytes.now) }
-    ensures err { OnErr result (AppendsFront (W.contents writer.old) (W.contents writer.new) bytes.now) }
+    ensures err { OnErr result (AppendsPrefix (W.contents writer.old) (W.contents writer.new) bytes.now) }
     ensures cause { HasFileCause faults.old faults.new result }
 {
     match write_out(writer, bytes, faults) {

@@ -1,6 +1,6 @@
 //! A sink over a writer of the system.
 ghost use Rattle.std.specs.Prelude.{◌≡◌, ◌≤◌, [], take, length, OnOk, OnErr, IfOk};
-ghost use Rattle.io_edge.specs.Bytes.{Appends, AppendsFront};
+ghost use Rattle.io_edge.specs.Bytes.{Appends, AppendsPrefix};
 ghost use Rattle.io_edge.specs.Faults.{HasCause, HasRisen};
 
 use crate::sinks::{Failed, Sink};
@@ -62,7 +62,7 @@ pub(crate) fn write_out<W: Write>(
     faults: &mut u64,
 ) -> Result<(), Failed>
     ensures ok { OnOk result (Appends (W.contents writer.old) (W.contents writer.new) bytes.now) }
-    ensures err { OnErr result (AppendsFront (W.contents writer.old) (W.contents writer.new) bytes.now) }
+    ensures err { OnErr result (AppendsPrefix (W.contents writer.old) (W.contents writer.new) bytes.now) }
     ensures cause { HasCause faults.old faults.new result }
 {
     let mut rest = bytes;

@@ -1,6 +1,6 @@
 //! Sinks, which take bytes, and the one way in which a whole text goes out.
 ghost use Rattle.std.specs.Prelude.{◌≡◌, ℕ, List, Option, Bool, OnOk, OnErr, is_ok, take, drop};
-ghost use Rattle.io_edge.specs.Bytes.{Appends, AppendsFront};
+ghost use Rattle.io_edge.specs.Bytes.{Appends, AppendsPrefix};
 ghost use Rattle.io_edge.specs.Faults.{HasCause};
 ghost use Rattle.io_edge.specs.Pieces.{pieces_of, Sends};
 
@@ -26,11 +26,11 @@ pub trait Sink {
     // What one put may do: the sink before, the piece, whether all of it was taken, the sink after.
     ghost puts: { Self → List ℕ → Bool → Self → Type 0 };
 
-    /// Takes a piece. On an error the count of faults rose, and a front of the piece was taken,
+    /// Takes a piece. On an error the count of faults rose, and a prefix of the piece was taken,
     /// which may be empty. It takes no memory.
     fn put(&mut self, bytes: &[u8]) -> Result<(), Failed>
         ensures ok { OnOk result (Appends (told self.old) (told self.new) bytes.now) }
-        ensures err { OnErr result (AppendsFront (told self.old) (told self.new) bytes.now) }
+        ensures err { OnErr result (AppendsPrefix (told self.old) (told self.new) bytes.now) }
         ensures cause { HasCause (faults self.old) (faults self.new) result }
         ensures step { puts self.old bytes.now (is_ok result) self.new };
 }
@@ -39,7 +39,7 @@ pub trait Sink {
 /// makes no put. It stops at the first put that fails.
 pub fn put_all<K: Sink>(sink: &mut K, bytes: &[u8]) -> Result<(), Failed>
     ensures ok { OnOk result (Appends (K.told sink.old) (K.told sink.new) bytes.now) }
-    ensures err { OnErr result (AppendsFront (K.told sink.old) (K.told sink.new) bytes.now) }
+    ensures err { OnErr result (AppendsPrefix (K.told sink.old) (K.told sink.new) bytes.now) }
     ensures cause { HasCause (K.faults sink.old) (K.faults sink.new) result }
     ensures pieces { Sends K.puts sink.old (pieces_of PIECE bytes.now) (is_ok result) sink.new }
 {

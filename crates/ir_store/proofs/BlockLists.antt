@@ -1,7 +1,8 @@
 -- Lists that lie in blocks of cells: what a change of cells and blocks does to the lists.
 use Rattle.std.proofs.Common.{◌≡◌, ℕ, zero, suc, ◌+◌, ◌-◌, ◌<◌, ◌≤◌, Bool, true, false, nat_eq, List, [], ◌∷◌, ◌++◌, map, length, take, drop, get_or, set, replicate, refl, ap, sym, ◌∙◌, arith, length-append, length-take, length-drop}
 use Rattle.std.specs.Prelude.{remove}
-use Rattle.std.proofs.lemmas.List.{get_or-take, get_or-drop, ext_get_or, get_or_append_left, get_or-append-add, get_or-replicate, get_or-set_same, get_or-set_other, length-set, set-get_or, drop-set-add, take_all, get_or_default, map-set, length-map}
+use Rattle.std.proofs.lemmas.List.{get_or-take, get_or-drop, ext_get_or, get_or_append_left, get_or-append-add, get_or-replicate, get_or-set_same, get_or-set_other, length-set, set-get_or}
+use Rattle.std.proofs.lemmas.List.{drop-set-add, take_all, get_or_default, map-set, length-map}
 use Rattle.std.proofs.lemmas.List.Edits.{length-remove, get_or-remove_below, get_or-remove_above}
 use Rattle.std.proofs.lemmas.Bool.{eqb-true, eqb-false}
 use Rattle.ir_store.specs.declared.blocks.Block.{Block}
@@ -177,18 +178,18 @@ module _ (xs : List Value) (os : List ℕ) (bs : List Block) (live : ℕ) (ok : 
 
   -- ---- one value of a list changed
 
-  set_front : (n spot : ℕ) (v : Value) (zs : List Value) → take n (set zs spot v) ≡ set (take n zs) spot v
-  set_front zero spot v zs = refl
-  set_front (suc n) spot v [] = refl
-  set_front (suc n) zero v (z ∷ zs) = refl
-  set_front (suc n) (suc spot) v (z ∷ zs) = ap (λ ys. z ∷ ys) (set_front n spot v zs)
+  set_prefix : (n spot : ℕ) (v : Value) (zs : List Value) → take n (set zs spot v) ≡ set (take n zs) spot v
+  set_prefix zero spot v zs = refl
+  set_prefix (suc n) spot v [] = refl
+  set_prefix (suc n) zero v (z ∷ zs) = refl
+  set_prefix (suc n) (suc spot) v (z ∷ zs) = ap (λ ys. z ∷ ys) (set_prefix n spot v zs)
 
   pub list_set : (i spot : ℕ) (v : Value) → i < length bs → spot < (block_at bs i).len →
       lists_in (set xs ((block_at bs i).start + spot) v) bs ≡ set (lists_in xs bs) i (set (get_or (lists_in xs bs) i []) spot v)
   list_set i spot v h l =
       let ys : List Value = set xs ((block_at bs i).start + spot) v in
       let here : block_list ys (block_at bs i) ≡ set (get_or (lists_in xs bs) i []) spot v =
-      ap (take (block_at bs i).len) (drop-set-add (block_at bs i).start xs spot v) ∙ (set_front (block_at bs i).len spot v (drop (block_at bs i).start xs) ∙ ap (λ z. set z spot v) (sym (list_at xs bs i))) in
+      ap (take (block_at bs i).len) (drop-set-add (block_at bs i).start xs spot v) ∙ (set_prefix (block_at bs i).len spot v (drop (block_at bs i).start xs) ∙ ap (λ z. set z spot v) (sym (list_at xs bs i))) in
       let others = others_kept ys i (length-set xs ((block_at bs i).start + spot) v)
       (λ c n. get_or-set_other xs ((block_at bs i).start + spot) c v Undefined (λ e. n (omega (arith, e)) (omega (arith, e, l)))) in
       ap (lists_in ys) (sym (set-get_or bs i no_block)) ∙ lists_update xs ys bs i (block_at bs i) (set (get_or (lists_in xs bs) i []) spot v) h here others
@@ -219,7 +220,7 @@ module _ (xs : List Value) (os : List ℕ) (bs : List Block) (live : ℕ) (ok : 
       let fits : b.start + b.len ≤ length ys = omega (arith, ok.within i, e, s, m) in
       let size : length (block_list ys b) ≡ length (remove (block_list xs old) spot) = omega (arith, block_length ys b fits, gone, n, m, l) in
       let old_at : (k : ℕ) → k < old.len → get_or xs (old.start + k) Undefined ≡ get_or (block_list xs old) k Undefined = λ k q. sym (block_read xs old k q) in
-      let in_front : (k : ℕ) → k < spot → get_or ys (old.start + k) Undefined ≡ get_or (remove (block_list xs old) spot) k Undefined =
+      let in_prefix : (k : ℕ) → k < spot → get_or ys (old.start + k) Undefined ≡ get_or (remove (block_list xs old) spot) k Undefined =
       λ k q. others (old.start + k) (λ p u. omega (arith, p, f, q)) ∙ (old_at k (omega (arith, q, l)) ∙ sym (get_or-remove_below (block_list xs old) spot Undefined k q (omega (arith, n, l)))) in
       let following : (k : ℕ) → spot ≤ k → k + 1 < old.len → get_or ys (old.start + k) Undefined ≡ get_or (remove (block_list xs old) spot) k Undefined =
       λ k q u.
@@ -230,7 +231,7 @@ module _ (xs : List Value) (os : List ℕ) (bs : List Block) (live : ℕ) (ok : 
       (λ k g.
       let q : k < b.len = omega (arith, g, block_length ys b fits) in
       let u : k + 1 < old.len = omega (arith, q, m) in
-      block_read ys b k q ∙ (ap (λ (z : ℕ). get_or ys (z + k) Undefined) s ∙ split k spot (in_front k) (λ v. following k v u))) in
+      block_read ys b k q ∙ (ap (λ (z : ℕ). get_or ys (z + k) Undefined) s ∙ split k spot (in_prefix k) (λ v. following k v u))) in
       lists_update xs ys bs i b (remove (get_or (lists_in xs bs) i []) spot) h (here ∙ ap (λ z. remove z spot) (sym (list_at xs bs i)))
       (others_kept ys i e (λ c o. others c (λ p q. o (omega (arith, p, f)) (omega (arith, q, t, l)))))
 
@@ -252,13 +253,14 @@ module _ (xs : List Value) (os : List ℕ) (bs : List Block) (live : ℕ) (ok : 
 
   pub list_placed : (i : ℕ) (b : Block) (zs : List Value) → i < length bs → b.start ≡ length xs → b.len ≡ length zs → lists_in (xs ++ zs) (set bs i b) ≡ set (lists_in xs bs) i zs
   list_placed i b zs h s l =
-      let here : block_list (xs ++ zs) b ≡ zs = ap (λ (z : ℕ). take b.len (drop z (xs ++ zs))) s ∙ (ap (take b.len) (drop_front xs) ∙ take_all b.len zs (omega (arith, l))) in
+      let here : block_list (xs ++ zs) b ≡ zs = ap (λ (z : ℕ). take b.len (drop z (xs ++ zs))) s ∙ (ap (take b.len) (drop_prefix xs) ∙ take_all b.len zs (omega (arith, l))) in
       lists_update xs (xs ++ zs) bs i b zs h here
-      (λ j n. block_same xs (xs ++ zs) (block_at bs j) (block_at bs j) refl (ok.within j) (omega (arith, length-append xs zs, ok.within j)) (λ k q. get_or_append_left xs zs Undefined ((block_at bs j).start + k) (omega (arith, q, ok.within j))))
+      (λ j n. block_same xs (xs ++ zs) (block_at bs j) (block_at bs j) refl (ok.within j) (omega (arith, length-append xs zs, ok.within j))
+      (λ k q. get_or_append_left xs zs Undefined ((block_at bs j).start + k) (omega (arith, q, ok.within j))))
     where
-      drop_front : (ys : List Value) → drop (length ys) (ys ++ zs) ≡ zs
-      drop_front [] = refl
-      drop_front (y ∷ ys) = drop_front ys
+      drop_prefix : (ys : List Value) → drop (length ys) (ys ++ zs) ≡ zs
+      drop_prefix [] = refl
+      drop_prefix (y ∷ ys) = drop_prefix ys
 
   -- ---- an empty list after the others
 

@@ -21,3 +21,7 @@ pub mod UseCounts
 pub mod UseLemmas
 pub mod UseNames
 pub mod Walks
+pub mod ThreadBodies
+pub mod ThreadDesigns
+pub mod ThreadNumbers
+pub mod ThreadTypes

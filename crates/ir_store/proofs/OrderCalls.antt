@@ -10,7 +10,7 @@ use Rattle.ir_store.specs.BodyOps.{place_before}
 use Rattle.linked_lists.specs.Links.{none, new_link, next_at, prev_at, walk, first_of, last_of, linked_in, linked_out, IsOrder}
 use Rattle.ir_store.specs.Orders.{live_ids, free_ids}
 use Rattle.ir_store.proofs.Ordering.{Added, Removed, added, removed, order_of}
-use Rattle.ir_store.proofs.PlacesBefore.{place_front, place_back, place_next}
+use Rattle.ir_store.proofs.PlacesBefore.{place_prefix, place_back, place_next}
 use Rattle.linked_lists.proofs.Linking.{length-linked_in, length-linked_out}
 
 length-put_at_least : {A : Type 0} (i : ℕ) (x : A) (xs : List A) → (length xs ≤ length (put_at i x xs)) × (i ≤ length xs → i + 1 ≤ length (put_at i x xs))
@@ -74,7 +74,7 @@ is_removed o b prev next live first last ms there e_live e_prev e_next e_ms e_fi
     let xs = take p (live_ids o) in
     let ys = drop (suc p) (live_ids o) in
     let whole : xs ++ b.index ∷ ys ≡ live_ids o = ap (λ zs. xs ++ zs) (sym (place_back (live_ids o) b there)) ∙ take-append-drop p (live_ids o) in
-    let prev_is : prev ≡ last_of none xs = e_prev ∙ place_front o.links.items none (live_ids o) none b there o.linked in
+    let prev_is : prev ≡ last_of none xs = e_prev ∙ place_prefix o.links.items none (live_ids o) none b there o.linked in
     let next_is : next ≡ first_of ys none = e_next ∙ place_next o.links.items none (live_ids o) none b there o.linked in
     let ok : IsOrder o.links.items (xs ++ b.index ∷ ys) (walk o.links.items (free_ids o) o.free) o.last = rw whole (order_of o) in
     let count : length ms ≡ length o.links.items = rw e_ms (length-linked_out b.index prev next o.free o.links.items) in

@@ -8,7 +8,8 @@ use Rattle.ir_store.specs.declared.order.Order.{Order}
 use Rattle.linked_lists.specs.Ids.{times, put_at}
 use Rattle.linked_lists.specs.Links.{none, no_link, new_link, free_link, next_at, is_live_at, walk, first_of, last_of, IsLinked, with_next, with_prev, linked_in, linked_out, IsOrder}
 use Rattle.linked_lists.proofs.IdLemmas.{times-append, times_contained, get_or-put_at_other, length-put_at}
-use Rattle.linked_lists.proofs.Linking.{length-with_next, length-with_prev, next_other, next_kept, live_next, live_prev, apart, first_there, last_there, last-append, linked_walk, walk_same, linked_more, linked_less, length-linked_in, length-linked_out}
+use Rattle.linked_lists.proofs.Linking.{length-with_next, length-with_prev, next_other, next_kept, live_next, live_prev, apart, first_there, last_there, last-append, linked_walk, walk_same}
+use Rattle.linked_lists.proofs.Linking.{linked_more, linked_less, length-linked_in, length-linked_out}
 
 -- a number that is no id equals none that is there
 other_none : (x n : ℕ) (xs : List ℕ) → times n xs ≡ 0 → 0 < times x xs → nat_eq x n ≡ false
@@ -81,7 +82,7 @@ pub live_more : (ls : List Link) (xs ys : List ℕ) (id first n : ℕ) → IsLin
 live_more ls xs ys id first n h real e k =
     rw (k, start_more xs ys id first real e) (linked_walk (linked_in id (last_of none xs) (first_of ys none) ls) none (xs ++ id ∷ ys) none h)
 
--- the last of the front is not free
+-- the last of the prefix is not free
 pub last_free : (xs ys free : List ℕ) → ((v : ℕ) → times v ((xs ++ ys) ++ free) ≤ 1) → times none free ≡ 0 → (v : ℕ) → 0 < times v free → v ≡ last_of none xs → ⊥
 last_free [] ys free once real v t e = omega (arith, (rw e at t), real)
 last_free (x ∷ xs) ys free once real v t e =
@@ -210,7 +211,7 @@ pub record Added (ls ms : List Link) (xs ys : List ℕ) (live n id first last fr
 length_halves : (ls : List Link) (live first id : ℕ) (xs ys : List ℕ) → walk ls live first ≡ xs ++ ys → live + 1 ≡ length (xs ++ id ∷ ys)
 length_halves ls live first id xs ys h = omega (arith, length-walk ls live first, ap length h, length-append xs ys, length-append xs (id ∷ ys))
 
--- an id at the front of some stands there once more
+-- an id at the beginning of some stands there once more
 once_more : (x : ℕ) (ys : List ℕ) → times x (x ∷ ys) ≡ suc (times x ys)
 once_more x ys = rw (eq_self x) refl
   where

@@ -15,9 +15,9 @@ use Rattle.linked_lists.proofs.IdLemmas.{times-append}
 use Rattle.linked_lists.proofs.Linking.{first_there}
 
 -- what stands before and after the place of an id
-pub place_front : (ls : List Link) (a : ℕ) (xs : List ℕ) (z : ℕ) (b : OpId) → Contains xs b.index → IsLinked ls a xs z → prev_at ls b.index ≡ last_of a (take (place_before (Some b) xs) xs)
-place_front ls a [] z b (k, l, e) h = absurd (omega arith)
-place_front ls a (x ∷ xs) z b t h = go (nat_eq x b.index) refl t (place_front ls x xs z b)
+pub place_prefix : (ls : List Link) (a : ℕ) (xs : List ℕ) (z : ℕ) (b : OpId) → Contains xs b.index → IsLinked ls a xs z → prev_at ls b.index ≡ last_of a (take (place_before (Some b) xs) xs)
+place_prefix ls a [] z b (k, l, e) h = absurd (omega arith)
+place_prefix ls a (x ∷ xs) z b t h = go (nat_eq x b.index) refl t (place_prefix ls x xs z b)
   where
     go : (s : Bool) → nat_eq x b.index ≡ s → Contains (x ∷ xs) b.index → (Contains xs b.index → IsLinked ls x xs z → prev_at ls b.index ≡ last_of x (take (place_before (Some b) xs) xs)) →
         prev_at ls b.index ≡ last_of a (take (cond s 0 (suc (place_before (Some b) xs))) (x ∷ xs))

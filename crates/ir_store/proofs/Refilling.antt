@@ -58,12 +58,12 @@ module _ (from : List Value) (bs : List Block) (n : ℕ) (xs : List Value) (os :
         cells = omega (arith, longer, r.cells, total_more bs n, size, l, r.lens n);
       }
     where
-      drop_front : (ys zs : List Value) → drop (length ys) (ys ++ zs) ≡ zs
-      drop_front [] zs = refl
-      drop_front (y ∷ ys) zs = drop_front ys zs
+      drop_prefix : (ys zs : List Value) → drop (length ys) (ys ++ zs) ≡ zs
+      drop_prefix [] zs = refl
+      drop_prefix (y ∷ ys) zs = drop_prefix ys zs
 
       whole : (d : Block) (ws : List Value) → d.start ≡ length xs → d.len ≡ length ws → block_list (xs ++ ws) d ≡ ws
-      whole d ws p q = ap (λ (w : ℕ). take d.len (drop w (xs ++ ws))) p ∙ (ap (take d.len) (drop_front xs ws) ∙ take_all d.len ws (omega (arith, q)))
+      whole d ws p q = ap (λ (w : ℕ). take d.len (drop w (xs ++ ws))) p ∙ (ap (take d.len) (drop_prefix xs ws) ∙ take_all d.len ws (omega (arith, q)))
 
   pub refilled_all : length bs ≤ n → AreBlocks xs os cs (total bs)
   refilled_all h =

@@ -14,9 +14,9 @@ use Rattle.linked_lists.proofs.Chaining.{eq_self, once_at_most}
 
 -- a cell that is there, what stands before it and what stands after it
 pub record FoundAt (c : ℕ) (cells : List ℕ) : Type 0 where
-  pub front : List ℕ
+  pub prefix : List ℕ
   pub back : List ℕ
-  pub whole : cells ≡ front ++ c ∷ back
+  pub whole : cells ≡ prefix ++ c ∷ back
   pub rest : from_cell c cells ≡ c ∷ back
 
 pub found_at : (c : ℕ) (cells : List ℕ) → Contains cells c → FoundAt c cells
@@ -28,7 +28,7 @@ found_at c cells h = go cells (contained_times cells c h)
       where
         pick : (b : Bool) → nat_eq x c ≡ b → 0 < cond b (suc (times c xs)) (times c xs) → (0 < times c xs → FoundAt c xs) → FoundAt c (x ∷ xs)
         pick true t k r = record {
-          front = [];
+          prefix = [];
           back = xs;
           whole = ap (λ y. y ∷ xs) (eqb-true x c t);
           rest = rw t (ap (λ y. y ∷ xs) (eqb-true x c t));
@@ -36,7 +36,7 @@ found_at c cells h = go cells (contained_times cells c h)
         pick false t k r =
             let p = r k in
             record {
-              front = x ∷ p.front;
+              prefix = x ∷ p.prefix;
               back = p.back;
               whole = ap (λ ys. x ∷ ys) p.whole;
               rest = rw t p.rest;
@@ -75,21 +75,21 @@ split_after c [] ys = refl
 split_after c (x ∷ xs) ys = ap (λ zs. x ∷ zs) (split_after c xs ys)
 
 -- what stands after a cell begins at the one after it
-rest_after : (c : ℕ) (next : Option ℕ) (cells front back : List ℕ) → cells ≡ front ++ c ∷ back → next ≡ cell_or_none back → ((v : ℕ) → times v cells ≤ 1) → rest_at next cells ≡ back
-rest_after c next cells front back whole n once =
-    let w : cells ≡ (front ++ c ∷ []) ++ back = whole ∙ split_after c front back in
-    rw (n, w) (rest_here (front ++ c ∷ []) back (λ v. rw (← w) (once v)))
+rest_after : (c : ℕ) (next : Option ℕ) (cells prefix back : List ℕ) → cells ≡ prefix ++ c ∷ back → next ≡ cell_or_none back → ((v : ℕ) → times v cells ≤ 1) → rest_at next cells ≡ back
+rest_after c next cells prefix back whole n once =
+    let w : cells ≡ (prefix ++ c ∷ []) ++ back = whole ∙ split_after c prefix back in
+    rw (n, w) (rest_here (prefix ++ c ∷ []) back (λ v. rw (← w) (once v)))
 
 pub step : (c : ℕ) (next : Option ℕ) (cells : List ℕ) → Contains cells c → ((v : ℕ) → times v cells ≤ 1) → ((xs ys : List ℕ) → cells ≡ xs ++ c ∷ ys → next ≡ cell_or_none ys) → Step c next cells
 step c next cells h once after =
     let f = found_at c cells h in
-    let n : next ≡ cell_or_none f.back = after f.front f.back f.whole in
-    let rest : rest_at next cells ≡ f.back = rest_after c next cells f.front f.back f.whole n once in
+    let n : next ≡ cell_or_none f.back = after f.prefix f.back f.whole in
+    let rest : rest_at next cells ≡ f.back = rest_after c next cells f.prefix f.back f.whole n once in
     record {
       shorter = omega (arith, ap length rest, ap length f.rest);
       skips = λ v values e. rw (f.rest, rest, e) refl;
       whole = f.rest ∙ ap (λ ys. c ∷ ys) (sym rest);
-      there = λ d e. subst (λ zs. Contains zs d) (sym f.whole) (contains_part f.front (c ∷ f.back) d (later d f.back (sym n ∙ e)));
+      there = λ d e. subst (λ zs. Contains zs d) (sym f.whole) (contains_part f.prefix (c ∷ f.back) d (later d f.back (sym n ∙ e)));
     }
   where
     later : (d : ℕ) (ys : List ℕ) → cell_or_none ys ≡ Some d → Contains (c ∷ ys) d
@@ -197,13 +197,13 @@ module _ (values : List Value) (table : ChainTable) (ok : AreIndexed values tabl
       let in_with : Contains (xs ++ c ∷ ys) c = contains_part xs (c ∷ ys) c (0, omega arith, refl) in
       let both = with_part v values c cells (rw e in_with) in
       let f = found_at c cells both.0 in
-      let n : next ≡ cell_or_none f.back = after f.front f.back f.whole in
-      let rest : rest_at next cells ≡ f.back = rest_after c next cells f.front f.back f.whole n (chain_most s) in
-      let parts : cells_with v values cells ≡ cells_with v values f.front ++ c ∷ cells_with v values f.back = ap (cells_with v values) f.whole ∙ (with-append v values f.front (c ∷ f.back) ∙ kept f.front f.back both.1) in
+      let n : next ≡ cell_or_none f.back = after f.prefix f.back f.whole in
+      let rest : rest_at next cells ≡ f.back = rest_after c next cells f.prefix f.back f.whole n (chain_most s) in
+      let parts : cells_with v values cells ≡ cells_with v values f.prefix ++ c ∷ cells_with v values f.back = ap (cells_with v values) f.whole ∙ (with-append v values f.prefix (c ∷ f.back) ∙ kept f.prefix f.back both.1) in
       let most : (w : ℕ) → times w (cells_with v values cells) ≤ 1 = λ w. omega (arith, times-with v values w cells, fewer (has_value v values w) (times w cells), chain_most s w) in
       let left : rest_at (Some c) (xs ++ c ∷ ys) ≡ c ∷ ys = rest_here xs (c ∷ ys) (λ w. rw (← e) (most w)) in
-      let right : rest_at (Some c) (cells_with v values f.front ++ c ∷ cells_with v values f.back) ≡ c ∷ cells_with v values f.back =
-      rest_here (cells_with v values f.front) (c ∷ cells_with v values f.back) (λ w. rw (← parts) (most w)) in
+      let right : rest_at (Some c) (cells_with v values f.prefix ++ c ∷ cells_with v values f.back) ≡ c ∷ cells_with v values f.back =
+      rest_here (cells_with v values f.prefix) (c ∷ cells_with v values f.back) (λ w. rw (← parts) (most w)) in
       let same : c ∷ ys ≡ c ∷ cells_with v values f.back = sym left ∙ (ap (rest_at (Some c)) (sym e ∙ parts) ∙ right) in
       ap (cells_with v values) rest ∙ sym (ap tail same)
     where

@@ -10,14 +10,14 @@ use Rattle.ir_store.specs.Live.{AreDistinct}
 use Rattle.ir_store.proofs.Living.{all_mapped}
 
 -- an operation, where there is one, before others
-abbrev pub in_front : Option BodyOp → List BodyOp → List BodyOp
-in_front None ops = ops
-in_front (Some o) ops = o ∷ ops
+abbrev pub in_prefix : Option BodyOp → List BodyOp → List BodyOp
+in_prefix None ops = ops
+in_prefix (Some o) ops = o ∷ ops
 
 -- the operations of ids, in their order
 abbrev pub ops_at : List BodyOp → List OpId → List BodyOp
 ops_at ops [] = []
-ops_at ops (i ∷ is) = in_front (op_at ops i.index) (ops_at ops is)
+ops_at ops (i ∷ is) = in_prefix (op_at ops i.index) (ops_at ops is)
 
 -- each of some operations is found by its id
 abbrev AreFound : List BodyOp → List BodyOp → Type 0
@@ -26,7 +26,7 @@ AreFound whole (o ∷ os) = (op_at whole o.id ≡ Some o) × AreFound whole os
 
 found_in : (whole os : List BodyOp) → AreFound whole os → ops_at whole (map op_id (ids_in os)) ≡ os
 found_in whole [] h = refl
-found_in whole (o ∷ os) h = ap (λ (r : Option BodyOp). in_front r (ops_at whole (map op_id (ids_in os)))) h.0 ∙ ap (λ (rest : List BodyOp). o ∷ rest) (found_in whole os h.1)
+found_in whole (o ∷ os) h = ap (λ (r : Option BodyOp). in_prefix r (ops_at whole (map op_id (ids_in os)))) h.0 ∙ ap (λ (rest : List BodyOp). o ∷ rest) (found_in whole os h.1)
 
 -- after another operation, where none of them has its id
 found_after : (o : BodyOp) (whole os : List BodyOp) → times o.id (ids_in os) ≡ 0 → AreFound whole os → AreFound (o ∷ whole) os
@@ -58,7 +58,7 @@ through_all ops once = found_in ops ops (found_all ops once)
 
 -- one step of the walk
 pub walk : (ops : List BodyOp) (i : OpId) (before after : List OpId) (o : BodyOp) → op_at ops i.index ≡ Some o → before ≡ i ∷ after → ops_at ops before ≡ o ∷ ops_at ops after
-walk ops i before after o found steps = ap (ops_at ops) steps ∙ ap (λ (r : Option BodyOp). in_front r (ops_at ops after)) found
+walk ops i before after o found steps = ap (ops_at ops) steps ∙ ap (λ (r : Option BodyOp). in_prefix r (ops_at ops after)) found
 
 -- an operation is found by its id
 pub found_by_id : (ops : List BodyOp) → AreDistinct (ids_in ops) → (j : ℕ) (o : BodyOp) → slice_get ops j ≡ Some o → op_at ops o.id ≡ Some o

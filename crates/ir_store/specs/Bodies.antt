@@ -7,7 +7,7 @@ use Rattle.ir_store.specs.declared.body.Body.{Body}
 use Rattle.ir_store.specs.declared.body.Op.{Op}
 use Rattle.ir_store.specs.declared.ops.Ops.{Ops}
 use Rattle.ir_store.specs.DictionaryViews.{entries_in}
-use Rattle.ir_store.specs.OperationViews.{OpParts, parts_of, types_in, results_in, place_of}
+use Rattle.ir_store.specs.OperationViews.{OpParts, parts_of, types_in, results_in, location_of}
 use Rattle.linked_lists.specs.Links.{walk}
 use Rattle.ir_store.specs.Orders.{live_ids, free_ids}
 use Rattle.ir_store.specs.BodyOps.{BodyOp, stored_op, ids_in}
@@ -41,7 +41,7 @@ read_parts o = record {
   name = o.name.now;
   dictionary = entries_in o.dictionary.now;
   bin = o.bin;
-  place = place_of o.place;
+  location = location_of o.location;
 }
 
 -- an operation that is read, with its id

@@ -23,7 +23,7 @@ no_parts = record {
   name = [];
   dictionary = [];
   bin = false;
-  place = record { line = 1; col = 1 };
+  location = record { line = 1; col = 1 };
 }
 
 -- the operation of an id, where the parts and the operands stand by ids

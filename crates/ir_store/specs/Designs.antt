@@ -2,14 +2,14 @@
 use Rattle.std.specs.Prelude.{ℕ, zero, suc, Bool, List, [], ◌∷◌, map}
 use Rattle.hw_model.specs.Types.{Name}
 use Rattle.hw_model.specs.TypeViews.{type_of}
-use Rattle.hw_model.specs.Design.{Entry, Place}
+use Rattle.hw_model.specs.Design.{Entry, Location}
 use Rattle.hw_model.specs.Design as hw
 use Rattle.ir_store.specs.declared.design.Port.{Port}
 use Rattle.ir_store.specs.declared.design.PortList.{PortList}
 use Rattle.ir_store.specs.declared.design.Module.{Module}
 use Rattle.ir_store.specs.declared.design.Design.{Design}
 use Rattle.ir_store.specs.DictionaryViews.{entries_in}
-use Rattle.ir_store.specs.OperationViews.{place_of}
+use Rattle.ir_store.specs.OperationViews.{location_of}
 use Rattle.ir_store.specs.BodyOps.{BodyOp}
 use Rattle.ir_store.specs.Bodies.{ops_of}
 use Rattle.ir_store.specs.Numbered.{ops_by_position}
@@ -29,7 +29,7 @@ pub record StoredModule : Type 0 where
   pub ports : List hw.Port
   pub dictionary : List Entry
   pub ops : List BodyOp
-  pub place : Place
+  pub location : Location
 
 -- a module
 abbrev pub module_of : Module → StoredModule
@@ -39,7 +39,7 @@ module_of m = record {
   ports = ports_in m.ports;
   dictionary = entries_in m.dictionary;
   ops = ops_of m.body;
-  place = place_of m.place;
+  location = location_of m.location;
 }
 
 -- the modules of a design, in order
@@ -54,7 +54,7 @@ numbered_module m = record {
   ports = m.ports;
   dictionary = m.dictionary;
   body = ops_by_position m.ops;
-  place = m.place;
+  location = m.location;
 }
 
 -- the design that definitions speak of

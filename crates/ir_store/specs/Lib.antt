@@ -16,3 +16,4 @@ pub mod UseChains
 pub mod Uses
 pub mod UsesLeft
 pub mod ResultTypes
+pub mod SettledTypes

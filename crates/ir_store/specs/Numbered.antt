@@ -28,7 +28,7 @@ op_by position o = record {
   name = o.parts.name;
   dictionary = o.parts.dictionary;
   bin = o.parts.bin;
-  place = o.parts.place;
+  location = o.parts.location;
 }
 
 -- the operations by positions

@@ -5,8 +5,8 @@ use Rattle.hw_model.specs.Kinds.{Kind}
 use Rattle.hw_model.specs.TypeViews.{type_of}
 use Rattle.hw_model.specs.declared.types.Ty.{Ty}
 use Rattle.hw_model.specs.KindViews.{kind_of}
-use Rattle.hw_model.specs.Design.{OpResult, Entry as HwEntry, Place as HwPlace}
-use Rattle.diag.specs.declared.refusal.Place.{Place}
+use Rattle.hw_model.specs.Design.{OpResult, Entry as HwEntry, Location as HwLocation}
+use Rattle.diag.specs.declared.refusal.Location.{Location}
 use Rattle.ir_store.specs.declared.operation.NewResult.{NewResult}
 use Rattle.ir_store.specs.declared.short_list.ShortList.{ShortList}
 use Rattle.ir_store.specs.declared.operation.NewOp.{NewOp}
@@ -14,9 +14,9 @@ use Rattle.ir_store.specs.declared.operation.Parts.{Parts}
 use Rattle.ir_store.specs.DictionaryViews.{entries_in}
 use Rattle.ir_store.specs.ShortLists.{short_items}
 
--- a place in the source
-abbrev pub place_of : Place → HwPlace
-place_of p = record { line = p.line; col = p.col }
+-- a location in the source
+abbrev pub location_of : Location → HwLocation
+location_of p = record { line = p.line; col = p.col }
 
 -- the types of a list
 abbrev pub types_in : ShortList Ty → List HwType
@@ -39,7 +39,7 @@ pub record OpParts : Type 0 where
   pub name : Name
   pub dictionary : List HwEntry
   pub bin : Bool
-  pub place : HwPlace
+  pub location : HwLocation
 
 -- the parts that a body keeps
 abbrev pub parts_of : Parts → OpParts
@@ -51,7 +51,7 @@ parts_of p = record {
   name = p.name;
   dictionary = entries_in p.dictionary;
   bin = p.bin;
-  place = place_of p.place;
+  location = location_of p.location;
 }
 
 -- the parts of an operation that is to be put into a body
@@ -64,5 +64,5 @@ new_parts o = record {
   name = o.name;
   dictionary = entries_in o.dictionary;
   bin = o.bin;
-  place = place_of o.place;
+  location = location_of o.location;
 }

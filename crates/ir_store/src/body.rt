@@ -12,7 +12,7 @@ use crate::operation::{
 use crate::ops::Ops;
 use crate::order::Order;
 use crate::uses::Uses;
-use diag::refusal::Place;
+use diag::refusal::Location;
 use hw_model::kinds::OpKind;
 use io_edge::byte_text::Text;
 use std::alloc::{AllocError, Global};
@@ -47,8 +47,8 @@ pub struct Op<'b> {
     pub dictionary: &'b Dictionary,
     /// Whether it has the mark `bin`.
     pub bin: bool,
-    /// Its place in the source.
-    pub place: Place,
+    /// Its location in the source.
+    pub location: Location,
 }
 
 impl Body {
@@ -324,7 +324,7 @@ impl Body {
             name: &parts.name,
             dictionary: &parts.dictionary,
             bin: parts.bin,
-            place: parts.place,
+            location: parts.location,
         }
     }
 

@@ -6,7 +6,7 @@ ghost use Rattle.ir_store.specs.Symbols.{symbol_place, first_of};
 
 use crate::body::Body;
 use crate::dictionary::Dictionary;
-use diag::refusal::Place;
+use diag::refusal::Location;
 use hw_model::types::Ty;
 use indexmap::IndexMap;
 use io_edge::byte_text::Text;
@@ -46,8 +46,8 @@ pub struct Module {
     pub dictionary: Dictionary,
     /// Its operations.
     pub body: Body,
-    /// Its place in the source.
-    pub place: Place,
+    /// Its location in the source.
+    pub location: Location,
 }
 
 /// A design: modules in order. Contracts see them by `modules_of`.
@@ -124,7 +124,7 @@ impl Module {
             ports: self.ports.try_clone(alloc)?,
             dictionary: self.dictionary.try_clone(alloc)?,
             body: self.body.try_clone(alloc)?,
-            place: self.place,
+            location: self.location,
         })
     }
 }

@@ -21,6 +21,7 @@ pub mod ops;
 mod order;
 pub mod position_table;
 pub mod result_types;
+pub mod settled_type;
 pub mod short_list;
 pub mod uses;
 

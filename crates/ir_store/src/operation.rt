@@ -5,7 +5,7 @@ ghost use Rattle.ir_store.specs.OperationViews.{types_in, result_of, results_in,
 
 use crate::dictionary::Dictionary;
 use crate::short_list::ShortList;
-use diag::refusal::Place;
+use diag::refusal::Location;
 use hw_model::kinds::OpKind;
 use hw_model::types::Ty;
 use io_edge::byte_text::Text;
@@ -79,8 +79,8 @@ pub struct NewOp {
     pub dictionary: Dictionary,
     /// Whether it has the mark `bin`.
     pub bin: bool,
-    /// Its place in the source.
-    pub place: Place,
+    /// Its location in the source.
+    pub location: Location,
 }
 
 /// What a body keeps of an operation besides its operands.
@@ -93,7 +93,7 @@ pub struct Parts {
     pub(crate) name: Text,
     pub(crate) dictionary: Dictionary,
     pub(crate) bin: bool,
-    pub(crate) place: Place,
+    pub(crate) location: Location,
 }
 
 impl NewOp {
@@ -110,7 +110,7 @@ impl NewOp {
             name,
             dictionary,
             bin,
-            place,
+            location,
         } = self;
         Parts {
             kind,
@@ -120,7 +120,7 @@ impl NewOp {
             name,
             dictionary,
             bin,
-            place,
+            location,
         }
     }
 }
@@ -174,7 +174,7 @@ impl Parts {
             name: Text::new(alloc),
             dictionary: Dictionary::new(alloc),
             bin: false,
-            place: Place::start(),
+            location: Location::start(),
         }
     }
 
@@ -190,7 +190,7 @@ impl Parts {
             name: self.name.try_clone(alloc)?,
             dictionary: self.dictionary.try_clone(alloc)?,
             bin: self.bin,
-            place: self.place,
+            location: self.location,
         })
     }
 }

@@ -6,8 +6,10 @@ ghost use Rattle.hw_model.specs.Types.HwType.{struct};
 ghost use Rattle.hw_model.specs.TypeViews.{type_of, field_of as field_view, fields_of};
 ghost use Rattle.hw_model.specs.KindViews.{kind_of};
 ghost use Rattle.hw_model.specs.Sound.{field_type, field_list};
-ghost use Rattle.ir_store.specs.ResultTypes.{result_type, result_types, joined_width, elements_in, length_joined, joined_length, array_of, element_of, field_of as field_in, fields_of as fields_in, kept_size};
+ghost use Rattle.ir_store.specs.ResultTypes.{result_types, joined_width, elements_in, length_joined, joined_length, element_of, field_of as field_in, fields_of as fields_in, kept_size};
 
+use crate::settled_type::SettledType;
+use hw_model::families::{Family, StructOp};
 use hw_model::kinds::OpKind;
 use hw_model::types::{Field, Ty};
 use io_edge::byte_text::Text;
@@ -24,51 +26,17 @@ pub fn result_types(
 ) -> Result<Vec<Option<Ty>>, AllocError>
     ensures { IfOk result (λ ts. map (option_map type_of) ts.items ≡ result_types (kind_of kind.now) (map type_of types.now) operands) }
 {
-    match kind {
-        OpKind::Output => Ok(Vec::new(alloc)),
-        OpKind::StructExplode => field_types(alloc, types.first()),
-        OpKind::Instance(instance) => types_after(alloc, types, instance.inputs.len()),
+    let family = kind.family();
+    match family {
+        Family::Output => Ok(Vec::new(alloc)),
+        Family::Struct(StructOp::Explode) => field_types(alloc, types.first()),
+        Family::Instance(instance) => types_after(alloc, types, instance.inputs.len()),
         _ => {
-            let ty = result_type(alloc, kind, types, operands)?;
+            let ty = SettledType::of(family, types, operands).try_clone(alloc)?;
             let mut one = Vec::with_capacity(alloc, 1)?;
             one.push(ty)?;
             Ok(one)
         }
-    }
-}
-
-/// The type of the result of an operation that has one.
-#[tactic(auto, unfolding(crate::specs::ResultTypes::result_type))]
-fn result_type(
-    alloc: Global,
-    kind: &OpKind,
-    types: &[Ty],
-    operands: usize,
-) -> Result<Option<Ty>, AllocError>
-    ensures { IfOk result (λ ty. option_map type_of ty ≡ result_type (kind_of kind.now) (map type_of types.now) operands) }
-{
-    match kind {
-        OpKind::Icmp(_) | OpKind::Parity => Ok(Some(Ty::Int(1))),
-        OpKind::Extract(_) | OpKind::Replicate | OpKind::ArraySlice | OpKind::Bitcast => {
-            clone_type(alloc, types.get(1))
-        }
-        OpKind::Concat => Ok(joined_width(types).map(Ty::Int)),
-        OpKind::ArrayCreate => array(alloc, Some(kept_size(operands)), types.first()),
-        OpKind::ArrayConcat => array(alloc, joined_length(types), element_of(types.first())),
-        OpKind::ArrayGet => clone_type(alloc, element_of(types.first())),
-        OpKind::StructExtract(name) => clone_type(alloc, field_of(types.first(), name)),
-        OpKind::StructExplode | OpKind::Instance(_) | OpKind::Output => Ok(None),
-        _ => clone_type(alloc, types.first()),
-    }
-}
-
-/// An equal type with memory of its own, where there is one.
-fn clone_type(alloc: Global, ty: Option<&Ty>) -> Result<Option<Ty>, AllocError>
-    ensures { IfOk result (λ copy. option_map type_of copy ≡ option_map (λ t. type_of t.now) ty.entry) }
-{
-    match ty {
-        Some(ty) => Ok(Some(ty.try_clone(alloc)?)),
-        None => Ok(None),
     }
 }
 
@@ -122,19 +90,6 @@ fn elements_in(element: Option<&Ty>, ty: &Ty) -> Option<u32>
     match (ty, element) {
         (Ty::Array(length, own), Some(element)) if **own == *element => Some(*length),
         (Ty::Array(..), _) | (Ty::Clock | Ty::Int(_) | Ty::Struct(_), _) => None,
-    }
-}
-
-/// An array of so many elements of a type.
-fn array(alloc: Global, length: Option<u32>, element: Option<&Ty>) -> Result<Option<Ty>, AllocError>
-    ensures { IfOk result (λ ty. option_map type_of ty ≡ array_of length (option_map (λ t. type_of t.now) element.entry)) }
-{
-    match (length, element) {
-        (Some(length), Some(element)) => {
-            let element = element.try_clone(alloc)?;
-            Ok(Some(Ty::Array(length, Box::new(alloc, element)?)))
-        }
-        (None, _) | (_, None) => Ok(None),
     }
 }
 

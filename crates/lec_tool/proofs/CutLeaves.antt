@@ -15,7 +15,7 @@ use Rattle.hw_model.specs.Agreement.{input_bits}
 use Rattle.aggregate_laws.proofs.Ports.{width_types, widths_lowered}
 use Rattle.aggregate_laws.proofs.Words.{leaves_width}
 use Rattle.pass_laws.specs.PassLaw.{leaf_types, register_types}
-use Rattle.miter_blast.specs.Comparison.{register_widths}
+use Rattle.miter_blast.specs.Comparable.{register_widths}
 use Rattle.miter_blast.proofs.CopyWidths.{state_by_widths}
 use Rattle.miter_blast.specs.Cuts.{cut}
 use Rattle.miter_blast.specs.Comparisons.{leaf_widths}
@@ -50,12 +50,12 @@ leaves_total d a m found =
 -- ---- cuts
 
 -- words are cut of the bits that they have
-cut_front : (ws : List ℕ) (xs ys : List Bool) → total ws ≤ length xs → cut ws (xs ++ ys) ≡ cut ws xs
-cut_front [] xs ys enough = refl
-cut_front (w ∷ ws) xs ys enough =
+cut_prefix : (ws : List ℕ) (xs ys : List Bool) → total ws ≤ length xs → cut ws (xs ++ ys) ≡ cut ws xs
+cut_prefix [] xs ys enough = refl
+cut_prefix (w ∷ ws) xs ys enough =
     let some : w ≤ length xs = omega (arith, enough) in
     let rest : total ws ≤ length (drop w xs) = omega (arith, enough, length-drop w xs) in
-    ap₂ (λ u us. u ∷ us) (take-append-le w xs ys some) (ap (cut ws) (drop-append-le w xs ys some) ∙ cut_front ws (drop w xs) ys rest)
+    ap₂ (λ u us. u ∷ us) (take-append-le w xs ys some) (ap (cut ws) (drop-append-le w xs ys some) ∙ cut_prefix ws (drop w xs) ys rest)
 
 -- so are those of leaves of an assignment that goes on from inputs and content with the bits of gates
 pub leaves_cut : (d : Design) (a : Name) (m : Module) (gates : List Gate) (input held : Word) (bits : List Bool) (ws : List ℕ) → find_module d a ≡ Some m
@@ -65,4 +65,4 @@ leaves_cut d a m gates input held bits ws found wide held_wide is widths =
     let rest = evaluated_from (input ++ held) gates in
     let enough : total (leaf_widths d a m) ≤ length (input ++ held) =
     omega (arith, leaves_total d a m found, length-append input held, wide, held_wide) in
-    ap₂ cut widths (is ∙ rest.1) ∙ cut_front (leaf_widths d a m) (input ++ held) rest.0 enough
+    ap₂ cut widths (is ∙ rest.1) ∙ cut_prefix (leaf_widths d a m) (input ++ held) rest.0 enough

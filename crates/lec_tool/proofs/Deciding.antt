@@ -11,8 +11,8 @@ use Rattle.hw_model.specs.Machine.{Run}
 use Rattle.hw_model.specs.Meaning.{machine}
 use Rattle.hw_model.specs.Agreement.{Agree}
 use Rattle.op_verifier.specs.Verdict.{IsAccepted}
-use Rattle.printable_designs.specs.Printable.{Printable}
-use Rattle.miter_blast.specs.Comparison.{AreComparable, IsDifferenceOf, IsFormulaOf, gates_of}
+use Rattle.printing_laws.specs.Printable.{Printable}
+use Rattle.miter_blast.specs.Comparable.{AreComparable, IsDifferenceOf, IsFormulaOf, gates_of}
 use Rattle.miter_blast.specs.Cuts.{cut}
 use Rattle.miter_blast.specs.MiterForms.{MiterForm}
 use Rattle.miter_blast.specs.Comparisons.{IsComparison}

@@ -4,7 +4,7 @@ use Rattle.diag.specs.declared.refusal.Refusal.{Refusal}
 use Rattle.hw_model.specs.Types.{Name}
 use Rattle.hw_model.specs.Design.{Module, Design, find_module}
 use Rattle.miter_blast.proofs.CopyLaw.{copies_once}
-use Rattle.miter_blast.specs.Comparison.{AreComparable}
+use Rattle.miter_blast.specs.Comparable.{AreComparable}
 use Rattle.miter_blast.specs.Pairs.{HaveSamePorts, IsNoPair, no_left, no_right, ports}
 use Rattle.miter_blast.specs.Comparisons.{IsPriceOf, IsComparisonRefusal, no_pair, registers, price}
 use Rattle.lec_tool.specs.Verdicts.{IsAffordable}

@@ -15,7 +15,7 @@ register_name (c ∷ cs) = c ∷ cs
 abbrev pub register_names : List Op → List Name
 register_names os = map (λ (o : Op). register_name o.name) (filter is_register os)
 
--- those that the ports and the registers of a plain module want
+-- those that the ports and the registers of a flat module want
 abbrev pub wanted_names : List Port → List Op → List Name
 wanted_names ps os = map (λ (p : Port). p.name) ps ++ register_names os
 
@@ -33,7 +33,7 @@ is_output_port (Some p) = p.is_output
 abbrev pub is_output_at : List Port → ℕ → Bool
 is_output_at ps j = is_output_port (slice_get ps j)
 
--- the legal names of the leaves of inputs and of registers of a plain module
+-- the legal names of the leaves of inputs and of registers of a flat module
 abbrev pub leaf_names : Module → List Name
 leaf_names m = input_names m.ports (legal (wanted_names m.ports m.body))
 

@@ -10,7 +10,7 @@ use Rattle.hw_model.specs.Flat.{state}
 use Rattle.hw_model.specs.Machine.{Run}
 use Rattle.hw_model.specs.Meaning.{machine}
 use Rattle.hw_model.specs.Agreement.{input_bits, Agree}
-use Rattle.miter_blast.specs.Comparison.{AreComparable, DifferAt, IsFormulaOf}
+use Rattle.miter_blast.specs.Comparable.{AreComparable, DifferAt, IsFormulaOf}
 use Rattle.miter_blast.specs.Cuts.{cut}
 use Rattle.miter_blast.specs.Building.{most_gates}
 use Rattle.miter_blast.specs.Comparisons.{leaf_widths, IsPriceOf}

@@ -7,12 +7,12 @@ ghost use Rattle.ir_store.specs.Numbered.{ops_by_position};
 ghost use Rattle.name_legalise.specs.Legal.{legal};
 ghost use Rattle.lec_tool.specs.LeafNames.{register_name, wanted_names, register_names, input_names, is_output_at, AreLeafNames};
 
+use flat_module_gates::places::{Places, is_register};
 use io_edge::byte_text::Text;
 use ir_store::design::{Module, PortList};
 use miter_blast::flat_copy;
 use name_legalise::names::legal_list;
 use op_verifier::Verified;
-use side_gates::places::{Places, is_register};
 use std::alloc::{AllocError, Global};
 
 /// How many names there may be.
@@ -43,7 +43,7 @@ pub fn leaf_names(
     input_names(alloc, &module.ports, legal)
 }
 
-// The names that the ports and the registers of a plain module want.
+// The names that the ports and the registers of a flat module want.
 fn wanted_names(alloc: Global, module: &Module) -> Result<Vec<Text>, AllocError>
     ensures { IfOk result (λ v. v.items ≡ wanted_names (ports_in «module».now.ports) (ops_by_position (ops_of «module».now.body))) }
 {
@@ -55,7 +55,7 @@ fn wanted_names(alloc: Global, module: &Module) -> Result<Vec<Text>, AllocError>
     Ok(names)
 }
 
-// Adds the names that the registers of a plain module want.
+// Adds the names that the registers of a flat module want.
 fn push_register_names(
     alloc: Global,
     names: &mut Vec<Text>,

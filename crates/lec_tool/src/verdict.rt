@@ -10,7 +10,7 @@ use miter_blast::fail::MiterFail;
 use miter_blast::input::Input;
 use miter_blast::{formulas_are_differences, unsatisfiable_formulas_agree};
 use op_verifier::Verified;
-use printable_designs::what_is_canonical_is_printable;
+use printing_laws::what_is_canonical_is_printable;
 use resolution_proof::log::Log;
 use std::alloc::Global;
 

@@ -6,7 +6,7 @@ use Rattle.std.proofs.lemmas.Bool.{eqb-true}
 use Rattle.linked_lists.specs.declared.links.Link.{Link}
 use Rattle.linked_lists.specs.Ids.{times}
 use Rattle.linked_lists.specs.Links.{none, new_link, next_at, prev_at, first_of, IsLinked, linked_in, linked_out}
-use Rattle.linked_lists.specs.Chains.{AreChains, HasChains, IsAlone, has_head, once_if, with_front, with_head, cut, without, cell_or_none, cell_unless_none, walk_on, chain_in, chains_in}
+use Rattle.linked_lists.specs.Chains.{AreChains, HasChains, IsAlone, has_head, once_if, with_prefix, with_head, cut, without, cell_or_none, cell_unless_none, walk_on, chain_in, chains_in}
 use Rattle.linked_lists.proofs.IdLemmas.{contained_times, times-append, length-put_at}
 use Rattle.linked_lists.proofs.Linking.{linked_back, length-linked_in}
 use Rattle.linked_lists.proofs.Chaining.{eq_self, chain_bare, chained_more, chained_less}
@@ -35,12 +35,12 @@ put_seen links ms heads s cell first h there room few alone e m =
     let s_in : s < length heads = omega (arith, there, length-map heads (walk_on links (length links))) in
     let f : get_or heads s none ≡ first = get_or_default heads s none first s_in ∙ sym e in
     let links_are : linked_in cell none (get_or heads s none) links ≡ ms = ap (λ q. linked_in cell none q links) f ∙ sym m in
-    let ok = subst (λ ls. AreChains ls (set heads s cell) (with_front s cell (chain_in links heads)) (with_head cell (Some s) h.head)) links_are
+    let ok = subst (λ ls. AreChains ls (set heads s cell) (with_prefix s cell (chain_in links heads)) (with_head cell (Some s) h.head)) links_are
     (chained_more links heads (chain_in links heads) h.head h.ok s cell room few s_in (headless links heads h cell alone)) in
     record {
-      has = has_chains ms (set heads s cell) (with_front s cell (chain_in links heads)) (with_head cell (Some s) h.head) ok;
+      has = has_chains ms (set heads s cell) (with_prefix s cell (chain_in links heads)) (with_head cell (Some s) h.head) ok;
       seen =
-          one_changed links ms heads (set heads s cell) (with_front s cell (chain_in links heads)) (with_head cell (Some s) h.head) ok (length-set heads s cell) s (cell ∷ chain_in links heads s) s_in (λ t. same t (nat_eq s t) refl)
+          one_changed links ms heads (set heads s cell) (with_prefix s cell (chain_in links heads)) (with_head cell (Some s) h.head) ok (length-set heads s cell) s (cell ∷ chain_in links heads s) s_in (λ t. same t (nat_eq s t) refl)
           ∙ ap (λ xs. set (chains_in links heads) s (cell ∷ xs)) (sym (chain_at links heads s));
     }
   where

@@ -6,7 +6,7 @@ use Rattle.std.proofs.lemmas.Bool.{eqb-true, eqb-false}
 use Rattle.linked_lists.specs.declared.links.Link.{Link}
 use Rattle.linked_lists.specs.Ids.{times, put_at}
 use Rattle.linked_lists.specs.Links.{none, no_link, new_link, free_link, link_at, next_at, prev_at, first_of, last_of, IsLinked, with_next, with_prev, linked_in, linked_out}
-use Rattle.linked_lists.specs.Chains.{AreChains, has_head, once_if, with_front, cut, without, with_head}
+use Rattle.linked_lists.specs.Chains.{AreChains, has_head, once_if, with_prefix, cut, without, with_head}
 use Rattle.linked_lists.proofs.IdLemmas.{times-append, get_or-put_at_other, length-put_at}
 use Rattle.linked_lists.proofs.Linking.{next_other, prev_other, first_there, last_there, linked_same, linked_back, linked_more, linked_less, length-linked_in, length-linked_out}
 
@@ -122,7 +122,7 @@ module _ (links : List Link) (heads : List ℕ) (chain : ℕ → List ℕ) (head
     more_below v false d h =
         ok.below v (omega (arith, h, length-linked_in cell none (get_or heads s none) links, length-put_at cell (new_link none (get_or heads s none)) links room))
 
-    pub chained_more : AreChains more (set heads s cell) (with_front s cell chain) (with_head cell (Some s) head)
+    pub chained_more : AreChains more (set heads s cell) (with_prefix s cell chain) (with_head cell (Some s) head)
     chained_more = record {
       few = omega (arith, ok.few, few, length-linked_in cell none (get_or heads s none) links, length-put_at cell (new_link none (get_or heads s none)) links room);
       linked = λ t. more_linked t (nat_eq s t) refl;
@@ -135,10 +135,10 @@ module _ (links : List Link) (heads : List ℕ) (chain : ℕ → List ℕ) (head
 
 -- the cells before and after one that is there
 pub record PartsAt (cell : ℕ) (zs : List ℕ) : Type 0 where
-  pub front : List ℕ
+  pub prefix : List ℕ
   pub back : List ℕ
-  pub whole : zs ≡ front ++ cell ∷ back
-  pub rest : cut cell zs ≡ front ++ back
+  pub whole : zs ≡ prefix ++ cell ∷ back
+  pub rest : cut cell zs ≡ prefix ++ back
 
 pub parts_at : (cell : ℕ) (zs : List ℕ) → 0 < times cell zs → PartsAt cell zs
 parts_at cell [] h = absurd (omega (arith, h))
@@ -146,7 +146,7 @@ parts_at cell (z ∷ zs) h = go (nat_eq z cell) refl h (parts_at cell zs)
   where
     go : (b : Bool) → nat_eq z cell ≡ b → 0 < cond b (suc (times cell zs)) (times cell zs) → (0 < times cell zs → PartsAt cell zs) → PartsAt cell (z ∷ zs)
     go true t h r = record {
-      front = [];
+      prefix = [];
       back = zs;
       whole = ap (λ y. y ∷ zs) (eqb-true z cell t);
       rest = rw t refl;
@@ -154,7 +154,7 @@ parts_at cell (z ∷ zs) h = go (nat_eq z cell) refl h (parts_at cell zs)
     go false t h r =
         let p = r h in
         record {
-          front = z ∷ p.front;
+          prefix = z ∷ p.prefix;
           back = p.back;
           whole = ap (λ ys. z ∷ ys) p.whole;
           rest = rw t (ap (λ ys. z ∷ ys) p.rest);
@@ -164,9 +164,9 @@ parts_at cell (z ∷ zs) h = go (nat_eq z cell) refl h (parts_at cell zs)
 pub times-cut : (cell v : ℕ) (zs : List ℕ) → 0 < times cell zs → times v (cut cell zs) + once_if (nat_eq cell v) ≡ times v zs
 times-cut cell v zs h =
     let p = parts_at cell zs h in
-    let e : times v (cut cell zs) ≡ times v (p.front ++ p.back) = ap (times v) p.rest in
-    let f : times v zs ≡ times v (p.front ++ cell ∷ p.back) = ap (times v) p.whole in
-    omega (arith, e, f, go (nat_eq cell v) refl p.front p.back)
+    let e : times v (cut cell zs) ≡ times v (p.prefix ++ p.back) = ap (times v) p.rest in
+    let f : times v zs ≡ times v (p.prefix ++ cell ∷ p.back) = ap (times v) p.whole in
+    omega (arith, e, f, go (nat_eq cell v) refl p.prefix p.back)
   where
     go : (b : Bool) → nat_eq cell v ≡ b → (xs ys : List ℕ) → times v (xs ++ ys) + once_if (nat_eq cell v) ≡ times v (xs ++ cell ∷ ys)
     go true t xs ys =
@@ -201,22 +201,22 @@ module _ (links : List Link) (heads : List ℕ) (chain : ℕ → List ℕ) (head
   parts : PartsAt cell (chain s)
   parts = parts_at cell (chain s) is_here
 
-  link_here : link_at links cell ≡ new_link (last_of none parts.front) (first_of parts.back none)
+  link_here : link_at links cell ≡ new_link (last_of none parts.prefix) (first_of parts.back none)
   link_here =
-      let h : IsLinked links none (parts.front ++ cell ∷ parts.back) none = rw (← parts.whole) (ok.linked s) in
-      (linked_back links none parts.front (cell ∷ parts.back) none h).0
+      let h : IsLinked links none (parts.prefix ++ cell ∷ parts.back) none = rw (← parts.whole) (ok.linked s) in
+      (linked_back links none parts.prefix (cell ∷ parts.back) none h).0
 
-  prev_is : prev ≡ last_of none parts.front
+  prev_is : prev ≡ last_of none parts.prefix
   prev_is = ap (λ (l : Link). l.prev) link_here
 
   next_is : next ≡ first_of parts.back none
   next_is = ap (λ (l : Link). l.next) link_here
 
-  back_apart : (t v : ℕ) (ys : List ℕ) → chain s ≡ parts.front ++ cell ∷ ys → (s ≡ t → ⊥) → 0 < times v (chain t) → v ≡ first_of ys none → ⊥
+  back_apart : (t v : ℕ) (ys : List ℕ) → chain s ≡ parts.prefix ++ cell ∷ ys → (s ≡ t → ⊥) → 0 < times v (chain t) → v ≡ first_of ys none → ⊥
   back_apart t v [] e n h d = omega (arith, (rw d at h), chain_bare links heads chain head ok t)
   back_apart t v (y ∷ ys) e n h d =
       chains_apart links heads chain head ok t s v y (λ r. n (sym r)) h
-      (rw e (omega (arith, first_there y ys, times-append y parts.front (cell ∷ y ∷ ys), rest y (y ∷ ys)))) d
+      (rw e (omega (arith, first_there y ys, times-append y parts.prefix (cell ∷ y ∷ ys), rest y (y ∷ ys)))) d
     where
       rest : (y : ℕ) (zs : List ℕ) → times y zs ≤ times y (cell ∷ zs)
       rest y zs = go (nat_eq cell y)
@@ -227,16 +227,16 @@ module _ (links : List Link) (heads : List ℕ) (chain : ℕ → List ℕ) (head
 
   less_linked : (t : ℕ) (b : Bool) → nat_eq s t ≡ b → IsLinked less none (cond b (cut cell (chain t)) (chain t)) none
   less_linked t true e =
-      let h : IsLinked links none (parts.front ++ cell ∷ parts.back) none = rw (← parts.whole) (ok.linked s) in
-      let once : (v : ℕ) → times v (parts.front ++ cell ∷ parts.back) ≤ 1 = λ v. rw (← parts.whole) (chain_once links heads chain head ok s v) in
-      let bare : times none (parts.front ++ cell ∷ parts.back) ≡ 0 = rw (← parts.whole) (chain_bare links heads chain head ok s) in
-      rw (← eqb-true s t e, parts.rest, prev_is, next_is) (linked_less links parts.front parts.back cell none once bare h)
+      let h : IsLinked links none (parts.prefix ++ cell ∷ parts.back) none = rw (← parts.whole) (ok.linked s) in
+      let once : (v : ℕ) → times v (parts.prefix ++ cell ∷ parts.back) ≤ 1 = λ v. rw (← parts.whole) (chain_once links heads chain head ok s v) in
+      let bare : times none (parts.prefix ++ cell ∷ parts.back) ≡ 0 = rw (← parts.whole) (chain_bare links heads chain head ok s) in
+      rw (← eqb-true s t e, parts.rest, prev_is, next_is) (linked_less links parts.prefix parts.back cell none once bare h)
   less_linked t false e =
       let other : s ≡ t → ⊥ = eqb-false s t e in
       linked_same links less none (chain t) none
       (λ v h. out_other cell prev next none v links
       (chains_apart links heads chain head ok t s v cell (λ r. other (sym r)) h is_here)
-      (λ d. last_apart_of links heads chain head ok s t v parts.front (cell ∷ parts.back) parts.whole other h (d ∙ prev_is))
+      (λ d. last_apart_of links heads chain head ok s t v parts.prefix (cell ∷ parts.back) parts.whole other h (d ∙ prev_is))
       (λ d. back_apart t v parts.back parts.whole other h (d ∙ next_is)))
       (ok.linked t)
 
@@ -254,7 +254,7 @@ module _ (links : List Link) (heads : List ℕ) (chain : ℕ → List ℕ) (head
   less_first : s < length heads → (t : ℕ) (b : Bool) → nat_eq s t ≡ b → get_or heads_2 t none ≡ first_of (cond b (cut cell (chain t)) (chain t)) none
   less_first there t true e =
       rw (← eqb-true s t e, get_or-set_same heads s (cond (nat_eq prev none) next (get_or heads s none)) none there, ok.first s, parts.rest, prev_is, next_is)
-      (head_less parts.front parts.back (chain s) parts.whole (chain_bare links heads chain head ok s))
+      (head_less parts.prefix parts.back (chain s) parts.whole (chain_bare links heads chain head ok s))
   less_first there t false e = get_or-set_other heads s t (cond (nat_eq prev none) next (get_or heads s none)) none (λ d. eqb-false s t e (sym d)) ∙ ok.first t
 
   less_members : (t v : ℕ) (b c : Bool) → nat_eq s t ≡ b → nat_eq cell v ≡ c → times v (cond b (cut cell (chain t)) (chain t)) ≡ once_if (has_head (cond c None (head v)) t)

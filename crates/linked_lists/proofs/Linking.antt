@@ -132,10 +132,10 @@ walk_same ls ms (suc n) i same =
     let e = same i (first_there i (walk ls n (next_at ls i))) in
     rw e (ap (λ ys. i ∷ ys) (walk_same ls ms n (next_at ls i) (λ v t. same v (omega (arith, t, rest_there v i (walk ls n (next_at ls i)))))))
 
-pub linked_front : (ls : List Link) (a : ℕ) (xs ys : List ℕ) (z : ℕ) → IsLinked ls a (xs ++ ys) z → IsLinked ls a xs (first_of ys z)
-linked_front ls a [] ys z h = tt
-linked_front ls a (x ∷ []) ys z h = (h.0, tt)
-linked_front ls a (x ∷ y ∷ xs) ys z h = (h.0, linked_front ls x (y ∷ xs) ys z h.1)
+pub linked_prefix : (ls : List Link) (a : ℕ) (xs ys : List ℕ) (z : ℕ) → IsLinked ls a (xs ++ ys) z → IsLinked ls a xs (first_of ys z)
+linked_prefix ls a [] ys z h = tt
+linked_prefix ls a (x ∷ []) ys z h = (h.0, tt)
+linked_prefix ls a (x ∷ y ∷ xs) ys z h = (h.0, linked_prefix ls x (y ∷ xs) ys z h.1)
 
 pub linked_back : (ls : List Link) (a : ℕ) (xs ys : List ℕ) (z : ℕ) → IsLinked ls a (xs ++ ys) z → IsLinked ls (last_of a xs) ys z
 linked_back ls a [] ys z h = h
@@ -165,8 +165,8 @@ new_start ls a (x ∷ xs) z n once h = (
 
 -- ---- an id is put in, or taken out
 
-front_once : (xs ys : List ℕ) → ((v : ℕ) → times v (xs ++ ys) ≤ 1) → (v : ℕ) → times v xs ≤ 1
-front_once xs ys once v = omega (arith, once v, times-append v xs ys)
+prefix_once : (xs ys : List ℕ) → ((v : ℕ) → times v (xs ++ ys) ≤ 1) → (v : ℕ) → times v xs ≤ 1
+prefix_once xs ys once v = omega (arith, once v, times-append v xs ys)
 
 back_once : (xs ys : List ℕ) → ((v : ℕ) → times v (xs ++ ys) ≤ 1) → (v : ℕ) → times v ys ≤ 1
 back_once xs ys once v = omega (arith, once v, times-append v xs ys)
@@ -185,10 +185,10 @@ linked_more ls xs ys id room real once bare new h =
     let q_not : id ≡ q → ⊥ = first_new ys id new_y real in
     let p_y : times p ys ≡ 0 = last_apart none xs ys once bare in
     let q_x : times q xs ≡ 0 = first_apart none xs ys once bare in
-    let x1 : IsLinked l1 none xs q = linked_same ls l1 none xs q (λ v t. get_or-put_at_other id v (new_link p q) no_link ls room (apart v id xs t new_x)) (linked_front ls none xs ys none h) in
+    let x1 : IsLinked l1 none xs q = linked_same ls l1 none xs q (λ v t. get_or-put_at_other id v (new_link p q) no_link ls room (apart v id xs t new_x)) (linked_prefix ls none xs ys none h) in
     let y1 : IsLinked l1 p ys none = linked_same ls l1 p ys none (λ v t. get_or-put_at_other id v (new_link p q) no_link ls room (apart v id ys t new_y)) (linked_back ls none xs ys none h) in
     let i1 : link_at l1 id ≡ new_link p q = get_or-put_at_same id (new_link p q) no_link ls room in
-    let x2 : IsLinked l2 none xs id = new_end l1 none xs q id (front_once xs ys once) x1 in
+    let x2 : IsLinked l2 none xs id = new_end l1 none xs q id (prefix_once xs ys once) x1 in
     let y2 : IsLinked l2 p ys none = linked_same l1 l2 p ys none (λ v t. next_other p v id l1 (apart v p ys t p_y)) y1 in
     let i2 : link_at l2 id ≡ new_link p q = next_other p id id l1 p_not ∙ i1 in
     let x3 : IsLinked l3 none xs id = linked_same l2 l3 none xs id (λ v t. prev_other q v id l2 (apart v q xs t q_x)) x2 in
@@ -219,9 +219,9 @@ linked_less ls xs ys id free once bare h =
     let no_2 : times none (xs ++ ys) ≡ 0 = omega (arith, bare, times-append none xs (id ∷ ys), times-append none xs ys, rest_there none id ys) in
     let p_y : times p ys ≡ 0 = last_apart none xs ys once_2 no_2 in
     let q_x : times q xs ≡ 0 = first_apart none xs ys once_2 no_2 in
-    let x0 : IsLinked ls none xs id = linked_front ls none xs (id ∷ ys) none h in
+    let x0 : IsLinked ls none xs id = linked_prefix ls none xs (id ∷ ys) none h in
     let y0 : IsLinked ls id ys none = (linked_back ls none xs (id ∷ ys) none h).1 in
-    let x1 : IsLinked l1 none xs q = new_end ls none xs id q (front_once xs ys once_2) x0 in
+    let x1 : IsLinked l1 none xs q = new_end ls none xs id q (prefix_once xs ys once_2) x0 in
     let y1 : IsLinked l1 id ys none = linked_same ls l1 id ys none (λ v t. next_other p v q ls (apart v p ys t p_y)) y0 in
     let x2 : IsLinked l2 none xs q = linked_same l1 l2 none xs q (λ v t. prev_other q v p l1 (apart v q xs t q_x)) x1 in
     let y2 : IsLinked l2 p ys none = new_start l1 id ys none p (back_once xs ys once_2) y1 in

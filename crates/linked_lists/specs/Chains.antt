@@ -23,8 +23,8 @@ pub record AreChains (links : List Link) (heads : List ℕ) (chain : ℕ → Lis
   pub below : (v : ℕ) → length links ≤ v → head v ≡ None
 
 -- a chain with another cell before the others
-abbrev pub with_front : ℕ → ℕ → (ℕ → List ℕ) → ℕ → List ℕ
-with_front s cell chain t = cond (nat_eq s t) (cell ∷ chain t) (chain t)
+abbrev pub with_prefix : ℕ → ℕ → (ℕ → List ℕ) → ℕ → List ℕ
+with_prefix s cell chain t = cond (nat_eq s t) (cell ∷ chain t) (chain t)
 
 -- the cells without the first that is the named one
 abbrev pub cut : ℕ → List ℕ → List ℕ

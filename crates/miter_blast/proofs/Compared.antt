@@ -8,26 +8,26 @@ use Rattle.hw_model.specs.Design.{Op, Module, Design, find_module, is_register, 
 use Rattle.hw_model.specs.Flat.{Slot, input_width, width_of, held_width, state}
 use Rattle.hw_model.specs.Sound.{input_types}
 use Rattle.aggregate_laws.specs.Scalars.{has_aggregates, has_aggregate_value}
-use Rattle.hw_edits.proofs.ResetsKept.{find_symbol}
+use Rattle.edit_laws.proofs.ResetsKept.{find_symbol}
 use Rattle.op_verifier.specs.Verdict.{IsAccepted}
-use Rattle.printable_designs.specs.Printable.{Printable}
+use Rattle.printing_laws.specs.Printable.{Printable}
 use Rattle.pass_laws.specs.PassLaw.{register_types}
-use Rattle.net_rows.specs.Miters.{formula_of}
-use Rattle.net_rows.specs.RegisterMiters.{register_miter}
-use Rattle.flat_sides.specs.Sides.{side_of, IsPlain, IsFlat, AreAlike}
-use Rattle.gate_prices.specs.FlatCopy.{IsFlatCopy, IsFlatCopyAt, KeepsFlat}
-use Rattle.gate_prices.proofs.Alone.{found_alone}
-use Rattle.gate_prices.proofs.CopyLaw.{copy_keeps}
-use Rattle.side_gates.specs.FlatSteps.{slot, content_width}
-use Rattle.side_gates.specs.Stepped.{IsAlone}
-use Rattle.side_gates.proofs.LinkedRegisters.{registers_are, state_is_content}
-use Rattle.side_gates.proofs.PlainOrders.{plain_has_order}
-use Rattle.gate_prices.specs.Comparison.{register_widths, AreComparable}
-use Rattle.gate_prices.specs.ComparisonPrices.{copy_price, comparison_price}
-use Rattle.gate_prices.proofs.CopyWidths.{kept_input_types, kept_widths}
-use Rattle.gate_prices.proofs.Differences.{copies_alike}
-use Rattle.gate_prices.specs.BodyPrices.{body_price}
-use Rattle.gate_prices.proofs.Bodies.{price_of_body}
+use Rattle.net_gates.specs.Miters.{formula_of}
+use Rattle.net_gates.specs.RegisterMiters.{register_miter}
+use Rattle.flat_module_laws.specs.Sides.{side_of, IsPlain, IsFlat, AreAlike}
+use Rattle.miter_blast.specs.FlatCopy.{IsFlatCopy, IsFlatCopyAt, KeepsFlat}
+use Rattle.miter_blast.proofs.Alone.{found_alone}
+use Rattle.miter_blast.proofs.CopyLaw.{copy_keeps}
+use Rattle.flat_module_gates.specs.FlatSteps.{slot, content_width}
+use Rattle.flat_module_gates.specs.Stepped.{IsAlone}
+use Rattle.flat_module_gates.proofs.LinkedRegisters.{registers_are, state_is_content}
+use Rattle.flat_module_gates.proofs.PlainOrders.{plain_has_order}
+use Rattle.miter_blast.specs.Comparable.{register_widths, AreComparable}
+use Rattle.miter_blast.specs.ComparisonPrices.{copy_price, comparison_price}
+use Rattle.miter_blast.proofs.CopyWidths.{kept_input_types, kept_widths}
+use Rattle.miter_blast.proofs.ComparedCopies.{copies_alike}
+use Rattle.miter_blast.specs.BodyPrices.{body_price}
+use Rattle.miter_blast.proofs.PricedBodies.{price_of_body}
 use Rattle.miter_blast.specs.Building.{most_gates, modules_price, pair_price, AreReady, IsBuilt}
 use Rattle.miter_blast.specs.Comparisons.{IsPriceOf, IsComparisonRefusal, IsRefusedComparison, IsComparison, no_pair, registers as registers_apart, price as price_above}
 use Rattle.miter_blast.specs.Leaves.{held_widths, input_widths}
@@ -54,7 +54,7 @@ stored_below ms i below = let l = length-map ms numbered_module in omega (arith,
 pub alone_some : (e : Design) → IsAlone e → 0 < length e
 alone_some e (m, is, plain) = let l = ap length is in omega (arith, l)
 
--- ---- the registers of a plain module
+-- ---- the registers of a flat module
 
 slots_wide : (xs : List Op) → map width_of (map (λ (r : Slot). result_type r.op 0) (map slot xs)) ≡ map held_width xs
 slots_wide [] = refl
@@ -153,7 +153,7 @@ module _ (d : Design) (a : Name) (e : Design) (b : Name) (i j : ℕ) (pair : IsP
   second_held = copy_held e b j pair.right e_accepted e_printable pair.right_at pair.found.two f f_copied two second_keeps.is_one
 
   -- registers differ
-  pub refused_registers : (held_widths one.body ≡ held_widths two.body → ⊥) → IsComparisonRefusal d a e b (at_module 1 pair.right.place RegistersDiffer)
+  pub refused_registers : (held_widths one.body ≡ held_widths two.body → ⊥) → IsComparisonRefusal d a e b (at_module 1 pair.right.location RegistersDiffer)
   refused_registers apart = registers_apart pair.left pair.right pair.found pair.ports (λ same. apart (first_held ∙ same ∙ sym second_held))
 
   module _ (same : held_widths one.body ≡ held_widths two.body) where
@@ -230,7 +230,7 @@ module _ (d : Design) (a : Name) (e : Design) (b : Name) (i j : ℕ) (pair : IsP
       is = price_is;
     }
 
-    pub refused_price : (p : ℕ) → p ≡ min (pair_price c f) 18446744073709551615 → most_gates < p → IsComparisonRefusal d a e b (at_module 0 pair.left.place TooManyGates)
+    pub refused_price : (p : ℕ) → p ≡ min (pair_price c f) 18446744073709551615 → most_gates < p → IsComparisonRefusal d a e b (at_module 0 pair.left.location TooManyGates)
     refused_price p is many = price_above pair.left pair.right pair.found comparable (pair_price c f) priced (omega (arith, is, many))
 
     pub few_gates : (p : ℕ) → p ≡ min (pair_price c f) 18446744073709551615 → p ≤ most_gates → pair_price c f ≤ most_gates

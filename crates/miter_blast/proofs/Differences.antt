@@ -1,4 +1,4 @@
--- The difference of two plain modules, as it is built.
+-- The difference of two flat modules, as it is built.
 use Rattle.std.proofs.Common.{◌≡◌, sym, ap, ap₂, subst, ◌∙◌, ℕ, ◌+◌, ◌≤◌, List, [], ◌∷◌, map, length, IfOk, OnOk, Result, Ok, Err, slice_get, Some, arith, length-append}
 use mathlib.Core.Path.{subst₂}
 use Rattle.wiring.specs.Lists.{total}
@@ -6,17 +6,17 @@ use Rattle.gates.specs.declared.signal.Signal.{Signal}
 use Rattle.gates.specs.Circuits.{Circuit, Runs}
 use Rattle.gates.specs.Order.{AreInOrder}
 use Rattle.gates.proofs.Running.{runs_then}
-use Rattle.gate_words.specs.Rows.{unlike}
+use Rattle.gate_words.specs.GateLists.{unlike}
 use Rattle.gate_words.proofs.Words.{word_later}
 use Rattle.gates.proofs.Instances.{variables_in_order}
 use Rattle.hw_model.specs.Types.{width}
 use Rattle.hw_model.specs.Design.{Module, Design}
 use Rattle.hw_model.specs.Flat.{input_width, state}
-use Rattle.net_rows.specs.RegisterRows.{stepped_row}
-use Rattle.net_rows.specs.RegisterMiters.{register_miter}
-use Rattle.flat_sides.specs.FlatPrices.{output_bits}
-use Rattle.flat_sides.specs.Sides.{side_of, AreAlike}
-use Rattle.side_gates.specs.Stepped.{IsStepped}
+use Rattle.net_gates.specs.RegisterGateLists.{stepped_gate_list}
+use Rattle.net_gates.specs.RegisterMiters.{register_miter}
+use Rattle.flat_module_laws.specs.FlatPrices.{output_bits}
+use Rattle.flat_module_laws.specs.Sides.{side_of, AreAlike}
+use Rattle.flat_module_gates.specs.Stepped.{IsStepped}
 use Rattle.miter_blast.specs.Building.{AreAlone, AreOrdered, IsDifferenceBuilt}
 use Rattle.miter_blast.proofs.SteppedWords.{AreWord, word_long, stepped_word, unlike_in_order}
 
@@ -74,8 +74,8 @@ module _ (first second : Design) (alone : AreAlone first second) (s t u : Circui
     second_flat = two.flat;
   }
 
-  second_runs : Runs (stepped_row (input_width one.one.ports) second two.one.symbol (side_of second two.one.symbol two.order).nets) t u ys
-  second_runs = subst (λ w. Runs (stepped_row w second two.one.symbol (side_of second two.one.symbol two.order).nets) t u ys) (sym alike.inputs) two.runs
+  second_runs : Runs (stepped_gate_list (input_width one.one.ports) second two.one.symbol (side_of second two.one.symbol two.order).nets) t u ys
+  second_runs = subst (λ w. Runs (stepped_gate_list w second two.one.symbol (side_of second two.one.symbol two.order).nets) t u ys) (sym alike.inputs) two.runs
 
   all_runs : (v : Circuit) (signal : Signal) → Runs (unlike xs ys) u v signal
       → Runs (register_miter (input_width one.one.ports) (side_of first one.one.symbol one.order) (side_of second two.one.symbol two.order)) s v signal

@@ -1,4 +1,4 @@
--- The formula of two plain modules, and the widths of their leaves.
+-- The formula of two flat modules, and the widths of their leaves.
 use Rattle.std.proofs.Common.{◌≡◌, refl, sym, ap, ap₂, subst, ◌∙◌, ℕ, ◌+◌, Bool, true, false, cond, List, [], ◌∷◌, ◌++◌, map, slice_get, Some, IsTrue, arith}
 use Rattle.std.specs.List.{filter}
 use Rattle.wiring.specs.Lists.{total}
@@ -9,13 +9,13 @@ use Rattle.hw_model.specs.Types.{width}
 use Rattle.hw_model.specs.Design.{Port, Op, Module, Design, is_register}
 use Rattle.hw_model.specs.Flat.{input_width, held_width, state}
 use Rattle.hw_model.specs.Sound.{input_types}
-use Rattle.net_rows.specs.Miters.{formula_of}
-use Rattle.net_rows.specs.RegisterMiters.{register_miter}
-use Rattle.flat_sides.specs.Sides.{side_of, IsPlain, AreAlike}
-use Rattle.flat_sides.proofs.FlatMiters.{flat_step_clauses}
-use Rattle.side_gates.specs.FlatSteps.{content_width}
-use Rattle.side_gates.proofs.LinkedRegisters.{state_is_content}
-use Rattle.side_gates.proofs.PlainOrders.{plain_has_order}
+use Rattle.net_gates.specs.Miters.{formula_of}
+use Rattle.net_gates.specs.RegisterMiters.{register_miter}
+use Rattle.flat_module_laws.specs.Sides.{side_of, IsPlain, AreAlike}
+use Rattle.flat_module_laws.proofs.FlatMiters.{flat_step_clauses}
+use Rattle.flat_module_gates.specs.FlatSteps.{content_width}
+use Rattle.flat_module_gates.proofs.LinkedRegisters.{state_is_content}
+use Rattle.flat_module_gates.proofs.PlainOrders.{plain_has_order}
 use Rattle.miter_blast.specs.Building.{AreAlone, IsDifferenceBuilt, IsBuilt}
 use Rattle.miter_blast.specs.Cuts.{AreWordWidths}
 use Rattle.miter_blast.specs.Formulas.{circuit_formula}
@@ -47,7 +47,7 @@ held_total (o ∷ os) = go (is_register o) (held_total os)
     go true rest = ap (λ n. held_width o + n) rest
     go false rest = omega (arith, rest)
 
--- the widths of the leaves of a plain module are together its inputs and its content
+-- the widths of the leaves of a flat module are together its inputs and its content
 pub leaves_total : (d : Design) (m : Module) → IsPlain d m.symbol m → total (input_widths m.ports ++ held_widths m.body) ≡ input_width m.ports + state d m.symbol
 leaves_total d m plain =
     let order = plain_has_order d m.symbol m plain in

@@ -1,4 +1,4 @@
--- The leaves of a plain module are words of 1 to 128 bits.
+-- The leaves of a flat module are words of 1 to 128 bits.
 use Rattle.std.proofs.Common.{◌≡◌, ℕ, suc, ◌≤◌, Bool, true, false, cond, List, [], ◌∷◌, ◌++◌, map, slice_get, option_map, Option, Some, None, is_some, inl, inr, refl, sym, ap, subst}
 use Rattle.std.specs.List.{filter}
 use Rattle.hw_model.specs.Types.{Name, HwType, width}
@@ -13,12 +13,12 @@ use Rattle.op_checks.specs.TypeChecks.{is_outside}
 use Rattle.op_verifier.specs.Headers.{has_port}
 use Rattle.op_verifier.proofs.AcceptedDesigns.{no_fault}
 use Rattle.op_verifier.proofs.Unrefused.{no_header_cause, module_unrefused}
-use Rattle.flat_sides.specs.Sides.{IsPlain}
-use Rattle.flat_sides.proofs.ScalarValues.{made_scalar}
-use Rattle.flat_sides.proofs.FlatBodies.{plain_no_cause, plain_scalar}
-use Rattle.flat_sides.proofs.PlainKinds.{word, made_held}
-use Rattle.side_gates.proofs.Linking.{HasOne}
-use Rattle.side_gates.proofs.SingleResults.{plain_is_single}
+use Rattle.flat_module_laws.specs.Sides.{IsPlain}
+use Rattle.flat_module_laws.proofs.ScalarValues.{made_scalar}
+use Rattle.flat_module_laws.proofs.FlatBodies.{plain_no_cause, plain_scalar}
+use Rattle.flat_module_laws.proofs.PlainKinds.{word, made_held}
+use Rattle.flat_module_gates.proofs.Linking.{HasOne}
+use Rattle.flat_module_gates.proofs.SingleResults.{plain_is_single}
 use Rattle.miter_blast.specs.Cuts.{AreWordWidths}
 use Rattle.miter_blast.specs.Leaves.{held_widths, input_widths}
 

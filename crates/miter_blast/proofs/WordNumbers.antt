@@ -16,9 +16,9 @@ pub bit_most : (b : Bool) → bit b ≤ 1
 bit_most true = omega arith
 bit_most false = omega arith
 
--- a front is below a power of 2
-pub front_below : (w : Word) (i : ℕ) → i < length w → length w ≤ 128 → number (take i w) < 2 ^ 127
-front_below w i below few =
+-- a prefix is below a power of 2
+pub prefix_below : (w : Word) (i : ℕ) → i < length w → length w ≤ 128 → number (take i w) < 2 ^ 127
+prefix_below w i below few =
     let l : length (take i w) ≡ min i (length w) = length-take i w in
     let n : number (take i w) < 2 ^ length (take i w) = number_below (take i w) in
     let le : length (take i w) ≤ 127 = omega (arith, l, below, few) in

@@ -1,16 +1,16 @@
--- The price and the formula of two plain modules.
+-- The price and the formula of two flat modules.
 use Rattle.std.specs.Prelude.{◌≡◌, ℕ, ◌+◌, ◌*◌, List, [], ◌∷◌, ◌++◌}
 use Rattle.gates.specs.declared.signal.Signal.{Signal}
 use Rattle.gates.specs.Circuits.{Circuit, Runs}
 use Rattle.gates.specs.Order.{AreInOrder}
 use Rattle.hw_model.specs.Design.{Module, Design}
 use Rattle.hw_model.specs.Flat.{input_width, state}
-use Rattle.net_rows.specs.Miters.{formula_of}
-use Rattle.net_rows.specs.RegisterMiters.{register_miter}
-use Rattle.flat_sides.specs.FlatPrices.{output_bits}
-use Rattle.flat_sides.specs.Sides.{side_of, IsPlain, IsFlat, AreAlike}
-use Rattle.side_gates.specs.FlatSteps.{content_width}
-use Rattle.gate_prices.specs.BodyPrices.{body_price}
+use Rattle.net_gates.specs.Miters.{formula_of}
+use Rattle.net_gates.specs.RegisterMiters.{register_miter}
+use Rattle.flat_module_laws.specs.FlatPrices.{output_bits}
+use Rattle.flat_module_laws.specs.Sides.{side_of, IsPlain, IsFlat, AreAlike}
+use Rattle.flat_module_gates.specs.FlatSteps.{content_width}
+use Rattle.miter_blast.specs.BodyPrices.{body_price}
 use Rattle.miter_blast.specs.MiterForms.{MiterForm}
 use Rattle.miter_blast.specs.Leaves.{held_widths, input_widths}
 
@@ -20,7 +20,7 @@ use Rattle.miter_blast.specs.Leaves.{held_widths, input_widths}
 abbrev pub most_gates : ℕ
 most_gates = 268435456
 
--- the price of two plain modules: both, and 4 for each bit of an output or of content
+-- the price of two flat modules: both, and 4 for each bit of an output or of content
 abbrev pub modules_price : Module → Module → ℕ
 modules_price m n = body_price m.ports m.body + body_price n.ports n.body + 4 * (output_bits m + content_width m.body)
 
@@ -30,7 +30,7 @@ pair_price _ _ = 0
 
 -- ---- what is built
 
--- each of two designs is one plain module, with as many bits of inputs and of content and outputs of the same types
+-- each of two designs is one flat module, with as many bits of inputs and of content and outputs of the same types
 pub record AreAlone (first second : Design) : Type 0 where
   pub one : Module
   pub first_is : first ≡ one ∷ []

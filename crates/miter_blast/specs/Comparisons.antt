@@ -6,9 +6,9 @@ use Rattle.diag.specs.declared.refusal.Refusal.{Refusal}
 use Rattle.hw_model.specs.Types.{Name, width, leaves}
 use Rattle.hw_model.specs.Design.{Module, Design}
 use Rattle.hw_model.specs.Sound.{input_types}
-use Rattle.gate_prices.specs.FlatCopy.{IsFlatCopy}
-use Rattle.gate_prices.specs.Comparison.{register_widths, AreComparable, IsFormulaOf}
-use Rattle.gate_prices.specs.ComparisonPrices.{comparison_price}
+use Rattle.miter_blast.specs.FlatCopy.{IsFlatCopy}
+use Rattle.miter_blast.specs.Comparable.{register_widths, AreComparable, IsFormulaOf}
+use Rattle.miter_blast.specs.ComparisonPrices.{comparison_price}
 use Rattle.miter_blast.specs.declared.fail.MiterFail.{MiterFail}
 use Rattle.miter_blast.specs.declared.fail.MiterFail.TheVariants.{Refused, NoMemory}
 use Rattle.miter_blast.specs.MiterForms.{MiterForm}
@@ -36,9 +36,9 @@ pub record IsPriceOf (d : Design) (a : Name) (e : Design) (b : Name) (price : �
 pub data IsComparisonRefusal (d : Design) (a : Name) (e : Design) (b : Name) : Refusal → Type 0 where
   no_pair : (r : Refusal) → IsNoPair d a e b r → IsComparisonRefusal d a e b r
   registers : (m n : Module) → AreFound d a e b m n → HaveSamePorts m.ports n.ports → (register_widths d a ≡ register_widths e b → ⊥)
-      → IsComparisonRefusal d a e b (at_module 1 n.place RegistersDiffer)
+      → IsComparisonRefusal d a e b (at_module 1 n.location RegistersDiffer)
   price : (m n : Module) → AreFound d a e b m n → AreComparable d a e b → (p : ℕ) → IsPriceOf d a e b p → most_gates < p
-      → IsComparisonRefusal d a e b (at_module 0 m.place TooManyGates)
+      → IsComparisonRefusal d a e b (at_module 0 m.location TooManyGates)
 
 abbrev pub IsRefusedComparison : Design → Name → Design → Name → MiterFail → Type 0
 IsRefusedComparison d a e b (Refused r) = IsComparisonRefusal d a e b r

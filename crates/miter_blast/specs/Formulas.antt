@@ -4,7 +4,7 @@ use Rattle.resolution_proof.specs.Formula.{Formula}
 use Rattle.gates.specs.declared.signal.Signal.{Signal}
 use Rattle.gates.specs.Circuits.{Circuit}
 use Rattle.gates.specs.Clauses.{clauses_from}
-use Rattle.net_rows.specs.Miters.{signal_clauses}
+use Rattle.net_gates.specs.Miters.{signal_clauses}
 
 -- each gate's variable has the gate's bit, and the signal is 1
 abbrev pub circuit_formula : Circuit → Signal → Formula

@@ -1,4 +1,4 @@
--- The widths of the leaves of a plain module.
+-- The widths of the leaves of a flat module.
 use Rattle.std.specs.Prelude.{ℕ, List, map}
 use Rattle.std.specs.List.{filter}
 use Rattle.hw_model.specs.Types.{width}

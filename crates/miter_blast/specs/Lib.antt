@@ -5,6 +5,7 @@ pub mod Pairs
 pub mod Building
 pub mod Comparisons
 pub mod Formulas
-pub use Rattle.gate_prices.specs.Comparison
-pub use Rattle.gate_prices.specs.ComparisonPrices
-pub use Rattle.gate_prices.specs.FlatCopy
+pub mod FlatCopy
+pub mod Comparable
+pub mod ComparisonPrices
+pub mod BodyPrices

@@ -1,13 +1,13 @@
 -- The two modules that are compared, and why there are none (CIRCT: `circt-lec`).
 use Rattle.std.specs.Prelude.{◌≡◌, ℕ, Bool, List, MatchBool, Option, Some, None, slice_get}
-use Rattle.diag.specs.Place.{start_place}
+use Rattle.diag.specs.Location.{start_location}
 use Rattle.diag.specs.declared.cause.Cause.{Cause}
 use Rattle.diag.specs.declared.cause.Cause.TheVariants.{NoSuchModule, PortsDiffer}
 use Rattle.diag.specs.declared.refusal.OpName.TheVariants as op
 use Rattle.diag.specs.declared.refusal.Refusal.{Refusal}
 use Rattle.opcode.specs.declared.listed.Listed.TheVariants.{HwModule}
 use Rattle.hw_model.specs.Types.{Name}
-use Rattle.hw_model.specs.Design.{Place, Port, Module, Design, find_module}
+use Rattle.hw_model.specs.Design.{Location, Port, Module, Design, find_module}
 use Rattle.hw_model.specs.Sound.{input_types, output_types}
 use Rattle.miter_blast.specs.declared.fail.MiterFail.{MiterFail}
 use Rattle.miter_blast.specs.declared.fail.MiterFail.TheVariants.{Refused, NoMemory}
@@ -16,11 +16,11 @@ use Rattle.miter_blast.specs.declared.fail.MiterFail.TheVariants.{Refused, NoMem
 
 -- at the beginning of the text of a number
 abbrev pub at_file : ℕ → Cause → Refusal
-at_file number cause = record { file = number; place = start_place; op = op.File; cause = cause }
+at_file number cause = record { file = number; location = start_location; op = op.File; cause = cause }
 
 -- at the header of a module
-abbrev pub at_module : ℕ → Place → Cause → Refusal
-at_module number place cause = record { file = number; place = record { line = place.line; col = place.col }; op = op.Listed HwModule; cause = cause }
+abbrev pub at_module : ℕ → Location → Cause → Refusal
+at_module number location cause = record { file = number; location = record { line = location.line; col = location.col }; op = op.Listed HwModule; cause = cause }
 
 -- ---- pairs
 
@@ -53,7 +53,7 @@ pub record IsPair (d : Design) (a : Name) (e : Design) (b : Name) (i j : ℕ) : 
 pub data IsNoPair (d : Design) (a : Name) (e : Design) (b : Name) : Refusal → Type 0 where
   no_left : find_module d a ≡ None → IsNoPair d a e b (at_file 0 NoSuchModule)
   no_right : (m : Module) → find_module d a ≡ Some m → find_module e b ≡ None → IsNoPair d a e b (at_file 1 NoSuchModule)
-  ports : (m n : Module) → AreFound d a e b m n → (HaveSamePorts m.ports n.ports → ⊥) → IsNoPair d a e b (at_module 1 n.place PortsDiffer)
+  ports : (m n : Module) → AreFound d a e b m n → (HaveSamePorts m.ports n.ports → ⊥) → IsNoPair d a e b (at_module 1 n.location PortsDiffer)
 
 abbrev pub IsRefusedPair : Design → Name → Design → Name → MiterFail → Type 0
 IsRefusedPair d a e b (Refused r) = IsNoPair d a e b r

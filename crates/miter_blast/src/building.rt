@@ -1,23 +1,23 @@
-//! The price and the formula of two plain modules.
+//! The price and the formula of two flat modules.
 ghost use Rattle.std.specs.Prelude.{◌≡◌, ◌≤◌, min, IfOk, OnOk};
 ghost use Rattle.gates.specs.Order.{AreInOrder};
 ghost use Rattle.ir_store.specs.Designs.{design_of};
-ghost use Rattle.side_gates.specs.Stepped.{IsAlone};
+ghost use Rattle.flat_module_gates.specs.Stepped.{IsAlone};
 ghost use Rattle.miter_blast.specs.Building.{pair_price, most_gates, AreReady, AreInputsOf, IsDifferenceBuilt, IsBuilt};
 
 use crate::formula::formula_of;
 use crate::miter::Miter;
 use crate::pair::module_in;
+use crate::prices::body_price;
 use crate::widths::{input_widths, output_bits, register_bits, total_of};
-use gate_prices::prices::body_price;
+use flat_module_gates::stepped::stepped_signals;
 use gate_words::bitwise::unlike;
 use gates::circuit::Gates;
 use gates::signal::Signal;
 use op_verifier::Verified;
-use side_gates::stepped::stepped_signals;
 use std::alloc::{AllocError, Global};
 
-/// The price of two plain modules, or `u64::MAX` where it is more: both, and 4 for each bit of an output of the first or of
+/// The price of two flat modules, or `u64::MAX` where it is more: both, and 4 for each bit of an output of the first or of
 /// its content.
 pub(crate) fn price_of(
     alloc: Global,
@@ -36,7 +36,7 @@ pub(crate) fn price_of(
     Ok(both.saturating_add(bits.saturating_mul(4)))
 }
 
-/// The comparison of two plain modules, the registers of the first having these widths. It has not too many gates.
+/// The comparison of two flat modules, the registers of the first having these widths. It has not too many gates.
 pub(crate) fn built(
     alloc: Global,
     first: &Verified,

@@ -5,12 +5,12 @@ ghost use Rattle.miter_blast.specs.Comparisons.{IsComparison, IsRefusedCompariso
 ghost use Rattle.miter_blast.specs.Pairs.{Tells};
 
 use crate::building::{built, price_of};
+use crate::copies::flat_copy;
 use crate::fail::MiterFail;
 use crate::miter::Miter;
 use crate::pair::{at_module, module_in, pair_of};
 use crate::widths::register_widths;
 use diag::cause::Cause;
-use gate_prices::flat_copy;
 use op_verifier::Verified;
 use std::alloc::Global;
 
@@ -38,25 +38,25 @@ pub fn miter(
     };
     let first = flat_copy(alloc, left, pair.left)?;
     let second = flat_copy(alloc, right, pair.right)?;
-    let held = register_widths(alloc, module_in(&first, 0))?;
-    let held_too = register_widths(alloc, module_in(&second, 0))?;
-    if !are_same(held.as_slice(), held_too.as_slice()) {
-        let place = module_in(right, pair.right).place;
-        return Err(MiterFail::Refused(at_module(1, place, Cause::RegistersDiffer)));
+    let first_widths = register_widths(alloc, module_in(&first, 0))?;
+    let second_widths = register_widths(alloc, module_in(&second, 0))?;
+    if !are_same(first_widths.as_slice(), second_widths.as_slice()) {
+        let location = module_in(right, pair.right).location;
+        return Err(MiterFail::Refused(at_module(1, location, Cause::RegistersDiffer)));
     }
     if price_of(alloc, &first, &second)? > MOST_GATES {
-        let place = module_in(left, pair.left).place;
-        return Err(MiterFail::Refused(at_module(0, place, Cause::TooManyGates)));
+        let location = module_in(left, pair.left).location;
+        return Err(MiterFail::Refused(at_module(0, location, Cause::TooManyGates)));
     }
-    match built(alloc, &first, &second, held) {
+    match built(alloc, &first, &second, first_widths) {
         Ok(miter) => Ok(miter),
         Err(_) => Err(MiterFail::NoMemory),
     }
 }
 
 // Whether two lists of widths are the same.
-fn are_same(held: &[u32], held_too: &[u32]) -> bool
-    ensures { Tells result (held.now ≡ held_too.now) }
+fn are_same(first_widths: &[u32], second_widths: &[u32]) -> bool
+    ensures { Tells result (first_widths.now ≡ second_widths.now) }
 {
-    held == held_too
+    first_widths == second_widths
 }

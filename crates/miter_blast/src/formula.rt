@@ -2,7 +2,7 @@
 ghost use Rattle.std.specs.Prelude.{◌≡◌, ◌+◌, ◌++◌, IfOk, OnOk, IsTrue};
 ghost use Rattle.resolution_proof.specs.Formula.{are_clauses};
 ghost use Rattle.gates.specs.Order.{AreInOrder};
-ghost use Rattle.net_rows.specs.Miters.{signal_clauses};
+ghost use Rattle.net_gates.specs.Miters.{signal_clauses};
 ghost use Rattle.miter_blast.specs.Formulas.{circuit_formula};
 
 use gates::circuit::Gates;

@@ -2,13 +2,13 @@
 ghost use Rattle.std.specs.Prelude.{◌≡◌, ◌<◌, length, map, IfOk, IfErr, Some, slice_get};
 ghost use Rattle.hw_model.specs.TypeViews.{type_of};
 ghost use Rattle.ir_store.specs.Designs.{design_of, ports_in, module_of, numbered_module};
-ghost use Rattle.ir_store.specs.OperationViews.{place_of};
+ghost use Rattle.ir_store.specs.OperationViews.{location_of};
 ghost use Rattle.port_checks.specs.InstanceChecks.{port_types};
 ghost use Rattle.miter_blast.specs.Pairs.{IsPair, IsFoundAt, HaveSamePorts, at_file, at_module, IsRefusedPair, Tells};
 
 use crate::fail::MiterFail;
 use diag::cause::Cause;
-use diag::refusal::{OpName, Place, Refusal};
+use diag::refusal::{Location, OpName, Refusal};
 use hw_model::types::Ty;
 use ir_store::design::{Module, PortList};
 use op_verifier::Verified;
@@ -46,7 +46,7 @@ pub(crate) fn pair_of(
     let one = module_in(left, first);
     let two = module_in(right, second);
     if !have_same_ports(alloc, &one.ports, &two.ports)? {
-        return Err(MiterFail::Refused(at_module(1, two.place, Cause::PortsDiffer)));
+        return Err(MiterFail::Refused(at_module(1, two.location, Cause::PortsDiffer)));
     }
     Ok(Pair {
         left: first,
@@ -100,19 +100,19 @@ pub(crate) fn at_file(number: u32, cause: Cause) -> Refusal
 {
     Refusal {
         file: number,
-        place: Place::start(),
+        location: Location::start(),
         op: OpName::File,
         cause,
     }
 }
 
 /// A refusal at a module's header.
-pub(crate) fn at_module(number: u32, place: Place, cause: Cause) -> Refusal
-    ensures { result ≡ at_module number (place_of place) cause }
+pub(crate) fn at_module(number: u32, location: Location, cause: Cause) -> Refusal
+    ensures { result ≡ at_module number (location_of location) cause }
 {
     Refusal {
         file: number,
-        place,
+        location,
         op: OpName::Listed(Listed::HwModule),
         cause,
     }

@@ -1,4 +1,4 @@
-//! The widths of the leaves of a plain module: of its inputs, and of its registers.
+//! The widths of the leaves of a flat module: of its inputs, and of its registers.
 ghost use Rattle.std.specs.Prelude.{◌≡◌, ◌+◌, cond, map, IfOk};
 ghost use Rattle.wiring.specs.Lists.{total};
 ghost use Rattle.ir_store.specs.Bodies.{ops_of};
@@ -7,16 +7,16 @@ ghost use Rattle.ir_store.specs.Numbered.{ops_by_position};
 ghost use Rattle.hw_model.specs.Types.{width};
 ghost use Rattle.hw_model.specs.TypeViews.{type_of};
 ghost use Rattle.hw_model.specs.Sound.{output_types};
-ghost use Rattle.side_gates.specs.FlatSteps.{content_width};
+ghost use Rattle.flat_module_gates.specs.FlatSteps.{content_width};
 ghost use Rattle.miter_blast.specs.Leaves.{held_widths, input_widths};
 
+use flat_module_gates::places::{Places, is_register};
+use flat_module_gates::registers::content_bits;
+use flat_module_gates::widths::{bits_of, first_bits, sum};
 use ir_store::design::{Module, Port, PortList};
-use side_gates::places::{Places, is_register};
-use side_gates::registers::content_bits;
-use side_gates::widths::{bits_of, first_bits, sum};
 use std::alloc::{AllocError, Global};
 
-/// The widths of the registers of a plain module, in order.
+/// The widths of the registers of a flat module, in order.
 pub(crate) fn register_widths(alloc: Global, module: &Module) -> Result<Vec<u32>, AllocError>
     ensures { IfOk result (λ v. v.items ≡ held_widths (ops_by_position (ops_of «module».now.body))) }
 {
@@ -80,7 +80,7 @@ pub(crate) fn total_of(widths: &[u32]) -> Result<u32, AllocError>
     Ok(bits)
 }
 
-/// How many bits the registers of a plain module hold. 2^32 want more memory than there is.
+/// How many bits the registers of a flat module hold. 2^32 want more memory than there is.
 pub(crate) fn register_bits(alloc: Global, module: &Module) -> Result<u32, AllocError>
     ensures { IfOk result (λ n. n ≡ content_width (ops_by_position (ops_of «module».now.body))) }
 {

@@ -5,25 +5,25 @@ use Rattle.std.specs.Option.{option_map}
 use Rattle.mlir_lexer.specs.Classes.{is_space, is_digit, is_hex_digit, is_name_start, is_name_byte, is_suffix_byte, is_line_byte}
 use Rattle.mlir_lexer.specs.Runs.{run, begins}
 use Rattle.mlir_lexer.specs.Strings.{reading_after, string_rest, string_length}
-use Rattle.mlir_lexer.specs.Fronts.{mark_of, mark_front, suffix_length, suffix_token, string_token, is_hex_mark, number_front, symbol_front, hash_front, slash_front, minus_front, sign_front, front_of}
+use Rattle.mlir_lexer.specs.Prefixes.{mark_of, mark_prefix, suffix_length, suffix_token, string_token, is_hex_mark, number_prefix, symbol_prefix, hash_prefix, slash_prefix, minus_prefix, sign_prefix, prefix_of}
 use Rattle.mlir_lexer.specs.Flat.{IsWithinLine}
 use Rattle.mlir_lexer.specs.declared.token.TokenKind.{TokenKind}
-use Rattle.mlir_lexer.specs.declared.fronts.Front.{Front}
-use Rattle.mlir_lexer.specs.declared.fronts.Front.TheVariants.{LineEnd, Gap, Token, Bad}
+use Rattle.mlir_lexer.specs.declared.prefixes.Prefix.{Prefix}
+use Rattle.mlir_lexer.specs.declared.prefixes.Prefix.TheVariants.{LineEnd, Gap, Token, Bad}
 use Rattle.mlir_lexer.specs.declared.strings.Reading.{Reading}
 use Rattle.mlir_lexer.specs.declared.strings.Reading.TheVariants.{Plain, Escape, HexPair, Closed, Broken}
 use Rattle.mlir_lexer.proofs.StringEnds.{string_rest-broken}
 use Rattle.mlir_lexer.proofs.Lines.{NoLineEnd, IsWithinLine-cons, run-within, run-NoLineEnd}
 
--- what stands at the front of `b ∷ bs` fits there
-abbrev pub FitsFront : ℕ → List ℕ → Front → Type 0
-FitsFront b bs LineEnd = b ≡ 10
-FitsFront b bs (Gap count) = IsWithinLine count (b ∷ bs)
-FitsFront b bs (Token kind count) = IsWithinLine count (b ∷ bs)
-FitsFront b bs (Bad before) = Unit {0}
+-- what stands at the beginning of `b ∷ bs` fits there
+abbrev pub FitsPrefix : ℕ → List ℕ → Prefix → Type 0
+FitsPrefix b bs LineEnd = b ≡ 10
+FitsPrefix b bs (Gap count) = IsWithinLine count (b ∷ bs)
+FitsPrefix b bs (Token kind count) = IsWithinLine count (b ∷ bs)
+FitsPrefix b bs (Bad before) = Unit {0}
 
 -- either answer of a test fits
-either : (b : ℕ) (bs : List ℕ) (t : Bool) (x y : Front) → (t ≡ true → FitsFront b bs x) → (t ≡ false → FitsFront b bs y) → FitsFront b bs (cond t x y)
+either : (b : ℕ) (bs : List ℕ) (t : Bool) (x y : Prefix) → (t ≡ true → FitsPrefix b bs x) → (t ≡ false → FitsPrefix b bs y) → FitsPrefix b bs (cond t x y)
 either b bs true x y f g = f refl
 either b bs false x y f g = g refl
 
@@ -71,7 +71,7 @@ string_rest-fits HexPair (b ∷ bs) n e = string_cons-fits HexPair b bs n refl e
 run-fits : (test : ℕ → Bool) (b : ℕ) (bs : List ℕ) → test 10 ≡ false → (b == 10) ≡ false → IsWithinLine (run test bs + 1) (b ∷ bs)
 run-fits test b bs h t = IsWithinLine-cons b bs (run test bs) (run test bs + 1) refl t (run-within test bs) (run-NoLineEnd test bs h)
 
-suffixed-fits : (kind : TokenKind) (b : ℕ) (bs : List ℕ) → (b == 10) ≡ false → FitsFront b bs (suffix_token kind bs)
+suffixed-fits : (kind : TokenKind) (b : ℕ) (bs : List ℕ) → (b == 10) ≡ false → FitsPrefix b bs (suffix_token kind bs)
 suffixed-fits kind b bs t = either b bs (suffix_length bs == 0) _ _ (λ z. tt) (λ n. go (begins is_digit bs))
   where
     go : (d : Bool) → IsWithinLine (cond d (run is_digit bs) (run is_suffix_byte bs) + 1) (b ∷ bs)
@@ -79,14 +79,14 @@ suffixed-fits kind b bs t = either b bs (suffix_length bs == 0) _ _ (λ z. tt) (
     go false = run-fits is_suffix_byte b bs refl t
 
 -- a string after the first byte
-string-fits : (kind : TokenKind) (b : ℕ) (bs : List ℕ) (length : Option ℕ) → length ≡ string_length bs → (b == 10) ≡ false → FitsFront b bs (string_token kind 0 length)
+string-fits : (kind : TokenKind) (b : ℕ) (bs : List ℕ) (length : Option ℕ) → length ≡ string_length bs → (b == 10) ≡ false → FitsPrefix b bs (string_token kind 0 length)
 string-fits kind b bs None e t = tt
 string-fits kind b bs (Some n) e t =
     let fits = string_rest-fits Plain bs n (sym e) in IsWithinLine-cons b bs n (0 + 1 + n) (omega arith) t fits.0 fits.1
 
 -- a string after the first byte and the quote that opens it
 symbol_string-fits : (kind : TokenKind) (b q : ℕ) (bs : List ℕ) (length : Option ℕ) → length ≡ string_length bs → (b == 10) ≡ false → (q == 10) ≡ false
-    → FitsFront b (q ∷ bs) (string_token kind 1 length)
+    → FitsPrefix b (q ∷ bs) (string_token kind 1 length)
 symbol_string-fits kind b q bs None e t u = tt
 symbol_string-fits kind b q bs (Some n) e t u =
     let fits = string_rest-fits Plain bs n (sym e)
@@ -96,26 +96,26 @@ symbol_string-fits kind b q bs (Some n) e t u =
 other_byte : (b k : ℕ) → (k == 10) ≡ false → (b == k) ≡ true → (b == 10) ≡ false
 other_byte b k h e = ap (λ x. x == 10) (eqb-true b k e) ∙ h
 
-symbol-fits : (b : ℕ) (bs : List ℕ) → (b == 10) ≡ false → FitsFront b bs (symbol_front bs)
+symbol-fits : (b : ℕ) (bs : List ℕ) → (b == 10) ≡ false → FitsPrefix b bs (symbol_prefix bs)
 symbol-fits b [] t = tt
 symbol-fits b (q ∷ bs) t =
     either b (q ∷ bs) (q == 34) _ _ (λ e. symbol_string-fits _ b q bs (string_length bs) refl t (other_byte q 34 refl e)) (λ e. suffixed-fits _ b (q ∷ bs) t)
 
-hash-fits : (b : ℕ) (bs : List ℕ) → (b == 10) ≡ false → FitsFront b bs (hash_front bs)
+hash-fits : (b : ℕ) (bs : List ℕ) → (b == 10) ≡ false → FitsPrefix b bs (hash_prefix bs)
 hash-fits b bs t = either b bs (begins is_digit bs) _ _ (λ e. suffixed-fits _ b bs t) (λ e. suffixed-fits _ b bs t)
 
-slash-fits : (b : ℕ) (bs : List ℕ) → (b == 10) ≡ false → FitsFront b bs (slash_front bs)
+slash-fits : (b : ℕ) (bs : List ℕ) → (b == 10) ≡ false → FitsPrefix b bs (slash_prefix bs)
 slash-fits b bs t = either b bs (begins (λ c. c == 47) bs) _ _ (λ e. run-fits is_line_byte b bs refl t) (λ e. tt)
 
 one_byte-fits : (b : ℕ) (bs : List ℕ) → (b == 10) ≡ false → IsWithinLine 1 (b ∷ bs)
 one_byte-fits b bs t = IsWithinLine-cons b bs 0 1 refl t (omega arith) tt
 
-minus-fits : (b : ℕ) (bs : List ℕ) → (b == 10) ≡ false → FitsFront b bs (minus_front bs)
+minus-fits : (b : ℕ) (bs : List ℕ) → (b == 10) ≡ false → FitsPrefix b bs (minus_prefix bs)
 minus-fits b [] t = one_byte-fits b [] t
 minus-fits b (c ∷ bs) t =
     either b (c ∷ bs) (c == 62) _ _ (λ e. IsWithinLine-cons b (c ∷ bs) 1 2 refl t (omega arith) (other_byte c 62 refl e, tt)) (λ e. one_byte-fits b (c ∷ bs) t)
 
-mark-fits : (b : ℕ) (bs : List ℕ) (mark : Option TokenKind) → (b == 10) ≡ false → FitsFront b bs (mark_front mark)
+mark-fits : (b : ℕ) (bs : List ℕ) (mark : Option TokenKind) → (b == 10) ≡ false → FitsPrefix b bs (mark_prefix mark)
 mark-fits b bs None t = tt
 mark-fits b bs (Some kind) t = one_byte-fits b bs t
 
@@ -131,7 +131,7 @@ hex-fits b (x ∷ bs) t h =
     and_left true q e = refl
     and_left false q e = e
 
-number-fits : (b : ℕ) (bs : List ℕ) → (b == 10) ≡ false → FitsFront b bs (number_front b bs)
+number-fits : (b : ℕ) (bs : List ℕ) → (b == 10) ≡ false → FitsPrefix b bs (number_prefix b bs)
 number-fits b bs t =
     either b bs ((b == 48) && is_hex_mark bs) _ _ (λ e. hex-fits b bs t (and_right (b == 48) (is_hex_mark bs) e)) (λ e. run-fits is_digit b bs refl t)
   where
@@ -139,8 +139,8 @@ number-fits b bs t =
     and_right true q e = e
     and_right false q e = cc
 
-sign-fits : (b : ℕ) (bs : List ℕ) → (b == 10) ≡ false → FitsFront b bs (sign_front b bs)
-unfolding sign_front
+sign-fits : (b : ℕ) (bs : List ℕ) → (b == 10) ≡ false → FitsPrefix b bs (sign_prefix b bs)
+unfolding sign_prefix
 sign-fits b bs t =
     either b bs (b == 37) _ _ (λ e. suffixed-fits _ b bs t)
     (λ e. either b bs (b == 64) _ _ (λ e. symbol-fits b bs t)
@@ -151,9 +151,9 @@ sign-fits b bs t =
     (λ e. either b bs (b == 47) _ _ (λ e. slash-fits b bs t) (λ e. mark-fits b bs (mark_of b) t)))))))
 
 -- what the bytes begin with fits them
-pub front_of-fits : (b : ℕ) (bs : List ℕ) → FitsFront b bs (front_of b bs)
-unfolding front_of
-front_of-fits b bs =
+pub prefix_of-fits : (b : ℕ) (bs : List ℕ) → FitsPrefix b bs (prefix_of b bs)
+unfolding prefix_of
+prefix_of-fits b bs =
     either b bs (b == 10) _ _ (λ e. eqb-true b 10 e)
     (λ t. either b bs (is_space b) _ _ (λ e. run-fits is_space b bs refl t)
     (λ e. either b bs (is_name_start b) _ _ (λ e. run-fits is_name_byte b bs refl t)

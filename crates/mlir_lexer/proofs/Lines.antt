@@ -1,8 +1,8 @@
--- Fronts that hold no end of a line, and the places after them.
+-- Prefixes that hold no end of a line, and the locations after them.
 use Rattle.std.proofs.Common.{add-one, ◌≡◌, ℕ, suc, ◌+◌, ◌-◌, ◌^◌, ◌≤◌, Bool, true, false, cond, List, [], ◌∷◌, take, length, min, refl, sym, ap, ◌∙◌, subst, arith, ◌==◌, length-take}
 use Rattle.std.proofs.lemmas.Bool.{eqb-true}
-use Rattle.diag.specs.Place.{further, next_place, place_after}
-use Rattle.diag.specs.declared.refusal.Place.{Place}
+use Rattle.diag.specs.Location.{further, next_location, location_after}
+use Rattle.diag.specs.declared.refusal.Location.{Location}
 use Rattle.mlir_lexer.specs.Runs.{run}
 use Rattle.mlir_lexer.specs.Flat.{IsWithinLine}
 
@@ -11,19 +11,19 @@ abbrev pub NoLineEnd : List ℕ → Type 0
 NoLineEnd [] = Unit {0}
 NoLineEnd (b ∷ bs) = ((b == 10) ≡ false) × NoLineEnd bs
 
-further-twice : (place : Place) (m n : ℕ) → further (further place m) n ≡ further place (m + n)
-further-twice place m n =
-    let col : min (min (place.col + m) (2 ^ 32 - 1) + n) (2 ^ 32 - 1) ≡ min (place.col + (m + n)) (2 ^ 32 - 1) = omega arith
-    in ap (λ (c : ℕ). let p : Place = record { line = place.line; col = c } in p) col
+further-twice : (location : Location) (m n : ℕ) → further (further location m) n ≡ further location (m + n)
+further-twice location m n =
+    let col : min (min (location.col + m) (2 ^ 32 - 1) + n) (2 ^ 32 - 1) ≡ min (location.col + (m + n)) (2 ^ 32 - 1) = omega arith
+    in ap (λ (c : ℕ). let p : Location = record { line = location.line; col = c } in p) col
 
 -- after bytes of one line the column is so much greater
-place_after-line : (place : Place) (k : ℕ) (bytes : List ℕ) → NoLineEnd bytes → place_after (further place k) bytes ≡ further place (k + length bytes)
-place_after-line place k [] h = let e : k ≡ k + 0 = omega arith in ap (further place) e
-place_after-line place k (b ∷ bs) h =
-    let step : next_place (further place k) b ≡ further place (k + 1) = rw h.0 (further-twice place k 1)
+location_after-line : (location : Location) (k : ℕ) (bytes : List ℕ) → NoLineEnd bytes → location_after (further location k) bytes ≡ further location (k + length bytes)
+location_after-line location k [] h = let e : k ≡ k + 0 = omega arith in ap (further location) e
+location_after-line location k (b ∷ bs) h =
+    let step : next_location (further location k) b ≡ further location (k + 1) = rw h.0 (further-twice location k 1)
     in
     let count : k + 1 + length bs ≡ k + suc (length bs) = omega arith
-    in ap (λ q. place_after q bs) step ∙ (place_after-line place (k + 1) bs h.1 ∙ ap (further place) count)
+    in ap (λ q. location_after q bs) step ∙ (location_after-line location (k + 1) bs h.1 ∙ ap (further location) count)
 
 -- a byte that ends no line, and so many of those after it
 pub IsWithinLine-cons : (b : ℕ) (bs : List ℕ) (n total : ℕ) → total ≡ n + 1 → (b == 10) ≡ false → n ≤ length bs → NoLineEnd (take n bs)
@@ -34,11 +34,11 @@ IsWithinLine-cons b bs n total e h within flat =
     subst P (sym (e ∙ add-one n)) (record {
       some = omega arith;
       within = omega (arith, within);
-      along = λ place.
-          let step : next_place place b ≡ further place 1 = rw h refl
+      along = λ location.
+          let step : next_location location b ≡ further location 1 = rw h refl
           in
           let count : 1 + length (take n bs) ≡ suc n = rw (length-take n bs) (omega (arith, within))
-          in ap (λ q. place_after q (take n bs)) step ∙ (place_after-line place 1 (take n bs) flat ∙ ap (further place) count);
+          in ap (λ q. location_after q (take n bs)) step ∙ (location_after-line location 1 (take n bs) flat ∙ ap (further location) count);
     })
 
 pub run-within : (test : ℕ → Bool) (bytes : List ℕ) → run test bytes ≤ length bytes

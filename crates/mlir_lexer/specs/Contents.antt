@@ -45,6 +45,6 @@ abbrev pub Turns : Pending → ℕ → Pending → Option ℕ → Type 0
 Turns pending b next None = (bs : List ℕ) → decode pending (b ∷ bs) ≡ decode next bs
 Turns pending b next (Some value) = (bs : List ℕ) → decode pending (b ∷ bs) ≡ value ∷ decode next bs
 
--- a text gets a front of these bytes at its end
-abbrev pub GetsFront : List ℕ → List ℕ → List ℕ → Type 0
-GetsFront before after bytes = (front rest : List ℕ) × (bytes ≡ front ++ rest) × (after ≡ before ++ front)
+-- a text gets a prefix of these bytes at its end
+abbrev pub GetsPrefix : List ℕ → List ℕ → List ℕ → Type 0
+GetsPrefix before after bytes = (prefix rest : List ℕ) × (bytes ≡ prefix ++ rest) × (after ≡ before ++ prefix)

@@ -2,7 +2,7 @@
 pub mod Classes
 pub mod Runs
 pub mod Strings
-pub mod Fronts
+pub mod Prefixes
 pub mod Cursor
 pub mod Flat
 pub mod Tokens

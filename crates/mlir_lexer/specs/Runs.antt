@@ -1,7 +1,7 @@
--- Fronts of lists of bytes.
+-- Prefixes of lists of bytes.
 use Rattle.std.specs.Prelude.{ℕ, ◌+◌, Bool, false, cond, List, [], ◌∷◌}
 
--- how many bytes at the front meet a test
+-- how many bytes at the beginning meet a test
 abbrev pub run : (ℕ → Bool) → List ℕ → ℕ
 run test [] = 0
 run test (b ∷ bs) = cond (test b) (run test bs + 1) 0

@@ -13,7 +13,7 @@ pub trait Class {
         ensures { result ≡ test byte };
 }
 
-/// How many bytes at the front are of a class.
+/// How many bytes at the beginning are of a class.
 pub fn run_of<C: Class>(bytes: &[u8]) -> usize
     ensures exact { result ≡ run C.test bytes.now }
     ensures within { result ≤ length bytes.now }

@@ -1,6 +1,6 @@
 //! What names and strings hold.
 ghost use Rattle.std.specs.Prelude.{◌≡◌, ◌+◌, ◌<◌, ◌≤◌, [], ◌++◌, drop, OnOk, OnErr};
-ghost use Rattle.mlir_lexer.specs.Contents.{hex_value, unescape_byte, unescape, body_of, content_of, Turns, GetsFront};
+ghost use Rattle.mlir_lexer.specs.Contents.{hex_value, unescape_byte, unescape, body_of, content_of, Turns, GetsPrefix};
 
 use crate::classes::{Class, Digit, HexDigit};
 use crate::token::{Token, TokenKind};
@@ -21,10 +21,10 @@ pub enum Pending {
 impl<'s> Token<'s> {
     /// Puts what the token holds at the end of a text: a string's content, its escapes undone; a
     /// name, number or keyword without its sign; of every other token its bytes. On an error the
-    /// text has got a front of it.
+    /// text has got a prefix of it.
     pub fn push_content(&self, into: &mut Text) -> Result<(), AllocError>
         ensures ok { OnOk result (into.new ≡ into.old ++ content_of self.now.kind self.now.text.now) }
-        ensures err { OnErr result (GetsFront into.old into.new (content_of self.now.kind self.now.text.now)) }
+        ensures err { OnErr result (GetsPrefix into.old into.new (content_of self.now.kind self.now.text.now)) }
     {
         match self.kind {
             TokenKind::StringLiteral => push_unescaped(body(self.text, 1), into),
@@ -40,10 +40,10 @@ impl<'s> Token<'s> {
 }
 
 /// Puts the bytes that a string's body stands for at the end of a text; the body is what stands
-/// between the quotes. On an error the text has got a front of them.
+/// between the quotes. On an error the text has got a prefix of them.
 pub fn push_unescaped(body: &[u8], into: &mut Text) -> Result<(), AllocError>
     ensures ok { OnOk result (into.new ≡ into.old ++ unescape body.now) }
-    ensures err { OnErr result (GetsFront into.old into.new (unescape body.now)) }
+    ensures err { OnErr result (GetsPrefix into.old into.new (unescape body.now)) }
 {
     let mut pending = Pending::Nothing;
     for byte in body {

@@ -3,7 +3,7 @@
 
 pub mod classes;
 pub mod contents;
-pub mod fronts;
+pub mod prefixes;
 pub mod strings;
 pub mod token;
 pub mod tokens;

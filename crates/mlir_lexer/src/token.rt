@@ -2,7 +2,7 @@
 ghost use Rattle.std.specs.Prelude.{◌≡◌};
 ghost use Rattle.mlir_lexer.specs.TokenKinds.{is_kind, tag};
 
-use diag::refusal::Place;
+use diag::refusal::Location;
 
 /// The kinds of tokens (MLIR language reference, "Lexical conventions" and "Identifiers").
 #[derive(Clone, Copy, PartialEq, Eq)]
@@ -54,12 +54,12 @@ pub enum TokenKind {
     Minus,
 }
 
-/// A token: its kind, the place of its first byte, how many bytes stand before it in the source,
+/// A token: its kind, the location of its first byte, how many bytes stand before it in the source,
 /// and the bytes that it has there.
 #[derive(Clone, Copy, PartialEq, Eq)]
 pub struct Token<'s> {
     pub kind: TokenKind,
-    pub place: Place,
+    pub location: Location,
     pub at: u64,
     pub text: &'s [u8],
 }

@@ -1,16 +1,16 @@
 -- What the tokens of the pieces of operations say is read of them.
-use Rattle.std.proofs.Common.{◌≡◌, ◌⊎◌, ℕ, zero, suc, Bool, true, false, cond, List, [], ◌∷◌, length, Option, Some, None, Ok, refl, sym, ◌∙◌, ap, inl, inr, arith}
+use Rattle.std.proofs.Common.{◌≡◌, ◌⊎◌, ℕ, zero, suc, Bool, true, false, cond, List, [], ◌∷◌, length, Option, Some, None, Ok, refl, sym, ◌∙◌, ap, inl, inr, arith, option_and_then}
 use Rattle.std.specs.Prelude.{codes}
-use Rattle.wiring.specs.Options.{bind}
 use Rattle.diag.specs.declared.refusal.OpName.{OpName}
 use Rattle.hw_model.specs.Types.{Name, HwType}
 use Rattle.hw_model.specs.TypeViews.{NamedType}
 use Rattle.mlir_lexer.specs.declared.token.TokenKind.TheVariants as kind
-use Rattle.mlir_syntax.specs.Stream.{Symbol, token, first, is_first, is_next, is_word, after}
+use Rattle.mlir_syntax.specs.Stream.{StreamToken, token, first, is_first, is_next, is_word, after}
 use Rattle.mlir_syntax.specs.Reads.{Read, on}
 use Rattle.mlir_syntax.specs.TypeText.{any_type, most_open}
 use Rattle.mlir_operations.specs.OperandText.{OperandName}
-use Rattle.mlir_operations.specs.ElementText.{InherentAttributes, Gathered, with_operands, with_inherent, group_text, further_types, types_text, reset_operands, reset_text, reset_mode, sync_or_async_reset_text, Joined, input_text, output_text, inputs_text, outputs_text, instance_text, element_text, elements_text}
+use Rattle.mlir_operations.specs.ElementText.{InherentAttributes, Gathered, with_operands, with_inherent, group_text, further_types, types_text, reset_operands, reset_text, reset_mode}
+use Rattle.mlir_operations.specs.ElementText.{sync_or_async_reset_text, Joined, input_text, output_text, inputs_text, outputs_text, instance_text, element_text, elements_text}
 use Rattle.mlir_syntax.specs.WordText.{bare_text, as_known, predicate_named, predicate_text, truth_named, truth_text, string_text, symbol_text, inner_symbol, module_symbol}
 use Rattle.mlir_operations.specs.ElementText.InherentAttributes.{with_reset, with_async_reset}
 use Rattle.mlir_syntax.specs.Spelling.{Phrase, Mark, Word, Holding, Then, Either, Where, Commas, Between, Nothing, SymbolPhrase, TruthWord, TypePhrase}
@@ -25,12 +25,12 @@ use Rattle.mlir_operations.proofs.AgainOperands.{NoNumber, no_number, again_oper
 
 -- ---- words
 
-known_at : {A : Type 0} (op : OpName) (f : List ℕ → Option A) (name : List ℕ) (x : A) {s left : List Symbol} → f name ≡ Some x → At (Word name) s left
-    → as_known op s (bind (bare_text (first s)) f) ≡ Ok (x, left)
+known_at : {A : Type 0} (op : OpName) (f : List ℕ → Option A) (name : List ℕ) (x : A) {s left : List StreamToken} → f name ≡ Some x → At (Word name) s left
+    → as_known op s (option_and_then f (bare_text (first s))) ≡ Ok (x, left)
 known_at op f name x {s} {left} known h =
     let (t, e, p) = at_one h in
     let text : bare_text (Some t) ≡ Some name = if_true _ (is_kind_of p.0) (ap (λ n. Some n) p.1) in
-    ap (λ y. as_known op y (bind (bare_text (first y)) f)) e ∙ ap (λ o. as_known op (token t ∷ left) (bind o f)) text ∙ ap (as_known op (token t ∷ left)) known
+    ap (λ y. as_known op y (option_and_then f (bare_text (first y)))) e ∙ ap (λ o. as_known op (token t ∷ left) (option_and_then f o)) text ∙ ap (as_known op (token t ∷ left)) known
 
 truth_known : (b : Bool) → truth_named (cond b (codes "true") (codes "false")) ≡ Some b
 unfolding truth_named
@@ -48,16 +48,16 @@ again_string op = record {
 }
 
 -- a word stands first
-pub word_first : {name : List ℕ} {s left : List Symbol} → At (Word name) s left → (is_first (is_word name) s ≡ true) × (after s ≡ left)
+pub word_first : {name : List ℕ} {s left : List StreamToken} → At (Word name) s left → (is_first (is_word name) s ≡ true) × (after s ≡ left)
 word_first {name} h = let (t, e, p) = at_one h in (ap (is_first (is_word name)) e ∙ is_word_of t p.0 p.1, ap after e)
 
 -- another word stands first
-pub other_first : (name : List ℕ) {P : Phrase} {s left : List Symbol} → Leads (λ t. is_word name t ≡ false) P → At P s left → is_first (is_word name) s ≡ false
+pub other_first : (name : List ℕ) {P : Phrase} {s left : List StreamToken} → Leads (λ t. is_word name t ≡ false) P → At P s left → is_first (is_word name) s ≡ false
 other_first name leads h = starts_test (is_word name) false (λ t p. p) (starts leads h)
 
 -- ---- operands and types
 
-group_at : (op : OpName) (os : List OperandName) {s left : List Symbol} → At (Between kind.LeftParenthesis kind.RightParenthesis (Commas OperandPhrase os)) s left
+group_at : (op : OpName) (os : List OperandName) {s left : List StreamToken} → At (Between kind.LeftParenthesis kind.RightParenthesis (Commas OperandPhrase os)) s left
     → group_text op s ≡ Ok (os, left)
 unfolding group_text
 group_at op os h =
@@ -66,7 +66,7 @@ group_at op os h =
     on_ok _ e (until_at op kind.RightParenthesis (again_operand op) (λ o. leads_operand o (unlike kind.RightParenthesis kind.ValueName refl))
     (λ s left c. no_number kind.Comma refl c) (λ s left c. no_number kind.RightParenthesis refl c) refl os b)
 
-types_after : (op : OpName) (n : ℕ) (x : HwType) (l : List HwType) (s left : List Symbol) → length l ≡ n → At (Commas (TypePhrase most_open) (x ∷ l)) s left
+types_after : (op : OpName) (n : ℕ) (x : HwType) (l : List HwType) (s left : List StreamToken) → length l ≡ n → At (Commas (TypePhrase most_open) (x ∷ l)) s left
     → on (any_type op s) (λ t s1. on (further_types op n s1) (λ ts s2. Ok (t ∷ ts, s2))) ≡ Ok (x ∷ l, left)
 unfolding further_types
 types_after op zero x [] s left e h = on_ok _ ((again_any_type op).gives x s left h tt) refl
@@ -79,7 +79,7 @@ types_after op (suc n) x (y ∷ ys) s left e h =
     let same : length ys ≡ n = omega (arith, e) in
     on_ok _ ((again_any_type op).gives x s m a tt) (on_ok _ (on_ok _ w (types_after op n y ys k left same d)) refl)
 
-types_at : (op : OpName) (n : ℕ) (l : List HwType) {s left : List Symbol} → length l ≡ n → At (Commas (TypePhrase most_open) l) s left → types_text op n s ≡ Ok (l, left)
+types_at : (op : OpName) (n : ℕ) (l : List HwType) {s left : List StreamToken} → length l ≡ n → At (Commas (TypePhrase most_open) l) s left → types_text op n s ≡ Ok (l, left)
 unfolding types_text
 types_at op zero [] e h = ap (λ y. Ok ([], y)) (at_nothing h)
 types_at op (suc n) [] e h = absurd (omega (arith, e))
@@ -89,10 +89,10 @@ types_at op (suc n) (x ∷ l) {s} {left} e h = types_after op n x l s left (omeg
 -- ---- resets
 
 -- no reset stands there
-abbrev pub NoReset : List Symbol → Type 0
+abbrev pub NoReset : List StreamToken → Type 0
 NoReset s = is_first (is_word (codes "reset")) s ≡ false
 
-reset_operands_at : (op : OpName) (e : InherentAttributes) (g : Gathered) (r v : OperandName) {s left : List Symbol} → NoNumber left
+reset_operands_at : (op : OpName) (e : InherentAttributes) (g : Gathered) (r v : OperandName) {s left : List StreamToken} → NoNumber left
     → At (Then (OperandPhrase r) (Then (Mark kind.Comma) (OperandPhrase v))) s left
     → reset_operands op e g s ≡ Ok (with_inherent (with_operands g (r ∷ v ∷ [])) e, left)
 unfolding reset_operands
@@ -102,13 +102,13 @@ reset_operands_at op how g r v {s} {left} clear h =
     let (t, e) = mark_at op c in
     on_ok _ ((again_operand op).gives r s m a (no_number kind.Comma refl c)) (on_ok _ e (on_ok _ ((again_operand op).gives v k left d clear) refl))
 
-no_reset_at : (g h : Gathered) {s left : List Symbol} → NoReset left → At (Where (h ≡ g) Nothing) s left → NoReset s × (◌≡◌ {A = Read Gathered} (Ok (g, s)) (Ok (h, left)))
+no_reset_at : (g h : Gathered) {s left : List StreamToken} → NoReset left → At (Where (h ≡ g) Nothing) s left → NoReset s × (◌≡◌ {A = Read Gathered} (Ok (g, s)) (Ok (h, left)))
 no_reset_at g h {s} {left} clear a =
     let (e, p) = at_where a in
     let same = at_nothing p in
     (ap (is_first (is_word (codes "reset"))) same ∙ clear, ap (λ y. Ok (g, y)) same ∙ ap (λ x. Ok (x, left)) (sym e))
 
-reset_at : (op : OpName) (g h : Gathered) {s left : List Symbol} → NoNumber left → NoReset left
+reset_at : (op : OpName) (g h : Gathered) {s left : List StreamToken} → NoNumber left → NoReset left
     → At (ResetPhrase (Word (codes "reset")) with_reset g h) s left ⊎ At (Where (h ≡ g) Nothing) s left → reset_text op g s ≡ Ok (h, left)
 unfolding reset_text
 reset_at op g h {s} {left} clear other (inl a) =
@@ -120,21 +120,21 @@ reset_at op g h {s} {left} clear other (inl a) =
 reset_at op g h {s} {left} clear other (inr a) = let (b, e) = no_reset_at g h other a in if_false _ b e
 
 -- `sync` and `async` say what they say
-sync_at : (op : OpName) {s left : List Symbol} → At (Word (codes "sync")) s left → reset_mode op s ≡ Ok (with_reset, left)
+sync_at : (op : OpName) {s left : List StreamToken} → At (Word (codes "sync")) s left → reset_mode op s ≡ Ok (with_reset, left)
 unfolding reset_mode
 sync_at op h =
     let (t, e) = word_at op h in
     if_false _ (other_first (codes "async") (leads_one (λ t p. other_word (codes "async") (codes "sync") refl t p.1)) h) (on_ok _ e refl)
 
-async_at : (op : OpName) {s left : List Symbol} → At (Word (codes "async")) s left → reset_mode op s ≡ Ok (with_async_reset, left)
+async_at : (op : OpName) {s left : List StreamToken} → At (Word (codes "async")) s left → reset_mode op s ≡ Ok (with_async_reset, left)
 unfolding reset_mode
 async_at op h =
     let (next, following) = word_first h in
     if_true _ next (ap (λ x. Ok (with_async_reset, x)) following)
 
 -- `reset`, such a word and two operands
-mode_reset_at : (op : OpName) (Mode : Phrase) (how : InherentAttributes) (g h : Gathered) {s left : List Symbol} → NoNumber left
-    → ((m k : List Symbol) → At Mode m k → reset_mode op m ≡ Ok (how, k))
+mode_reset_at : (op : OpName) (Mode : Phrase) (how : InherentAttributes) (g h : Gathered) {s left : List StreamToken} → NoNumber left
+    → ((m k : List StreamToken) → At Mode m k → reset_mode op m ≡ Ok (how, k))
     → At (ResetPhrase (Then (Word (codes "reset")) Mode) how g h) s left → sync_or_async_reset_text op g s ≡ Ok (h, left)
 unfolding sync_or_async_reset_text
 mode_reset_at op Mode how g h {s} {left} clear says a =
@@ -146,16 +146,16 @@ mode_reset_at op Mode how g h {s} {left} clear says a =
     let (next, following) = word_first x in
     if_true _ next (on_ok _ (ap (reset_mode op) following ∙ says k m y) (reset_operands_at op how g r v clear c ∙ ap (λ x. Ok (x, left)) (sym same)))
 
-no_mode_reset_at : (op : OpName) (g h : Gathered) {s left : List Symbol} → NoReset left → At (Where (h ≡ g) Nothing) s left → sync_or_async_reset_text op g s ≡ Ok (h, left)
+no_mode_reset_at : (op : OpName) (g h : Gathered) {s left : List StreamToken} → NoReset left → At (Where (h ≡ g) Nothing) s left → sync_or_async_reset_text op g s ≡ Ok (h, left)
 unfolding sync_or_async_reset_text
 no_mode_reset_at op g h other a = let (b, e) = no_reset_at g h other a in if_false _ b e
 
-some_mode_reset_at : (op : OpName) (g h : Gathered) {s left : List Symbol} → NoNumber left → NoReset left
+some_mode_reset_at : (op : OpName) (g h : Gathered) {s left : List StreamToken} → NoNumber left → NoReset left
     → At (ResetPhrase ResetAsync with_async_reset g h) s left ⊎ At (Where (h ≡ g) Nothing) s left → sync_or_async_reset_text op g s ≡ Ok (h, left)
 some_mode_reset_at op g h clear other (inl a) = mode_reset_at op (Word (codes "async")) with_async_reset g h clear (λ m k b. async_at op b) a
 some_mode_reset_at op g h clear other (inr a) = no_mode_reset_at op g h other a
 
-sync_or_async_reset_at : (op : OpName) (g h : Gathered) {s left : List Symbol} → NoNumber left → NoReset left
+sync_or_async_reset_at : (op : OpName) (g h : Gathered) {s left : List StreamToken} → NoNumber left → NoReset left
     → At (ResetPhrase ResetSync with_reset g h) s left ⊎ At (Either (ResetPhrase ResetAsync with_async_reset g h) (Where (h ≡ g) Nothing)) s left
     → sync_or_async_reset_text op g s ≡ Ok (h, left)
 sync_or_async_reset_at op g h clear other (inl a) = mode_reset_at op (Word (codes "sync")) with_reset g h clear (λ m k b. sync_at op b) a
@@ -181,7 +181,7 @@ again_output : (op : OpName) → Again Any (output_text op) OutputPhrase
 unfolding output_text
 again_output op = again_field op (again_type most_open op)
 
-inner_at : (op : OpName) (inner : Option Name) {s left : List Symbol} → is_first (is_word (codes "sym")) left ≡ false → At (InnerSymbol inner) s left
+inner_at : (op : OpName) (inner : Option Name) {s left : List StreamToken} → is_first (is_word (codes "sym")) left ≡ false → At (InnerSymbol inner) s left
     → inner_symbol op s ≡ Ok (inner, left)
 unfolding inner_symbol
 inner_at op None clear h =
@@ -193,15 +193,15 @@ inner_at op (Some name) {s} {left} clear h =
     if_true _ next (on_ok _ (ap (symbol_text op) following ∙ (again_symbol op).gives name m left b tt) refl)
 
 -- a symbol is no word
-pub symbol_first : (word : List ℕ) (name : Name) {s left : List Symbol} → At (SymbolPhrase name) s left → is_first (is_word word) s ≡ false
-symbol_first word name h = other_first word (leads_symbol (no_word word kind.SymbolName refl) (no_word word kind.SymbolString refl)) h
+pub token_first : (word : List ℕ) (name : Name) {s left : List StreamToken} → At (SymbolPhrase name) s left → is_first (is_word word) s ≡ false
+token_first word name h = other_first word (leads_symbol (no_word word kind.SymbolName refl) (no_word word kind.SymbolString refl)) h
 
-pub module_symbol_at : (op : OpName) (name : Name) {s left : List Symbol} → is_next kind.Less left ≡ false → At (SymbolPhrase name) s left
+pub module_symbol_at : (op : OpName) (name : Name) {s left : List StreamToken} → is_next kind.Less left ≡ false → At (SymbolPhrase name) s left
     → module_symbol op s ≡ Ok (name, left)
 unfolding module_symbol
 module_symbol_at op name {s} {left} clear h = on_ok _ ((again_symbol op).gives name s left h tt) (if_false _ clear refl)
 
-inputs_at : (op : OpName) (ins : List Joined) {s left : List Symbol} → At (Between kind.LeftParenthesis kind.RightParenthesis (Commas InputPhrase ins)) s left
+inputs_at : (op : OpName) (ins : List Joined) {s left : List StreamToken} → At (Between kind.LeftParenthesis kind.RightParenthesis (Commas InputPhrase ins)) s left
     → inputs_text op s ≡ Ok (ins, left)
 unfolding inputs_text
 inputs_at op ins h =
@@ -211,7 +211,7 @@ inputs_at op ins h =
     (λ j. leads_then (name_unlike kind.RightParenthesis refl refl))
     (λ _ _ _. tt) (λ _ _ _. tt) refl ins b)
 
-outputs_at : (op : OpName) (outs : List NamedType) {s left : List Symbol}
+outputs_at : (op : OpName) (outs : List NamedType) {s left : List StreamToken}
     → At (Then (Mark kind.Arrow) (Between kind.LeftParenthesis kind.RightParenthesis (Commas OutputPhrase outs))) s left → outputs_text op s ≡ Ok (outs, left)
 unfolding outputs_text
 outputs_at op outs h =
@@ -223,7 +223,7 @@ outputs_at op outs h =
     (λ q. leads_field (TypePhrase most_open) q (name_unlike kind.RightParenthesis refl refl))
     (λ _ _ _. tt) (λ _ _ _. tt) refl outs d))
 
-instance_at : (op : OpName) (g h : Gathered) {s left : List Symbol} → At (InstancePhrase g h) s left → instance_text op g s ≡ Ok (h, left)
+instance_at : (op : OpName) (g h : Gathered) {s left : List StreamToken} → At (InstancePhrase g h) s left → instance_text op g s ≡ Ok (h, left)
 unfolding instance_text
 instance_at op g h {s} {left} a =
     let (name, symbol, inner, ins, outs, same, p) = a.says in
@@ -236,21 +236,21 @@ instance_at op g h {s} {left} a =
     let (m3, p3, q3) = at_then q2 in
     let (m4, p4, q4) = at_then q3 in
     let (m5, left_mark, q5) = at_then p4 in
-    on_ok _ ((again_string op).gives name s m1 p1 tt) (on_ok _ (inner_at op inner (symbol_first (codes "sym") symbol p3) p2)
+    on_ok _ ((again_string op).gives name s m1 p1 tt) (on_ok _ (inner_at op inner (token_first (codes "sym") symbol p3) p2)
     (on_ok _ (module_symbol_at op symbol (no_mark kind.Less refl left_mark) p3)
     (on_ok _ (inputs_at op ins p4) (on_ok _ (outputs_at op outs q4) (ap (λ x. Ok (x, left)) (sym same))))))
 
 -- ---- pieces
 
 -- what may stand after a piece
-abbrev pub EndOf : FormatElement → List Symbol → Type 0
+abbrev pub EndOf : FormatElement → List StreamToken → Type 0
 EndOf element.Operand s = NoNumber s
 EndOf element.Operands s = NoNumber s × (is_next kind.Comma s ≡ false)
 EndOf element.Reset s = NoNumber s × NoReset s
 EndOf element.SyncOrAsyncReset s = NoNumber s × NoReset s
 EndOf _ s = Unit {0}
 
-pub element_at : (op : OpName) (p : FormatElement) (g h : Gathered) {s left : List Symbol} → EndOf p left → At (FormatElementPhrase p g h) s left → element_text op p g s ≡ Ok (h, left)
+pub element_at : (op : OpName) (p : FormatElement) (g h : Gathered) {s left : List StreamToken} → EndOf p left → At (FormatElementPhrase p g h) s left → element_text op p g s ≡ Ok (h, left)
 unfolding element_text predicate_text
 element_at op (element.Mark k) g h {s} {left} end a =
     let (same, p) = at_where a in
@@ -304,11 +304,11 @@ element_at op element.Types g h {s} {left} end a =
     on_ok _ (types_at op (length g.operands) l count inside) (ap (λ x. Ok (x, left)) (sym same))
 
 -- what may stand after pieces: after each stands what may
-abbrev pub Ends : List FormatElement → List Symbol → Type 0
+abbrev pub Ends : List FormatElement → List StreamToken → Type 0
 Ends [] left = Unit {0}
-Ends (p ∷ ps) left = ((m : List Symbol) (x y : Gathered) → At (ElementsPhrase ps x y) m left → EndOf p m) × Ends ps left
+Ends (p ∷ ps) left = ((m : List StreamToken) (x y : Gathered) → At (ElementsPhrase ps x y) m left → EndOf p m) × Ends ps left
 
-pub elements_at : (op : OpName) (ps : List FormatElement) (g h : Gathered) {s left : List Symbol} → Ends ps left → At (ElementsPhrase ps g h) s left
+pub elements_at : (op : OpName) (ps : List FormatElement) (g h : Gathered) {s left : List StreamToken} → Ends ps left → At (ElementsPhrase ps g h) s left
     → elements_text op ps g s ≡ Ok (h, left)
 elements_at op [] g h {s} {left} end a =
     let (same, p) = at_where a in

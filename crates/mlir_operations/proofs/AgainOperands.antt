@@ -3,10 +3,10 @@ use Rattle.std.proofs.Common.{◌≡◌, ◌⊎◌, ℕ, ◌<◌, true, false, L
 use Rattle.diag.specs.declared.refusal.OpName.{OpName}
 use Rattle.hw_model.specs.Types.{Name}
 use Rattle.mlir_lexer.specs.Contents.{content_of}
-use Rattle.mlir_lexer.specs.Tokens.{Lexeme}
+use Rattle.mlir_lexer.specs.Tokens.{TextToken}
 use Rattle.mlir_lexer.specs.declared.token.TokenKind.{TokenKind}
 use Rattle.mlir_lexer.specs.declared.token.TokenKind.TheVariants as kind
-use Rattle.mlir_syntax.specs.Stream.{Symbol, is_next}
+use Rattle.mlir_syntax.specs.Stream.{StreamToken, is_next}
 use Rattle.mlir_lexer.specs.TokenKinds.{is_kind}
 use Rattle.mlir_syntax.specs.Reads.{some_items}
 use Rattle.mlir_syntax.specs.Numerals.{number_in, number_below, count_limit}
@@ -24,14 +24,14 @@ again_value_name op = record {
 }
 
 -- no number within a pack stands there
-abbrev pub NoNumber : List Symbol → Type 0
+abbrev pub NoNumber : List StreamToken → Type 0
 NoNumber s = is_next kind.ResultNumber s ≡ false
 
 -- a number within a pack
 abbrev PackToken : ℕ → Phrase
-PackToken n = One (λ (t : Lexeme). (t.kind ≡ kind.ResultNumber) × (number_in 10 0 (content_of kind.ResultNumber t.text) ≡ n))
+PackToken n = One (λ (t : TextToken). (t.kind ≡ kind.ResultNumber) × (number_in 10 0 (content_of kind.ResultNumber t.text) ≡ n))
 
-pack_at : (op : OpName) (n : ℕ) {s left : List Symbol} → NoNumber left → At (Where (n ≡ 0) Nothing) s left ⊎ At (Where (n < count_limit) (PackToken n)) s left
+pack_at : (op : OpName) (n : ℕ) {s left : List StreamToken} → NoNumber left → At (Where (n ≡ 0) Nothing) s left ⊎ At (Where (n < count_limit) (PackToken n)) s left
     → pack_number op s ≡ Ok (n, left)
 unfolding pack_number
 pack_at op n {s} {left} clear (inl h) =
@@ -43,7 +43,7 @@ pack_at op n {s} {left} clear (inr h) =
     let (t, q, e) = want_at op {k = kind.ResultNumber} (λ t q. q.0) p in
     if_true _ (is_pack p) (on_ok _ e (limited_is count_limit op s left n (number_in 10 0 (content_of kind.ResultNumber t.text)) small q.1))
   where
-    is_pack : {n : ℕ} {s left : List Symbol} → At (PackToken n) s left → is_next kind.ResultNumber s ≡ true
+    is_pack : {n : ℕ} {s left : List StreamToken} → At (PackToken n) s left → is_next kind.ResultNumber s ≡ true
     is_pack h = starts_test (λ t. is_kind t.kind kind.ResultNumber) true (λ t e. is_kind_of e) (starts (leads_one (λ t p. p.0)) h)
 
 pub again_operand : (op : OpName) → Again NoNumber (operand_text op) OperandPhrase
@@ -54,27 +54,27 @@ again_operand op = record {
       on_ok _ ((again_value_name op).gives o.name s m a tt) (on_ok _ (pack_at op o.number clear (at_either b)) refl);
 }
 
-pub leads_operand : {T : Lexeme → Type 0} (o : OperandName) → ((t : Lexeme) → t.kind ≡ kind.ValueName → T t) → Leads T (OperandPhrase o)
+pub leads_operand : {T : TextToken → Type 0} (o : OperandName) → ((t : TextToken) → t.kind ≡ kind.ValueName → T t) → Leads T (OperandPhrase o)
 leads_operand o to = leads_then (leads_holding to)
 
-pub no_number : (k : TokenKind) {s left : List Symbol} → is_kind k kind.ResultNumber ≡ false → At (Mark k) s left → NoNumber s
+pub no_number : (k : TokenKind) {s left : List StreamToken} → is_kind k kind.ResultNumber ≡ false → At (Mark k) s left → NoNumber s
 no_number k other h = no_mark kind.ResultNumber other h
 
 -- ---- names of results
 
 -- no value stands there
-abbrev pub NoValue : List Symbol → Type 0
+abbrev pub NoValue : List StreamToken → Type 0
 NoValue s = is_next kind.ValueName s ≡ false
 
-pub leads_value : {T : Lexeme → Type 0} (name : Name) → ((t : Lexeme) → t.kind ≡ kind.ValueName → T t) → Leads T (ValueName name)
+pub leads_value : {T : TextToken → Type 0} (name : Name) → ((t : TextToken) → t.kind ≡ kind.ValueName → T t) → Leads T (ValueName name)
 leads_value name to = leads_holding to
 
-is_value : {P : Phrase} {s left : List Symbol} → Leads (λ t. t.kind ≡ kind.ValueName) P → At P s left → is_next kind.ValueName s ≡ true
+is_value : {P : Phrase} {s left : List StreamToken} → Leads (λ t. t.kind ≡ kind.ValueName) P → At P s left → is_next kind.ValueName s ≡ true
 is_value leads h =
     starts_test (λ t. is_kind t.kind kind.ValueName) true (λ t e. is_kind_of e)
     (starts leads h)
 
-results_at : (op : OpName) (r : ResultNames) {s left : List Symbol} → NoValue left → At (ResultsPhrase r) s left → maybe_results op s ≡ Ok (r, left)
+results_at : (op : OpName) (r : ResultNames) {s left : List StreamToken} → NoValue left → At (ResultsPhrase r) s left → maybe_results op s ≡ Ok (r, left)
 unfolding maybe_results results_text names_after
 results_at op no_names clear h =
     let same = at_nothing h in

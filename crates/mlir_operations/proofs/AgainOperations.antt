@@ -6,19 +6,19 @@ use Rattle.opcode.specs.declared.listed.Listed.{Listed}
 use Rattle.opcode.specs.declared.listed.Listed.TheVariants as listed
 use Rattle.opcode.specs.Listed.{name_of_listed}
 use Rattle.hw_model.specs.Design.{same_name}
-use Rattle.mlir_lexer.specs.Tokens.{Lexeme}
+use Rattle.mlir_lexer.specs.Tokens.{TextToken}
 use Rattle.mlir_lexer.specs.declared.token.TokenKind.{TokenKind}
 use Rattle.mlir_lexer.specs.declared.token.TokenKind.TheVariants as kind
-use Rattle.mlir_syntax.specs.Stream.{Symbol, token, is_first, is_next, is_word, unexpected_refusal}
+use Rattle.mlir_syntax.specs.Stream.{StreamToken, token, is_first, is_next, is_word, unexpected_refusal}
 use Rattle.mlir_lexer.specs.TokenKinds.{is_kind}
 use Rattle.mlir_syntax.specs.Reads.{on}
 use Rattle.mlir_operations.specs.OperandText.{ResultNames}
 use Rattle.mlir_operations.specs.OperandText.ResultNames.{no_names, names, pack}
 use Rattle.assembly_format.specs.Formats.{format_of}
 use Rattle.mlir_operations.specs.OperationText.{OperationText, operation, class_of, bin_text, form_text, named_operation, classed_operation, operation_after, operation_text, is_last, operations_text}
-use Rattle.canonical_form.specs.Dictionaries.{takes_bin, string_keys}
+use Rattle.stored_form.specs.Dictionaries.{takes_bin, string_keys}
 use Rattle.mlir_syntax.specs.Spelling.{Phrase, Mark, Then}
-use Rattle.mlir_operations.specs.Spelling.{ValueName, ResultsPhrase, BinPhrase, FormPhrase, TailPhrase, StandsInBody, OperationPhrase, OperationsPhrase, IsPlaceOf}
+use Rattle.mlir_operations.specs.Spelling.{ValueName, ResultsPhrase, BinPhrase, FormPhrase, TailPhrase, StandsInBody, OperationPhrase, OperationsPhrase, IsLocationOf}
 use Rattle.mlir_syntax.proofs.Again.{At, at_then, at_one, at_where, at_nothing, on_ok, if_true, if_false, Leads, leads_one, leads_then, leads_where, starts, starts_test, shorter}
 use Rattle.mlir_syntax.proofs.AgainTokens.{is_kind_of, unlike, no_word, other_word, next_at, no_next, leads_commas, no_mark}
 use Rattle.mlir_operations.proofs.AgainOperands.{NoValue, again_results, leads_value}
@@ -47,33 +47,33 @@ no_bin_name _ = refl
 -- ---- what an operation begins with
 
 -- a value or the operation's name
-abbrev BeginsOperation : OperationText → Lexeme → Type 0
+abbrev BeginsOperation : OperationText → TextToken → Type 0
 BeginsOperation o t = (t.kind ≡ kind.ValueName) ⊎ ((t.kind ≡ kind.BareName) × (t.text ≡ name_of_listed o.name))
 
-leads_results : {T : Lexeme → Type 0} {Q : Phrase} (r : ResultNames) → ((t : Lexeme) → t.kind ≡ kind.ValueName → T t) → Leads T Q → Leads T (Then (ResultsPhrase r) Q)
+leads_results : {T : TextToken → Type 0} {Q : Phrase} (r : ResultNames) → ((t : TextToken) → t.kind ≡ kind.ValueName → T t) → Leads T Q → Leads T (Then (ResultsPhrase r) Q)
 leads_results no_names value following = record {
   lead = λ ts p. let (t, c, e, h) = following.lead p.1 p.4 in (t, c, p.2 ∙ ap (λ x. x ++ p.1) p.3 ∙ e, h);
 }
 leads_results (names n ns) value following = leads_then (leads_then (leads_commas ValueName n ns (leads_value n value)))
 leads_results (pack n k) value following = leads_then (leads_then (leads_value n value))
 
-leads_operation : (o : OperationText) → Leads (BeginsOperation o) (OperationPhrase IsPlaceOf o)
+leads_operation : (o : OperationText) → Leads (BeginsOperation o) (OperationPhrase IsLocationOf o)
 leads_operation o = leads_where (leads_results o.results (λ t k. inl k) (leads_then (leads_one (λ t p. inr (p.0, p.1)))))
 
 -- what the start of an operation is not
-not_begun : (test : Lexeme → Bool) (o : OperationText) → ((t : Lexeme) → t.kind ≡ kind.ValueName → test t ≡ false)
-    → ((t : Lexeme) → t.kind ≡ kind.BareName → t.text ≡ name_of_listed o.name → test t ≡ false) → (t : Lexeme) → BeginsOperation o t → test t ≡ false
+not_begun : (test : TextToken → Bool) (o : OperationText) → ((t : TextToken) → t.kind ≡ kind.ValueName → test t ≡ false)
+    → ((t : TextToken) → t.kind ≡ kind.BareName → t.text ≡ name_of_listed o.name → test t ≡ false) → (t : TextToken) → BeginsOperation o t → test t ≡ false
 not_begun test o value name t (inl k) = value t k
 not_begun test o value name t (inr p) = name t p.0 p.1
 
-operation_first : (test : Lexeme → Bool) (o : OperationText) → ((t : Lexeme) → t.kind ≡ kind.ValueName → test t ≡ false)
-    → ((t : Lexeme) → t.kind ≡ kind.BareName → t.text ≡ name_of_listed o.name → test t ≡ false) → (s left : List Symbol) → At (OperationPhrase IsPlaceOf o) s left
+operation_first : (test : TextToken → Bool) (o : OperationText) → ((t : TextToken) → t.kind ≡ kind.ValueName → test t ≡ false)
+    → ((t : TextToken) → t.kind ≡ kind.BareName → t.text ≡ name_of_listed o.name → test t ≡ false) → (s left : List StreamToken) → At (OperationPhrase IsLocationOf o) s left
     → is_first test s ≡ false
 operation_first test o value name s left a = starts_test test false (not_begun test o value name) (starts (leads_operation o) a)
 
 -- ---- an operation
 
-bin_at : (o : Listed) (b : Bool) {s left : List Symbol} → is_first (is_word (codes "bin")) left ≡ false → At (BinPhrase o b) s left → bin_text o s ≡ Ok (b, left)
+bin_at : (o : Listed) (b : Bool) {s left : List StreamToken} → is_first (is_word (codes "bin")) left ≡ false → At (BinPhrase o b) s left → bin_text o s ≡ Ok (b, left)
 unfolding bin_text
 bin_at o false clear a =
     let same = at_nothing a in
@@ -84,8 +84,8 @@ bin_at o true clear a =
     if_true _ (and_from (takes_bin o) _ takes next) (ap (λ y. Ok (true, y)) following)
 
 -- what is after an operation's name
-named_at : (o : OperationText) {s left : List Symbol} → OperationEnd left → (is_last o.name ≡ true → NoValue left)
-    → At (Then (BinPhrase o.name o.bin) (TailPhrase o)) s left → named_operation o.results o.name o.place s ≡ Ok (o, left)
+named_at : (o : OperationText) {s left : List StreamToken} → OperationEnd left → (is_last o.name ≡ true → NoValue left)
+    → At (Then (BinPhrase o.name o.bin) (TailPhrase o)) s left → named_operation o.results o.name o.location s ≡ Ok (o, left)
 unfolding named_operation
 named_at o {s} {left} last out a =
     let (m, b, c) = at_then a in
@@ -99,7 +99,7 @@ named_at o {s} {left} last out a =
     (on_ok _ (ap (λ x. form_text (op.Listed o.name) (string_keys o.name) x m) same
     ∙ form_at (op.Listed o.name) (string_keys o.name) (format_of o.name next) o.gathered o.dictionary last shaped) refl)
 
-operation_at : (o : OperationText) {s left : List Symbol} → OperationEnd left → (is_last o.name ≡ true → NoValue left) → At (OperationPhrase IsPlaceOf o) s left
+operation_at : (o : OperationText) {s left : List StreamToken} → OperationEnd left → (is_last o.name ≡ true → NoValue left) → At (OperationPhrase IsLocationOf o) s left
     → operation_text s ≡ Ok (o, left)
 unfolding operation_text operation_after classed_operation
 operation_at o {s} {left} last out a =
@@ -115,7 +115,7 @@ operation_at o {s} {left} last out a =
 
 -- ---- operations
 
-brace_end : {s left : List Symbol} → At (Mark kind.RightBrace) s left → OperationEnd s
+brace_end : {s left : List StreamToken} → At (Mark kind.RightBrace) s left → OperationEnd s
 brace_end a = record {
   no_number = no_mark kind.ResultNumber refl a;
   no_comma = no_mark kind.Comma refl a;
@@ -124,11 +124,11 @@ brace_end a = record {
   no_brace = no_mark kind.LeftBrace refl a;
 }
 
-no_kind : (o : OperationText) (k : TokenKind) → is_kind kind.ValueName k ≡ false → is_kind kind.BareName k ≡ false → (s left : List Symbol) → At (OperationPhrase IsPlaceOf o) s left
+no_kind : (o : OperationText) (k : TokenKind) → is_kind kind.ValueName k ≡ false → is_kind kind.BareName k ≡ false → (s left : List StreamToken) → At (OperationPhrase IsLocationOf o) s left
     → is_next k s ≡ false
 no_kind o k value name s left a = operation_first (λ t. is_kind t.kind k) o (unlike k kind.ValueName value) (λ t e _. unlike k kind.BareName name t e) s left a
 
-operation_end : (o : OperationText) {s left : List Symbol} → At (OperationPhrase IsPlaceOf o) s left → OperationEnd s
+operation_end : (o : OperationText) {s left : List StreamToken} → At (OperationPhrase IsLocationOf o) s left → OperationEnd s
 operation_end o {s} {left} a = record {
   no_number = no_kind o kind.ResultNumber refl refl s left a;
   no_comma = no_kind o kind.Comma refl refl s left a;
@@ -137,7 +137,7 @@ operation_end o {s} {left} a = record {
   no_brace = no_kind o kind.LeftBrace refl refl s left a;
 }
 
-operations_end : (os : List OperationText) {s m left : List Symbol} → At (Mark kind.RightBrace) m left → At (OperationsPhrase IsPlaceOf os) s m → OperationEnd s
+operations_end : (os : List OperationText) {s m left : List StreamToken} → At (Mark kind.RightBrace) m left → At (OperationsPhrase IsLocationOf os) s m → OperationEnd s
 operations_end [] close a = subst OperationEnd (sym (at_nothing a)) (brace_end close)
 operations_end (o ∷ os) close a =
     let (once, p) = at_where a in
@@ -145,17 +145,17 @@ operations_end (o ∷ os) close a =
     operation_end o b
 
 -- what stands after an output
-output_last : (os : List OperationText) {s m left : List Symbol} → os ≡ [] → At (Mark kind.RightBrace) m left → At (OperationsPhrase IsPlaceOf os) s m
+output_last : (os : List OperationText) {s m left : List StreamToken} → os ≡ [] → At (Mark kind.RightBrace) m left → At (OperationsPhrase IsLocationOf os) s m
     → (s ≡ m) × NoValue s × (is_next kind.RightBrace s ≡ true)
 output_last os {s} {m} none close a =
-    let nothing : At (OperationsPhrase IsPlaceOf []) s m = subst (λ x. At (OperationsPhrase IsPlaceOf x) s m) none a in
+    let nothing : At (OperationsPhrase IsLocationOf []) s m = subst (λ x. At (OperationsPhrase IsLocationOf x) s m) none a in
     let same : s ≡ m = at_nothing nothing in
     let (next, following) = next_at close in
     (same, ap (is_next kind.ValueName) same ∙ no_mark kind.ValueName refl close, ap (is_next kind.RightBrace) same ∙ next)
 
 -- an operation is the last, or further ones stand after it
-last_or_more : (n : ℕ) (o : OperationText) (os : List OperationText) {k m left : List Symbol} (b : Bool) → (b ≡ true → os ≡ []) → At (Mark kind.RightBrace) m left
-    → At (OperationsPhrase IsPlaceOf os) k m → operations_text n k ≡ Ok (os, m)
+last_or_more : (n : ℕ) (o : OperationText) (os : List OperationText) {k m left : List StreamToken} (b : Bool) → (b ≡ true → os ≡ []) → At (Mark kind.RightBrace) m left
+    → At (OperationsPhrase IsLocationOf os) k m → operations_text n k ≡ Ok (os, m)
     → cond b (cond (is_next kind.RightBrace k) (Ok (o ∷ [], k)) (Err (unexpected_refusal (op.Listed listed.HwModule) k)))
     (on (operations_text n k) (λ os following. Ok (o ∷ os, following))) ≡ Ok (o ∷ os, m)
 last_or_more n o os true once close c more =
@@ -163,7 +163,7 @@ last_or_more n o os true once close c more =
     if_true _ next (ap₂ (λ x y. Ok (o ∷ x, y)) (sym (once refl)) same)
 last_or_more n o os false once close c more = on_ok _ more refl
 
-operations_at : (n : ℕ) (os : List OperationText) {s m left : List Symbol} → At (Mark kind.RightBrace) m left → At (OperationsPhrase IsPlaceOf os) s m → length s ≤ n
+operations_at : (n : ℕ) (os : List OperationText) {s m left : List StreamToken} → At (Mark kind.RightBrace) m left → At (OperationsPhrase IsLocationOf os) s m → length s ≤ n
     → operations_text n s ≡ Ok (os, m)
 unfolding operations_text
 operations_at zero [] {s} {m} close a le =
@@ -187,6 +187,6 @@ operations_at (suc n) (o ∷ os) {s} {m} close a le =
     (last_or_more n o os (is_last o.name) once close c (operations_at n os close c (omega (arith, short, le)))))
 
 -- the operations of a body, up to its closing brace
-pub body_at : (os : List OperationText) {s m left : List Symbol} → At (Mark kind.RightBrace) m left → At (OperationsPhrase IsPlaceOf os) s m
+pub body_at : (os : List OperationText) {s m left : List StreamToken} → At (Mark kind.RightBrace) m left → At (OperationsPhrase IsLocationOf os) s m
     → operations_text (length s) s ≡ Ok (os, m)
 body_at os {s} close a = operations_at (length s) os close a (omega arith)

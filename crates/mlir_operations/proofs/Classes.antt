@@ -8,7 +8,7 @@ use Rattle.opcode.proofs.Names.{listed_operations}
 use Rattle.opcode.specs.declared.listed.Listed.{Listed}
 use Rattle.opcode.specs.declared.listed.Listed.TheVariants as listed
 use Rattle.mlir_operations.specs.OperationText.{class_of, class_by, known_dialects, is_foreign, class_of_listed, class_of_other}
-use Rattle.canonical_form.specs.Dictionaries.{dialect}
+use Rattle.stored_form.specs.Dictionaries.{dialect}
 
 -- a listed operation is the first of its name
 first_of : (o : Listed) → first_named (name_of_listed o) listed_operations ≡ Some o

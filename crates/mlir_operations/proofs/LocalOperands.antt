@@ -1,4 +1,4 @@
--- The readers of operands and of the names of results look no further than one symbol.
+-- The readers of operands and of the names of results look no further than one token.
 use Rattle.std.proofs.Common.{[]}
 use Rattle.diag.specs.declared.refusal.OpName.{OpName}
 use Rattle.hw_model.specs.Types.{Name}

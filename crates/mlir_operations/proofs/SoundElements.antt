@@ -1,24 +1,25 @@
 -- What is read of the pieces of operations is said by their tokens.
-use Rattle.std.proofs.Common.{◌≡◌, ℕ, zero, suc, Bool, true, false, cond, List, [], ◌∷◌, ◌++◌, length, Option, Some, None, Ok, refl, sym, ◌∙◌, ap, subst, inl, inr}
+use Rattle.std.proofs.Common.{◌≡◌, ℕ, zero, suc, Bool, true, false, cond, List, [], ◌∷◌, ◌++◌, length, Option, Some, None, Ok, refl, sym, ◌∙◌, ap, subst, inl, inr, option_and_then}
 use Rattle.std.specs.Prelude.{codes}
 use Rattle.std.proofs.lemmas.Bool.{cond_both}
 use Rattle.std.proofs.lemmas.List.{append-nil}
 use Rattle.std.specs.Cmp.Lexicographic.{bytes_decides}
-use Rattle.wiring.specs.Options.{bind}
 use Rattle.diag.specs.declared.refusal.OpName.{OpName}
 use Rattle.hw_model.specs.Types.{HwType}
 use Rattle.hw_model.specs.Types.HwType.{int}
 use Rattle.hw_model.specs.Design.{same_name}
 use Rattle.mlir_lexer.specs.Contents.{content_of}
-use Rattle.mlir_lexer.specs.Tokens.{Lexeme}
+use Rattle.mlir_lexer.specs.Tokens.{TextToken}
 use Rattle.mlir_lexer.specs.declared.token.TokenKind.TheVariants as kind
-use Rattle.mlir_syntax.specs.Stream.{Symbol, token, bad, end, first, is_next, is_word}
+use Rattle.mlir_syntax.specs.Stream.{StreamToken, token, bad, end, first, is_next, is_word}
 use Rattle.mlir_lexer.specs.TokenKinds.{is_kind}
 use Rattle.mlir_syntax.specs.Numerals.{count_limit}
 use Rattle.mlir_syntax.specs.TypeText.{any_type, most_open}
 use Rattle.mlir_operations.specs.OperandText.{OperandName}
 use Rattle.assembly_format.specs.Formats.{text_of_keyword}
-use Rattle.mlir_operations.specs.ElementText.{InherentAttributes, Gathered, with_operands, with_types, with_inherent, truth_number, group_text, further_types, types_text, reset_operands, reset_text, reset_mode, sync_or_async_reset_text, input_text, output_text, inputs_text, outputs_text, instance_with, with_instance, instance_text, element_text, elements_text}
+use Rattle.mlir_operations.specs.ElementText.{InherentAttributes, Gathered, with_operands, with_types, with_inherent, truth_number, group_text, further_types, types_text, reset_operands, reset_text}
+use Rattle.mlir_operations.specs.ElementText.{reset_mode, sync_or_async_reset_text, input_text, output_text, inputs_text, outputs_text, instance_with, with_instance, instance_text, element_text}
+use Rattle.mlir_operations.specs.ElementText.{elements_text}
 use Rattle.mlir_syntax.specs.WordText.{predicate_named, bare_text, as_known, predicate_text, truth_named, truth_text, string_text, inner_symbol, module_symbol}
 use Rattle.mlir_operations.specs.ElementText.InherentAttributes.{with_reset, with_async_reset, predicate, position, number, literals, field_name}
 use Rattle.mlir_syntax.specs.Spelling.{Phrase, Mark, Word, Holding, Then, Either, Where, Commas, Between, SymbolPhrase, TruthWord, TypePhrase}
@@ -37,17 +38,17 @@ use Rattle.mlir_operations.proofs.SoundOperands.{sound_operand}
 abbrev Known : {A : Type 0} → (List ℕ → Option A) → A → Phrase
 Known f x ts = (name : List ℕ) × (f name ≡ Some x) × Word name ts
 
-found_ok : {A : Type 0} (op : OpName) (f : List ℕ → Option A) (t : Lexeme) (ts left : List Symbol) (x : A) (o : Option A) → t.kind ≡ kind.BareName → f t.text ≡ o
+found_ok : {A : Type 0} (op : OpName) (f : List ℕ → Option A) (t : TextToken) (ts left : List StreamToken) (x : A) (o : Option A) → t.kind ≡ kind.BareName → f t.text ≡ o
     → as_known op (token t ∷ ts) o ≡ Ok (x, left) → Said (Known f x) (token t ∷ ts) left
 found_ok op f t ts left x None k e h = absurd cc
 found_ok op f t ts left x (Some y) k e h =
     same_ok y x ts left (λ z l. Said (Known f z) (token t ∷ ts) l) h (t ∷ [], refl, (t.text, e, (t, refl, (k, refl))))
 
-known_ok : {A : Type 0} (op : OpName) (f : List ℕ → Option A) (s left : List Symbol) (x : A) → as_known op s (bind (bare_text (first s)) f) ≡ Ok (x, left)
+known_ok : {A : Type 0} (op : OpName) (f : List ℕ → Option A) (s left : List StreamToken) (x : A) → as_known op s (option_and_then f (bare_text (first s))) ≡ Ok (x, left)
     → Said (Known f x) s left
 known_ok op f [] left x h = absurd cc
 known_ok op f (token t ∷ ts) left x h =
-    cond_both (is_kind t.kind kind.BareName) (Some t.text) None (λ o. as_known op (token t ∷ ts) (bind o f) ≡ Ok (x, left) → Said (Known f x) (token t ∷ ts) left)
+    cond_both (is_kind t.kind kind.BareName) (Some t.text) None (λ o. as_known op (token t ∷ ts) (option_and_then f o) ≡ Ok (x, left) → Said (Known f x) (token t ∷ ts) left)
     (λ c g. found_ok op f t ts left x (f t.text) (kind_is t.kind kind.BareName c) refl g) (λ _ g. absurd cc) h
 known_ok op f (bad p ∷ ts) left x h = absurd cc
 known_ok op f (end p ∷ ts) left x h = absurd cc
@@ -86,7 +87,7 @@ sound_group op =
 
 -- so many types that go on a list
 abbrev GoOn : ℕ → List HwType → Phrase
-GoOn n l ts = (length l ≡ n) × ((x : HwType) (a : List Lexeme) → TypePhrase most_open x a → Commas (TypePhrase most_open) (x ∷ l) (a ++ ts))
+GoOn n l ts = (length l ≡ n) × ((x : HwType) (a : List TextToken) → TypePhrase most_open x a → Commas (TypePhrase most_open) (x ∷ l) (a ++ ts))
 
 sound_further : (op : OpName) (n : ℕ) → Sound (further_types op n) (GoOn n)
 unfolding further_types any_type
@@ -134,7 +135,7 @@ sound_mode op =
     (sound_last (λ _. with_reset) (sound_word op (codes "sync")) (λ _ a p. inl (refl, p)))
 
 -- `reset`, such a word and two operands
-mode_said : (e : InherentAttributes) (g h : Gathered) (t : Lexeme) (a b : List Lexeme) → is_word (codes "reset") t ≡ true → ResetMode e a
+mode_said : (e : InherentAttributes) (g h : Gathered) (t : TextToken) (a b : List TextToken) → is_word (codes "reset") t ≡ true → ResetMode e a
     → ResetOperands e g h b → FormatElementPhrase element.SyncOrAsyncReset g h (t ∷ (a ++ b))
 mode_said e g h t a b reset (inl (says, word)) (r, v, same, p) =
     inl (r, v, same ∙ ap (with_inherent (with_operands g (r ∷ v ∷ []))) says, pair (t ∷ a) b (pair (t ∷ []) a (said_word reset) word) p)
@@ -192,7 +193,7 @@ sound_instance op g =
 
 -- ---- pieces
 
-operands_said : (g : Gathered) (os : List OperandName) (a : List Lexeme) → Several OperandPhrase os a → FormatElementPhrase element.Operands g (with_operands g os) a
+operands_said : (g : Gathered) (os : List OperandName) (a : List TextToken) → Several OperandPhrase os a → FormatElementPhrase element.Operands g (with_operands g os) a
 operands_said g [] a p = absurd p
 operands_said g (o ∷ os) a p = (o, os, refl, p)
 

@@ -4,9 +4,9 @@ use Rattle.std.proofs.lemmas.List.{append_assoc}
 use Rattle.diag.specs.declared.refusal.OpName.{OpName}
 use Rattle.hw_model.specs.Types.{Name}
 use Rattle.mlir_lexer.specs.Contents.{content_of}
-use Rattle.mlir_lexer.specs.Tokens.{Lexeme}
+use Rattle.mlir_lexer.specs.Tokens.{TextToken}
 use Rattle.mlir_lexer.specs.declared.token.TokenKind.TheVariants as kind
-use Rattle.mlir_syntax.specs.Stream.{Symbol, is_next}
+use Rattle.mlir_syntax.specs.Stream.{StreamToken, is_next}
 use Rattle.mlir_syntax.specs.Reads.{on, want}
 use Rattle.mlir_syntax.specs.Numerals.{number_in, below_limit, count_limit}
 use Rattle.mlir_operations.specs.OperandText.{value_name, pack_number, operand_text, ResultNames, no_names, names, pack, names_after, results_text, maybe_results}
@@ -23,9 +23,9 @@ sound_value_name op = sound_last (λ t. content_of kind.ValueName t.text) (sound
 abbrev PackPhrase : ℕ → Phrase
 PackPhrase n =
     Either (Where (n ≡ 0) Nothing)
-    (Where (n < count_limit) (One (λ (t : Lexeme). (t.kind ≡ kind.ResultNumber) × (number_in 10 0 (content_of kind.ResultNumber t.text) ≡ n))))
+    (Where (n < count_limit) (One (λ (t : TextToken). (t.kind ≡ kind.ResultNumber) × (number_in 10 0 (content_of kind.ResultNumber t.text) ≡ n))))
 
-pack_ok : (op : OpName) (s left : List Symbol) (n : ℕ)
+pack_ok : (op : OpName) (s left : List StreamToken) (n : ℕ)
     → on (want op kind.ResultNumber s) (λ t left. below_limit count_limit op s (number_in 10 0 (content_of kind.ResultNumber t.text)) left) ≡ Ok (n, left)
     → Said (PackPhrase n) s left
 pack_ok op s left n h =
@@ -45,7 +45,7 @@ sound_operand op =
 
 -- what stands between a first name and `=`
 abbrev AfterName : Name → ResultNames → Phrase
-AfterName name r b = (a : List Lexeme) → ValueName name a → (c : List Lexeme) → Mark kind.Equals c → ResultsPhrase r (a ++ (b ++ c))
+AfterName name r b = (a : List TextToken) → ValueName name a → (c : List TextToken) → Mark kind.Equals c → ResultsPhrase r (a ++ (b ++ c))
 
 sound_names_after : (op : OpName) (name : Name) → Sound (names_after op name) (AfterName name)
 unfolding names_after

@@ -1,15 +1,15 @@
 -- The text of modules and of a file (CIRCT, HW dialect: `hw.module`; MLIR, builtin dialect: `builtin.module`).
 use Rattle.std.specs.Prelude.{ℕ, zero, suc, Bool, true, false, cond, List, [], ◌∷◌, ◌++◌, length, Option, Some, None, Ok, Err, codes}
-use Rattle.diag.specs.declared.refusal.Place.{Place}
+use Rattle.diag.specs.declared.refusal.Location.{Location}
 use Rattle.diag.specs.declared.refusal.OpName.{OpName}
 use Rattle.diag.specs.declared.refusal.OpName.TheVariants as op
 use Rattle.opcode.specs.declared.listed.Listed.TheVariants as listed
 use Rattle.hw_model.specs.Types.{Name, HwType}
 use Rattle.hw_model.specs.Design.{Entry}
 use Rattle.mlir_lexer.specs.Contents.{content_of}
-use Rattle.mlir_lexer.specs.Tokens.{Lexeme}
+use Rattle.mlir_lexer.specs.Tokens.{TextToken}
 use Rattle.mlir_lexer.specs.declared.token.TokenKind.TheVariants as kind
-use Rattle.mlir_syntax.specs.Stream.{is_end, Symbol, token, bad, end, is_first, is_next, is_word, after, unexpected_refusal}
+use Rattle.mlir_syntax.specs.Stream.{is_end, StreamToken, token, bad, end, is_first, is_next, is_word, after, unexpected_refusal}
 use Rattle.mlir_lexer.specs.TokenKinds.{is_kind}
 use Rattle.mlir_syntax.specs.Reads.{Reads, Read, on, want, items_until}
 use Rattle.mlir_syntax.specs.TypeText.{any_type, name_text}
@@ -17,7 +17,7 @@ use Rattle.mlir_syntax.specs.AttributeText.{dictionary_text, is_symbol}
 use Rattle.mlir_operations.specs.OperandText.{value_name}
 use Rattle.mlir_syntax.specs.WordText.{symbol_text, module_symbol}
 use Rattle.mlir_operations.specs.OperationText.{OperationText, NameClass, operation, module_name, file_name, locations, outside, unknown, class_of, misplaced_refusal, no_operation, operations_text}
-use Rattle.canonical_form.specs.Dictionaries.{module_keys}
+use Rattle.stored_form.specs.Dictionaries.{module_keys}
 
 -- the operation that refusals in a module's header name
 abbrev pub header : OpName
@@ -80,15 +80,15 @@ ports_text s =
 
 -- ---- modules
 
--- a module as its text says it, with the place of its closing brace
+-- a module as its text says it, with the location of its closing brace
 pub record ModuleText : Type 0 where
   pub symbol : Name
   pub is_private : Bool
   pub ports : List PortText
   pub dictionary : List Entry
   pub operations : List OperationText
-  pub place : Place
-  pub close : Place
+  pub location : Location
+  pub close : Location
 
 -- `attributes {..}`, or nothing
 unfoldable pub attributes_text : OpName → Reads (List Entry)
@@ -103,24 +103,24 @@ private_text s = cond (is_first (is_word (codes "private")) s) (Ok (true, after 
 pub record BodyText : Type 0 where
   pub dictionary : List Entry
   pub operations : List OperationText
-  pub close : Place
+  pub close : Location
 
 -- `[attributes {..}] { OPERATIONS }`
 unfoldable pub body_text : Reads BodyText
 body_text s =
     on (attributes_text header s) (λ es s1. on (want header kind.LeftBrace s1) (λ _ s2. on (operations_text (length s2) s2) (λ os s3.
-    on (want header kind.RightBrace s3) (λ t s4. Ok (record { dictionary = es; operations = os; close = t.place }, s4)))))
+    on (want header kind.RightBrace s3) (λ t s4. Ok (record { dictionary = es; operations = os; close = t.location }, s4)))))
 
 -- a module after its name
-unfoldable pub module_after : Place → Reads ModuleText
-module_after place s =
+unfoldable pub module_after : Location → Reads ModuleText
+module_after location s =
     on (private_text s) (λ p s1. on (module_symbol header s1) (λ n s2. on (ports_text s2) (λ ports s3. on (body_text s3) (λ b s4.
-    Ok (record { symbol = n; is_private = p; ports = ports; dictionary = b.dictionary; operations = b.operations; place = place; close = b.close }, s4)))))
+    Ok (record { symbol = n; is_private = p; ports = ports; dictionary = b.dictionary; operations = b.operations; location = location; close = b.close }, s4)))))
 
 -- a module whose name is of this class, where refusals name what is around
-unfoldable pub classed_module : List Symbol → Lexeme → NameClass → Read ModuleText
+unfoldable pub classed_module : List StreamToken → TextToken → NameClass → Read ModuleText
 classed_module s t (operation o) = Err (misplaced_refusal op.File s t (operation o))
-classed_module s t module_name = module_after t.place (after s)
+classed_module s t module_name = module_after t.location (after s)
 classed_module s t file_name = Err (misplaced_refusal op.File s t file_name)
 classed_module s t locations = Err (misplaced_refusal op.File s t locations)
 classed_module s t outside = Err (misplaced_refusal op.File s t outside)
@@ -137,7 +137,7 @@ module_text (end p ∷ ts) = Err (no_operation op.File (end p ∷ ts))
 -- ---- files
 
 -- modules up to where a test holds, so many at most
-unfoldable pub modules_text : (List Symbol → Bool) → ℕ → Reads (List ModuleText)
+unfoldable pub modules_text : (List StreamToken → Bool) → ℕ → Reads (List ModuleText)
 modules_text ends zero s = Err (unexpected_refusal op.File s)
 modules_text ends (suc n) s =
     cond (ends s) (Ok ([], s)) (on (module_text s) (λ m left. on (modules_text ends n left) (λ ms following. Ok (m ∷ ms, following))))
@@ -157,7 +157,7 @@ wrapped_text s =
     on (modules_text (is_next kind.RightBrace) (length s3) s3) (λ ms s4. on (want op.File kind.RightBrace s4) (λ _ s5. want_end ms s5)))))
 
 -- whether a token is the name of a file's module
-abbrev pub is_file_name : Lexeme → Bool
+abbrev pub is_file_name : TextToken → Bool
 is_file_name t = cond (is_word (codes "module") t) true (is_word (codes "builtin.module") t)
 
 -- a file: modules, bare or in one module of the builtin dialect

@@ -1,6 +1,6 @@
 -- The text of an operation, and of the body of a module.
 use Rattle.std.specs.Prelude.{ℕ, zero, suc, Bool, true, false, cond, ◌&&◌, not, ◌==◌, List, [], ◌∷◌, length, Option, Some, None, Ok, Err, codes}
-use Rattle.diag.specs.declared.refusal.Place.{Place}
+use Rattle.diag.specs.declared.refusal.Location.{Location}
 use Rattle.diag.specs.declared.refusal.Refusal.{Refusal}
 use Rattle.diag.specs.declared.refusal.OpName.{OpName}
 use Rattle.diag.specs.declared.refusal.OpName.TheVariants as op
@@ -12,17 +12,17 @@ use Rattle.opcode.specs.Listed.{listed_operations}
 use Rattle.hw_model.specs.Types.{Name}
 use Rattle.hw_model.specs.Design.{Entry, same_name}
 use Rattle.mlir_lexer.specs.Runs.{run}
-use Rattle.mlir_lexer.specs.Tokens.{Lexeme}
+use Rattle.mlir_lexer.specs.Tokens.{TextToken}
 use Rattle.mlir_lexer.specs.declared.token.TokenKind.TheVariants as kind
-use Rattle.mlir_syntax.specs.Stream.{Symbol, token, bad, end, first, is_first, is_next, is_word, after, refusal_at, unexpected_refusal}
+use Rattle.mlir_syntax.specs.Stream.{StreamToken, token, bad, end, first, is_first, is_next, is_word, after, refusal_at, unexpected_refusal}
 use Rattle.mlir_lexer.specs.TokenKinds.{is_kind}
 use Rattle.mlir_syntax.specs.Reads.{Reads, Read, on}
 use Rattle.mlir_syntax.specs.AttributeText.{maybe_dictionary, is_among}
 use Rattle.mlir_operations.specs.OperandText.{ResultNames, maybe_results}
-use Rattle.assembly_format.specs.Formats.{format_of, front_elements, type_elements}
+use Rattle.assembly_format.specs.Formats.{format_of, prefix_elements, type_elements}
 use Rattle.mlir_operations.specs.ElementText.{Gathered, gathered_nothing, elements_text}
 use Rattle.assembly_format.specs.declared.elements.Format.{Format}
-use Rattle.canonical_form.specs.Dictionaries.{dialect, takes_bin, string_keys}
+use Rattle.stored_form.specs.Dictionaries.{dialect, takes_bin, string_keys}
 
 -- ---- names of operations
 
@@ -45,7 +45,7 @@ known_dialects = codes "hw" ∷ codes "comb" ∷ codes "seq" ∷ codes "builtin"
 abbrev pub is_foreign : Name → Bool
 is_foreign name = not (run (λ b. not (b == 46)) name == length name) && not (is_among (dialect name) known_dialects)
 
--- what a name means in an operation's or a module's place
+-- what a name means in an operation's or a module's location
 pub data NameClass : Type 0 where
   operation : Listed → NameClass
   module_name file_name locations outside unknown : NameClass
@@ -72,11 +72,11 @@ abbrev pub class_of : Name → NameClass
 class_of name = class_by name (first_named name listed_operations)
 
 -- the operation that a refusal names for a token
-abbrev pub other_name : Lexeme → OpName
+abbrev pub other_name : TextToken → OpName
 other_name t = op.Other t.at (length t.text)
 
 -- the refusal of a name where no operation of its class may stand; a location stands nowhere
-unfoldable pub misplaced_refusal : OpName → List Symbol → Lexeme → NameClass → Refusal
+unfoldable pub misplaced_refusal : OpName → List StreamToken → TextToken → NameClass → Refusal
 misplaced_refusal around s t (operation o) = refusal_at Unexpected (op.Listed o) s
 misplaced_refusal around s t module_name = refusal_at Unexpected (op.Listed listed.HwModule) s
 misplaced_refusal around s t file_name = refusal_at Unexpected op.File s
@@ -84,12 +84,12 @@ misplaced_refusal around s t locations = refusal_at OutsideProfile around s
 misplaced_refusal around s t outside = refusal_at OutsideProfile (other_name t) s
 misplaced_refusal around s t unknown = refusal_at UnknownOperation (other_name t) s
 
--- whether a token that is no name is outside the profile in an operation's place: a string, an alias
-abbrev pub is_outside : Lexeme → Bool
+-- whether a token that is no name is outside the profile in an operation's location: a string, an alias
+abbrev pub is_outside : TextToken → Bool
 is_outside t = cond (is_kind t.kind kind.StringLiteral) true (cond (is_kind t.kind kind.AttributeAlias) true (is_kind t.kind kind.TypeName))
 
--- the refusal of a first token that is no name, in an operation's or a module's place
-unfoldable pub no_operation : OpName → List Symbol → Refusal
+-- the refusal of a first token that is no name, in an operation's or a module's location
+unfoldable pub no_operation : OpName → List StreamToken → Refusal
 no_operation around s = cond (is_first is_outside s) (refusal_at OutsideProfile around s) (unexpected_refusal around s)
 
 -- ---- operations
@@ -98,14 +98,14 @@ no_operation around s = cond (is_first is_outside s) (refusal_at OutsideProfile 
 unfoldable pub bin_text : Listed → Reads Bool
 bin_text o s = cond (takes_bin o && is_first (is_word (codes "bin")) s) (Ok (true, after s)) (Ok (false, s))
 
--- an operation as its text says it: the names of its results, its name, its `bin` mark, what is gathered, its dictionary, and its place
+-- an operation as its text says it: the names of its results, its name, its `bin` mark, what is gathered, its dictionary, and its location
 pub record OperationText : Type 0 where
   pub results : ResultNames
   pub name : Listed
   pub bin : Bool
   pub gathered : Gathered
   pub dictionary : List Entry
-  pub place : Place
+  pub location : Location
 
 -- a dictionary that stands once, before the types or after them
 abbrev pub given_entries : Option (List Entry) → List Entry
@@ -125,19 +125,19 @@ pub record Tail : Type 0 where
 -- the pieces of a form, and a dictionary
 unfoldable pub form_text : OpName → List Name → Format → Reads Tail
 form_text op keys format s =
-    on (elements_text op (front_elements format) gathered_nothing s) (λ g s1. on (maybe_dictionary op keys s1) (λ es s2.
+    on (elements_text op (prefix_elements format) gathered_nothing s) (λ g s1. on (maybe_dictionary op keys s1) (λ es s2.
     on (elements_text op (type_elements format) g s2) (λ h s3. on (late_dictionary op keys es s3) (λ all s4.
     Ok (record { gathered = h; dictionary = all }, s4)))))
 
 -- an operation after its name
-unfoldable pub named_operation : ResultNames → Listed → Place → Reads OperationText
-named_operation results o place s =
+unfoldable pub named_operation : ResultNames → Listed → Location → Reads OperationText
+named_operation results o location s =
     on (bin_text o s) (λ bin s1. on (form_text (op.Listed o) (string_keys o) (format_of o (first s1)) s1) (λ t s2.
-    Ok (record { results = results; name = o; bin = bin; gathered = t.gathered; dictionary = t.dictionary; place = place }, s2)))
+    Ok (record { results = results; name = o; bin = bin; gathered = t.gathered; dictionary = t.dictionary; location = location }, s2)))
 
 -- an operation of a class
-unfoldable pub classed_operation : ResultNames → List Symbol → Lexeme → NameClass → Read OperationText
-classed_operation results s t (operation o) = named_operation results o t.place (after s)
+unfoldable pub classed_operation : ResultNames → List StreamToken → TextToken → NameClass → Read OperationText
+classed_operation results s t (operation o) = named_operation results o t.location (after s)
 classed_operation results s t module_name = Err (misplaced_refusal (op.Listed listed.HwModule) s t module_name)
 classed_operation results s t file_name = Err (misplaced_refusal (op.Listed listed.HwModule) s t file_name)
 classed_operation results s t locations = Err (misplaced_refusal (op.Listed listed.HwModule) s t locations)

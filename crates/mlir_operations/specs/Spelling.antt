@@ -1,7 +1,7 @@
 -- The grammar of operations, modules and files: which tokens say what (MLIR language reference; CIRCT: assembly formats of HW, Comb and Seq).
--- Tokens have their places.
+-- Tokens have their locations.
 use Rattle.std.specs.Prelude.{◌≡◌, ℕ, ◌<◌, Bool, true, false, List, [], ◌∷◌, ◌++◌, length, Option, Some, None, Result, Ok, codes, ℤ}
-use Rattle.diag.specs.declared.refusal.Place.{Place}
+use Rattle.diag.specs.declared.refusal.Location.{Location}
 use Rattle.diag.specs.declared.refusal.Refusal.{Refusal}
 use Rattle.opcode.specs.declared.listed.Listed.{Listed}
 use Rattle.opcode.specs.declared.listed.Listed.TheVariants as listed
@@ -12,21 +12,22 @@ use Rattle.hw_model.specs.TypeViews.{NamedType}
 use Rattle.hw_model.specs.Kinds.{Predicate, Literals}
 use Rattle.hw_model.specs.Design.{Entry}
 use Rattle.mlir_lexer.specs.Contents.{content_of}
-use Rattle.mlir_lexer.specs.Tokens.{Lexeme}
+use Rattle.mlir_lexer.specs.Tokens.{TextToken}
 use Rattle.mlir_lexer.specs.declared.token.TokenKind.TheVariants as kind
-use Rattle.mlir_syntax.specs.Spelling.{Phrase, One, Mark, Word, Holding, Nothing, Then, Either, Where, Commas, Between, NamePhrase, SymbolPhrase, NumberPhrase, IntegerPhrase, FieldPhrase, TypePhrase, TruthWord, DictionaryPhrase, AggregatePhrase, MaybeDictionary}
+use Rattle.mlir_syntax.specs.Spelling.{Phrase, One, Mark, Word, Holding, Nothing, Then, Either, Where, Commas, Between, NamePhrase, SymbolPhrase, NumberPhrase, IntegerPhrase, FieldPhrase, TypePhrase}
+use Rattle.mlir_syntax.specs.Spelling.{TruthWord, DictionaryPhrase, AggregatePhrase, MaybeDictionary}
 use Rattle.mlir_syntax.specs.Numerals.{number_in, count_limit}
 use Rattle.mlir_syntax.specs.TypeText.{most_open}
 use Rattle.mlir_operations.specs.OperandText.{OperandName, ResultNames}
 use Rattle.mlir_operations.specs.OperandText.ResultNames.{no_names, names, pack}
-use Rattle.assembly_format.specs.Formats.{text_of_keyword, format_of, front_elements, type_elements}
+use Rattle.assembly_format.specs.Formats.{text_of_keyword, format_of, prefix_elements, type_elements}
 use Rattle.mlir_operations.specs.ElementText.{InherentAttributes, Gathered, gathered_nothing, with_operands, with_types, with_inherent, truth_number, Joined, instance_with, with_instance}
 use Rattle.mlir_syntax.specs.WordText.{predicate_named}
 use Rattle.mlir_operations.specs.ElementText.InherentAttributes.{with_reset, with_async_reset, predicate, position, number, literals, field_name}
 use Rattle.mlir_operations.specs.OperationText.{OperationText, is_last, given_entries}
-use Rattle.canonical_form.specs.Dictionaries.{takes_bin, string_keys}
+use Rattle.stored_form.specs.Dictionaries.{takes_bin, string_keys}
 use Rattle.mlir_operations.specs.ModuleText.{PortText, ModuleText}
-use Rattle.canonical_form.specs.Dictionaries.{module_keys}
+use Rattle.stored_form.specs.Dictionaries.{module_keys}
 use Rattle.assembly_format.specs.declared.elements.FormatElement.{FormatElement}
 use Rattle.assembly_format.specs.declared.elements.FormatElement.TheVariants as element
 use Rattle.assembly_format.specs.declared.elements.Format.{Format}
@@ -41,7 +42,7 @@ abbrev pub OperandPhrase : OperandName → Phrase
 OperandPhrase o =
     Then (ValueName o.name)
     (Either (Where (o.number ≡ 0) Nothing)
-    (Where (o.number < count_limit) (One (λ (t : Lexeme). (t.kind ≡ kind.ResultNumber) × (number_in 10 0 (content_of kind.ResultNumber t.text) ≡ o.number)))))
+    (Where (o.number < count_limit) (One (λ (t : TextToken). (t.kind ≡ kind.ResultNumber) × (number_in 10 0 (content_of kind.ResultNumber t.text) ≡ o.number)))))
 
 -- `%x =`, `%a, %b =`, `%x:k =`, or nothing
 abbrev pub ResultsPhrase : ResultNames → Phrase
@@ -128,7 +129,7 @@ IsOneOf None late all = all ≡ given_entries late
 abbrev pub FormPhrase : List Name → Format → Gathered → List Entry → Phrase
 FormPhrase strings format h es ts =
     (g : Gathered) × (early late : Option (List Entry)) × IsOneOf early late es
-    × Then (ElementsPhrase (front_elements format) gathered_nothing g) (Then (MaybeDictionary strings early)
+    × Then (ElementsPhrase (prefix_elements format) gathered_nothing g) (Then (MaybeDictionary strings early)
     (Then (ElementsPhrase (type_elements format) g h) (MaybeDictionary strings late))) ts
 
 -- the mark `bin`, or nothing
@@ -138,26 +139,26 @@ BinPhrase o true = Where (takes_bin o ≡ true) (Word (codes "bin"))
 
 -- a form that an operation has before some token
 abbrev pub MayHaveFormat : Listed → Format → Type 0
-MayHaveFormat o format = (next : Option Lexeme) × (format ≡ format_of o next)
+MayHaveFormat o format = (next : Option TextToken) × (format ≡ format_of o next)
 
 -- what is after an operation's name
 abbrev pub TailPhrase : OperationText → Phrase
 TailPhrase o ts = (format : Format) × MayHaveFormat o.name format × FormPhrase (string_keys o.name) format o.gathered o.dictionary ts
 
--- a place is that of a token
+-- a location is that of a token
 abbrev pub Stands : Type 1
-Stands = Lexeme → Place → Type 0
+Stands = TextToken → Location → Type 0
 
 -- an operation that may stand in a body: each but the module itself
 abbrev pub StandsInBody : Listed → Type 0
 StandsInBody listed.HwModule = ⊥
 StandsInBody _ = Unit {0}
 
--- an operation, at the place of its name
+-- an operation, at the location of its name
 abbrev pub OperationPhrase : Stands → OperationText → Phrase
 OperationPhrase At o =
     Where (StandsInBody o.name) (Then (ResultsPhrase o.results)
-    (Then (One (λ (t : Lexeme). (t.kind ≡ kind.BareName) × (t.text ≡ name_of_listed o.name) × At t o.place))
+    (Then (One (λ (t : TextToken). (t.kind ≡ kind.BareName) × (t.text ≡ name_of_listed o.name) × At t o.location))
     (Then (BinPhrase o.name o.bin) (TailPhrase o))))
 
 -- operations one after another; an output is the last
@@ -208,15 +209,15 @@ abbrev pub PrivatePhrase : Bool → Phrase
 PrivatePhrase true = Word (codes "private")
 PrivatePhrase false = Nothing
 
--- `hw.module [private] @N(PORTS) [attributes {..}] { OPERATIONS }`, or with `(INPUTS) [-> (OUTPUTS)]` for `(PORTS)`, with the places
+-- `hw.module [private] @N(PORTS) [attributes {..}] { OPERATIONS }`, or with `(INPUTS) [-> (OUTPUTS)]` for `(PORTS)`, with the locations
 -- of its name and its closing brace
 abbrev pub ModulePhrase : Stands → ModuleText → Phrase
 ModulePhrase At m =
-    Then (One (λ (t : Lexeme). (t.kind ≡ kind.BareName) × (t.text ≡ name_of_listed listed.HwModule) × At t m.place))
+    Then (One (λ (t : TextToken). (t.kind ≡ kind.BareName) × (t.text ≡ name_of_listed listed.HwModule) × At t m.location))
     (Then (PrivatePhrase m.is_private) (Then (SymbolPhrase m.symbol)
     (Then (PortsPhrase m.ports)
     (Then (AttributesPhrase m.dictionary) (Then (Mark kind.LeftBrace) (Then (OperationsPhrase At m.operations)
-    (One (λ (t : Lexeme). (t.kind ≡ kind.RightBrace) × At t m.close))))))))
+    (One (λ (t : TextToken). (t.kind ≡ kind.RightBrace) × At t m.close))))))))
 
 -- modules one after another
 abbrev pub ModulesPhrase : Stands → List ModuleText → Phrase
@@ -231,7 +232,7 @@ FileWord = Either (Word (codes "module")) (Word (codes "builtin.module"))
 abbrev pub WrappedPhrase : Stands → List ModuleText → Phrase
 WrappedPhrase At ms ts =
     (es : List Entry)
-    × Then FileWord (Then (Either (λ (a : List Lexeme). (name : Name) × SymbolPhrase name a) Nothing)
+    × Then FileWord (Then (Either (λ (a : List TextToken). (name : Name) × SymbolPhrase name a) Nothing)
     (Then (AttributesPhrase es) (Between kind.LeftBrace kind.RightBrace (ModulesPhrase At ms)))) ts
 
 -- a file: modules, bare or in one module of the builtin dialect
@@ -241,9 +242,9 @@ FilePhrase At ms = Either (ModulesPhrase At ms) (WrappedPhrase At ms)
 -- ---- texts
 
 -- a token that is not refused
-abbrev pub token_of : Lexeme → Result Lexeme Refusal
+abbrev pub token_of : TextToken → Result TextToken Refusal
 token_of t = Ok t
 
--- a place is the token's own
-abbrev pub IsPlaceOf : Stands
-IsPlaceOf t place = t.place ≡ place
+-- a location is the token's own
+abbrev pub IsLocationOf : Stands
+IsLocationOf t location = t.location ≡ location

@@ -47,7 +47,7 @@ operation_of o = record {
   bin = o.bin;
   gathered = gathered_of o.gathered;
   dictionary = entries_in o.dictionary;
-  place = o.place;
+  location = o.location;
 }
 
 abbrev pub port_text_of : PortText → file.PortText

@@ -5,11 +5,11 @@ ghost use Rattle.mlir_syntax.specs.AttributeText.{is_among};
 ghost use Rattle.mlir_operations.specs.OperationText.{class_of, class_of_listed, class_of_other, is_foreign, is_last};
 ghost use Rattle.mlir_operations.specs.NameClasses.{class_seen};
 
-use canonical_form::names::{NoDot, dialect};
 use mlir_lexer::classes::run_of;
 use opcode::listed::Listed;
+use stored_form::names::{NoDot, dialect};
 
-/// What a name means in an operation's or a module's place.
+/// What a name means in an operation's or a module's location.
 #[derive(Clone, Copy, PartialEq, Eq)]
 pub enum NameClass {
     /// An operation of a body.

@@ -2,7 +2,7 @@
 ghost use Rattle.std.specs.Prelude.{◌≡◌, ◌≤◌, ◌<◌, length, Some, Ok, OnOk};
 ghost use Rattle.std.specs.Option.{option_map};
 ghost use Rattle.ir_store.specs.DictionaryViews.{entries_in};
-ghost use Rattle.mlir_lexer.specs.Tokens.{lexeme_of};
+ghost use Rattle.mlir_lexer.specs.Tokens.{text_token};
 ghost use Rattle.mlir_syntax.specs.AttributeHeads.{keys_of};
 ghost use Rattle.mlir_operations.specs.NameClasses.{class_seen};
 ghost use Rattle.mlir_operations.specs.OperationText.{bin_text, form_text, late_dictionary, named_operation, classed_operation, operation_after, operation_text, misplaced_refusal, no_operation, is_outside, other_name};
@@ -16,11 +16,9 @@ use crate::operand_text::maybe_results;
 use crate::operation_names::{NameClass, class_of};
 use crate::syntax::{Gathered, InherentAttributes, OperationText, ResultNames};
 use assembly_format::elements::Format;
-use assembly_format::formats::{format_of, front_elements, type_elements};
-use canonical_form::dictionaries::string_keys;
-use canonical_form::names::takes_bin;
+use assembly_format::formats::{format_of, prefix_elements, type_elements};
 use diag::cause::Cause;
-use diag::refusal::{OpName, Place, Refusal};
+use diag::refusal::{Location, OpName, Refusal};
 use ir_store::dictionary::Dictionary;
 use ir_store::operation::TyList;
 use mlir_lexer::token::{Token, TokenKind, is_kind};
@@ -30,6 +28,8 @@ use mlir_syntax::reader::Reader;
 use opcode::listed::Listed;
 use smallvec::SmallVec;
 use std::alloc::Global;
+use stored_form::dictionaries::string_keys;
+use stored_form::names::takes_bin;
 
 /// The operation that refusals name where none is open within a module.
 pub const HEADER: OpName = OpName::Listed(Listed::HwModule);
@@ -88,14 +88,14 @@ fn classed_operation<'s>(
     token: Token<'s>,
     class: NameClass,
 ) -> Result<OperationText<'s>, ReadFail>
-    requires first { Some (lexeme_of token) ≡ first reader.old }
-    ensures gives { ReadsAs operation_of result reader.new (classed_operation (names_of results.entry) reader.old (lexeme_of token.entry) (class_seen class)) }
+    requires first { Some (text_token token) ≡ first reader.old }
+    ensures gives { ReadsAs operation_of result reader.new (classed_operation (names_of results.entry) reader.old (text_token token.entry) (class_seen class)) }
     ensures shorter { OnOk result (length reader.new < length reader.old) }
 {
     match class {
         NameClass::Operation(name) => {
             reader.advance();
-            named_operation(reader, results, name, token.place)
+            named_operation(reader, results, name, token.location)
         }
         other => Err(ReadFail::Refused(misplaced_refusal(reader, HEADER, token, other))),
     }
@@ -107,9 +107,9 @@ fn named_operation<'s>(
     reader: &mut Reader<'s>,
     results: ResultNames<'s>,
     name: Listed,
-    place: Place,
+    location: Location,
 ) -> Result<OperationText<'s>, ReadFail>
-    ensures gives { ReadsAs operation_of result reader.new (named_operation (names_of results.entry) name place reader.old) }
+    ensures gives { ReadsAs operation_of result reader.new (named_operation (names_of results.entry) name location reader.old) }
     ensures shorter { OnOk result (length reader.new ≤ length reader.old) }
 {
     let bin = bin_text(reader, name);
@@ -123,7 +123,7 @@ fn named_operation<'s>(
         bin,
         gathered,
         dictionary,
-        place,
+        location,
     })
 }
 
@@ -149,7 +149,7 @@ fn form_text<'s>(
     ensures gives { ReadsAs (λ d. record { gathered = gathered_of gathered.new; dictionary = entries_in d }) result reader.new (form_text op (keys_of keys) format reader.old) }
     ensures shorter { OnOk result (length reader.new ≤ length reader.old) }
 {
-    elements_text(reader, op, front_elements(format), gathered)?;
+    elements_text(reader, op, prefix_elements(format), gathered)?;
     let dictionary = reader.maybe_dictionary(op, keys)?;
     elements_text(reader, op, type_elements(format), gathered)?;
     late_dictionary(reader, op, keys, dictionary)
@@ -184,7 +184,7 @@ pub fn misplaced_refusal<'s>(
     token: Token<'s>,
     class: NameClass,
 ) -> Refusal
-    ensures { result ≡ misplaced_refusal around reader.now (lexeme_of token.entry) (class_seen class) }
+    ensures { result ≡ misplaced_refusal around reader.now (text_token token.entry) (class_seen class) }
 {
     match class {
         NameClass::Operation(name) => reader.refusal_for(Cause::Unexpected, OpName::Listed(name)),
@@ -196,7 +196,7 @@ pub fn misplaced_refusal<'s>(
     }
 }
 
-/// The refusal of the first token, which is no name, in an operation's or a module's place.
+/// The refusal of the first token, which is no name, in an operation's or a module's location.
 #[tactic(auto, unfolding(crate::specs::OperationText::no_operation))]
 pub fn no_operation(reader: &Reader<'_>, around: OpName) -> Refusal
     ensures { result ≡ no_operation around reader.now }
@@ -208,7 +208,7 @@ pub fn no_operation(reader: &Reader<'_>, around: OpName) -> Refusal
     }
 }
 
-// Whether the first token is outside the profile in an operation's place.
+// Whether the first token is outside the profile in an operation's location.
 fn begins_outside(reader: &Reader<'_>) -> bool
     ensures { result ≡ is_first is_outside reader.now }
 {
@@ -218,9 +218,9 @@ fn begins_outside(reader: &Reader<'_>) -> bool
     }
 }
 
-// Whether a token that is no name is outside the profile in an operation's place.
+// Whether a token that is no name is outside the profile in an operation's location.
 fn is_outside(token: Token) -> bool
-    ensures { result ≡ is_outside (lexeme_of token.entry) }
+    ensures { result ≡ is_outside (text_token token.entry) }
 {
     is_kind(token.kind, TokenKind::StringLiteral)
         || (is_kind(token.kind, TokenKind::AttributeAlias)
@@ -229,7 +229,7 @@ fn is_outside(token: Token) -> bool
 
 // The operation that a refusal names for a token.
 fn other_name(token: Token) -> OpName
-    ensures { result ≡ other_name (lexeme_of token.entry) }
+    ensures { result ≡ other_name (text_token token.entry) }
 {
     OpName::Other {
         at: token.at,

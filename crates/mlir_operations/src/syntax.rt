@@ -1,5 +1,5 @@
 //! What a text says, before names are resolved. Names of values borrow the text.
-use diag::refusal::Place;
+use diag::refusal::Location;
 use hw_model::kinds::{Instance, Integer, LiteralList, Predicate};
 use hw_model::types::Ty;
 use io_edge::byte_text::Text;
@@ -76,8 +76,8 @@ pub struct OperationText<'s> {
     pub gathered: Gathered<'s>,
     /// Its dictionary, as it is written.
     pub dictionary: Dictionary,
-    /// The place of its name.
-    pub place: Place,
+    /// The location of its name.
+    pub location: Location,
 }
 
 /// A port as its text says it.

@@ -7,7 +7,7 @@ use Rattle.hw_model.specs.Design.{Attribute, Attributes, Entry}
 use Rattle.hw_model.specs.Design.Attribute.{unit_value, text_value, symbol_value, truth_value, integer_value, list_value}
 use Rattle.hw_model.specs.Design.Attributes.{no_attributes, attribute}
 use Rattle.mlir_printer.specs.Strings.{string_bytes, name_bytes, symbol_bytes}
-use Rattle.printable_designs.specs.Numbers.{integer_bytes, truth_bytes}
+use Rattle.printing_laws.specs.Numbers.{integer_bytes, truth_bytes}
 use Rattle.mlir_printer.specs.Types.{type_bytes}
 use Rattle.mlir_printer.specs.Commas.{comma_bytes, commas}
 
@@ -45,8 +45,8 @@ entry_bytes e = name_bytes e.key ++ value_bytes e.value
 
 -- a dictionary with something before it, or nothing where it has no entry
 unfoldable pub dictionary_bytes : List ℕ → List Entry → List ℕ
-dictionary_bytes front [] = []
-dictionary_bytes front (e ∷ es) = front ++ (codes "{" ++ (commas entry_bytes (e ∷ es) ++ codes "}"))
+dictionary_bytes prefix [] = []
+dictionary_bytes prefix (e ∷ es) = prefix ++ (codes "{" ++ (commas entry_bytes (e ∷ es) ++ codes "}"))
 
 -- how many entries have keys that are less than `name`
 abbrev pub place_of_name : List Entry → ℕ

@@ -13,7 +13,7 @@ use Rattle.assembly_format.specs.declared.elements.Keyword.TheVariants.{From, Cl
 use Rattle.assembly_format.specs.declared.elements.FormatElement.{FormatElement}
 use Rattle.assembly_format.specs.declared.elements.FormatElement.TheVariants as element
 use Rattle.mlir_printer.specs.Strings.{string_bytes, name_bytes, symbol_bytes}
-use Rattle.printable_designs.specs.Numbers.{count_bytes, integer_bytes, truth_bytes, is_one}
+use Rattle.printing_laws.specs.Numbers.{count_bytes, integer_bytes, truth_bytes, is_one}
 use Rattle.mlir_printer.specs.Types.{type_bytes}
 use Rattle.mlir_printer.specs.Literals.{literals_from}
 use Rattle.mlir_printer.specs.Commas.{commas}

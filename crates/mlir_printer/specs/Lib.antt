@@ -1,5 +1,6 @@
 -- The words of this crate's contracts.
 pub mod Strings
+pub mod Lines
 pub mod Commas
 pub mod Types
 pub mod Attributes

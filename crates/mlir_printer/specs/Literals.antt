@@ -5,7 +5,7 @@ use Rattle.hw_model.specs.Kinds.{Literal, Literals}
 use Rattle.hw_model.specs.Kinds.Literal.{leaf, parts}
 use Rattle.hw_model.specs.Kinds.Literals.{no_literals, literal}
 use Rattle.mlir_printer.specs.Commas.{comma_bytes}
-use Rattle.printable_designs.specs.Numbers.{truth_bytes, is_shown_as_truth, is_one}
+use Rattle.printing_laws.specs.Numbers.{truth_bytes, is_shown_as_truth, is_one}
 use Rattle.mlir_printer.specs.Attributes.{typed_bytes}
 
 -- a number of a type

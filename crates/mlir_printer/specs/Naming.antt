@@ -8,7 +8,7 @@ use Rattle.ir_store.specs.OperationViews.{OpParts}
 use Rattle.mlir_operations.specs.OperandText.{ResultNames}
 use Rattle.mlir_operations.specs.OperandText.ResultNames.{no_names, names, pack}
 use Rattle.mlir_printer.specs.Strings.{standing}
-use Rattle.printable_designs.specs.NameHints.{body_name_hints, is_pack, name_count, port_name_hint, port_name_hints}
+use Rattle.printing_laws.specs.NameHints.{body_name_hints, is_pack, name_count, port_name_hint, port_name_hints}
 use Rattle.mlir_printer.specs.Elements.{ValueText, no_value}
 
 -- how many input ports there are

@@ -9,11 +9,11 @@ use Rattle.mlir_operations.specs.OperandText.ResultNames.{no_names, names, pack}
 use Rattle.mlir_operations.specs.ElementText.{InherentAttributes}
 use Rattle.mlir_operations.specs.ElementText.InherentAttributes.{number}
 use Rattle.hw_model.specs.Design.{Entry}
-use Rattle.assembly_format.specs.Formats.{format_of, front_elements, type_elements}
+use Rattle.assembly_format.specs.Formats.{format_of, prefix_elements, type_elements}
 use Rattle.assembly_format.specs.declared.elements.FormatElement.{FormatElement}
 use Rattle.assembly_format.specs.declared.elements.Format.{Format}
 use Rattle.assembly_format.specs.declared.elements.Format.TheVariants as format
-use Rattle.printable_designs.specs.Numbers.{count_bytes, is_shown_as_truth}
+use Rattle.printing_laws.specs.Numbers.{count_bytes, is_shown_as_truth}
 use Rattle.mlir_printer.specs.Elements.{ValueText, Pending, value_name_bytes, elements_bytes, left_after}
 use Rattle.mlir_printer.specs.Attributes.{dictionary_bytes}
 use Rattle.mlir_printer.specs.Commas.{commas}
@@ -64,13 +64,13 @@ left_after_all (p ∷ ps) g = left_after_all ps (left_after p g)
 
 -- a form: pieces, a dictionary, and the types
 unfoldable pub form_bytes : List FormatElement → List FormatElement → Pending → List Entry → List ℕ
-form_bytes front types g es =
-    after_blank front (elements_bytes front g) ++ (dictionary_bytes (codes " ") es ++ elements_bytes types (left_after_all front g))
+form_bytes prefix types g es =
+    after_blank prefix (elements_bytes prefix g) ++ (dictionary_bytes (codes " ") es ++ elements_bytes types (left_after_all prefix g))
 
 -- an operation of a form
 unfoldable pub shaped_bytes : Format → OperationText → List ℕ
 shaped_bytes s o =
-    results_bytes o.results ++ (name_of_listed o.name ++ (bin_bytes o.bin ++ form_bytes (front_elements s) (type_elements s) o.pending o.dictionary))
+    results_bytes o.results ++ (name_of_listed o.name ++ (bin_bytes o.bin ++ form_bytes (prefix_elements s) (type_elements s) o.pending o.dictionary))
 
 -- an operation
 unfoldable pub operation_bytes : OperationText → List ℕ

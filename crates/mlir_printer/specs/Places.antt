@@ -3,7 +3,7 @@ use Rattle.std.specs.Prelude.{◌≡◌, ℕ, ◌+◌, cond, false, nat_eq, List
 use Rattle.hw_model.specs.Design.{Port}
 use Rattle.ir_store.specs.OperationViews.{OpParts}
 use Rattle.ir_store.specs.BodyOps.{BodyOp}
-use Rattle.printable_designs.specs.NameHints.{is_pack, name_count, port_name_hint}
+use Rattle.printing_laws.specs.NameHints.{is_pack, name_count, port_name_hint}
 use Rattle.mlir_printer.specs.declared.value_names.Slot.{Slot}
 
 -- the place of what has no names

@@ -5,7 +5,7 @@ use Rattle.ir_store.specs.declared.operation.Value.{Value}
 use Rattle.ir_store.specs.OperationViews.{OpParts}
 use Rattle.ir_store.specs.BodyOps.{BodyOp}
 use Rattle.ir_store.specs.Designs.{StoredModule}
-use Rattle.printable_designs.specs.NameHints.{name_count}
+use Rattle.printing_laws.specs.NameHints.{name_count}
 use Rattle.mlir_printer.specs.Elements.{ValueText}
 use Rattle.mlir_printer.specs.Operations.{OperationText}
 use Rattle.mlir_printer.specs.Modules.{ModuleText}

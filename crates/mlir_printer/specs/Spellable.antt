@@ -1,11 +1,11 @@
 -- What the text of a design says to its reader, and what it needs to be read as the same.
 use Rattle.std.specs.Prelude.{◌≡◌, ℕ, ◌+◌, ◌<◌, ◌≤◌, true, List, [], ◌∷◌, length, map, drop, Option, Some, None, ⊤}
-use Rattle.diag.specs.Place.{start_place}
+use Rattle.diag.specs.Location.{start_location}
 use Rattle.hw_model.specs.Types.{Name, HwType}
 use Rattle.hw_model.specs.Types.HwType.{int}
 use Rattle.hw_model.specs.Kinds.{Instance}
 use Rattle.hw_model.specs.Design.{Entry}
-use Rattle.mlir_lexer.specs.Fronts.{suffix_length}
+use Rattle.mlir_lexer.specs.Prefixes.{suffix_length}
 use Rattle.mlir_lexer.specs.declared.token.TokenKind.{TokenKind}
 use Rattle.mlir_lexer.specs.declared.token.TokenKind.TheVariants as kind
 use Rattle.mlir_syntax.specs.Numerals.{count_limit}
@@ -17,12 +17,12 @@ use Rattle.mlir_operations.specs.ModuleText.{PortText as PortSaid, ModuleText as
 use Rattle.mlir_syntax.specs.Spelling.{AreOnce}
 use Rattle.assembly_format.specs.declared.elements.FormatElement.{FormatElement}
 use Rattle.assembly_format.specs.declared.elements.FormatElement.TheVariants as element
-use Rattle.printable_designs.specs.Numbers.{is_truth}
+use Rattle.printing_laws.specs.Numbers.{is_truth}
 use Rattle.mlir_printer.specs.Elements.{ValueText, Pending, first_operand, left_after}
 use Rattle.mlir_printer.specs.Operations.{OperationText}
 use Rattle.mlir_printer.specs.Modules.{PortText, ModuleText}
-use Rattle.canonical_form.specs.Limits.{IsInteger, IsAnyType, AreLiterals, IsEntry}
-use Rattle.canonical_form.specs.Bytes.{Each, AreBytes, MayBeBytes}
+use Rattle.stored_form.specs.Limits.{IsInteger, IsAnyType, AreLiterals, IsEntry}
+use Rattle.stored_form.specs.Bytes.{Each, AreBytes, MayBeBytes}
 
 -- ---- what a reader reads
 
@@ -39,7 +39,7 @@ said_operand o = record { name = o.name; number = said_number o.number }
 abbrev pub said_pending : Pending → Gathered
 said_pending p = record { operands = map said_operand p.operands; types = p.types; inherent = p.inherent }
 
--- an operation as a reader reads it, at some place
+-- an operation as a reader reads it, at some location
 abbrev pub said_operation : OperationText → OperationSaid
 said_operation o = record {
   results = o.results;
@@ -47,14 +47,14 @@ said_operation o = record {
   bin = o.bin;
   gathered = said_pending o.pending;
   dictionary = o.dictionary;
-  place = start_place;
+  location = start_location;
 }
 
 -- a port as a reader reads it
 abbrev pub said_port : PortText → PortSaid
 said_port p = record { value = p.value; name = p.name; type = p.type }
 
--- a module as a reader reads it, at some place
+-- a module as a reader reads it, at some location
 abbrev pub inherent_view : ModuleText → ModuleSaid
 inherent_view m = record {
   symbol = m.symbol;
@@ -62,8 +62,8 @@ inherent_view m = record {
   ports = map said_port m.ports;
   dictionary = m.dictionary;
   operations = map said_operation m.operations;
-  place = start_place;
-  close = start_place;
+  location = start_location;
+  close = start_location;
 }
 
 -- ---- names, numbers, types
@@ -72,7 +72,7 @@ inherent_view m = record {
 pub record IsValueName (name : Name) : Type 0 where
   -- it is not empty
   pub some : 1 ≤ length name
-  -- a suffix at its front has all its bytes
+  -- a suffix at its prefix has all its bytes
   pub whole : suffix_length name ≡ length name
 
 -- ---- constants of aggregates, attributes, dictionaries

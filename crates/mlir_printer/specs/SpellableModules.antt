@@ -1,38 +1,38 @@
 -- Operations, modules and texts that say what the grammar has: what each must have to be printed as it is.
 use Rattle.std.specs.Prelude.{◌≡◌, ℕ, ◌<◌, true, List, [], ◌∷◌, map, Option, Some, None, ⊤}
 use Rattle.hw_model.specs.Types.{Name}
-use Rattle.mlir_lexer.specs.Tokens.{Lexeme, tokens}
+use Rattle.mlir_lexer.specs.Tokens.{TextToken, tokens}
 use Rattle.mlir_syntax.specs.Numerals.{count_limit}
 use Rattle.mlir_operations.specs.OperandText.{ResultNames}
 use Rattle.mlir_operations.specs.OperandText.ResultNames.{no_names, names, pack}
-use Rattle.assembly_format.specs.Formats.{front_elements, type_elements}
+use Rattle.assembly_format.specs.Formats.{prefix_elements, type_elements}
 use Rattle.mlir_operations.specs.ElementText.{Gathered, gathered_nothing}
 use Rattle.mlir_operations.specs.OperationText.{is_last}
-use Rattle.canonical_form.specs.Dictionaries.{takes_bin, string_keys}
-use Rattle.canonical_form.specs.Dictionaries.{module_keys}
+use Rattle.stored_form.specs.Dictionaries.{takes_bin, string_keys}
+use Rattle.stored_form.specs.Dictionaries.{module_keys}
 use Rattle.mlir_operations.specs.Spelling.{StandsInBody, FilePhrase, token_of}
 use Rattle.assembly_format.specs.declared.elements.Format.{Format}
 use Rattle.mlir_printer.specs.Elements.{Pending}
 use Rattle.mlir_printer.specs.Operations.{OperationText, format_shown, left_after_all}
 use Rattle.mlir_printer.specs.Modules.{PortText, ModuleText}
 use Rattle.mlir_printer.specs.Spellable.{said_pending, inherent_view, IsValueName, IsDictionary, gathered_with_all, NeedAll}
-use Rattle.canonical_form.specs.Bytes.{Each, AreBytes}
-use Rattle.canonical_form.specs.Limits.{IsAnyType}
+use Rattle.stored_form.specs.Bytes.{Each, AreBytes}
+use Rattle.stored_form.specs.Limits.{IsAnyType}
 
 -- ---- operations
 
 -- what is gathered before the types of a form
-abbrev pub gathered_front : Format → Pending → Gathered
-gathered_front s p = gathered_with_all (front_elements s) p gathered_nothing
+abbrev pub gathered_prefix : Format → Pending → Gathered
+gathered_prefix s p = gathered_with_all (prefix_elements s) p gathered_nothing
 
 -- what is said in a form
 pub record IsViewAs (s : Format) (p : Pending) : Type 0 where
   -- the pieces before the types have what they need
-  pub front : NeedAll (front_elements s) p gathered_nothing
-  -- so have those of the types, of what is left after the front
-  pub types : NeedAll (type_elements s) (left_after_all (front_elements s) p) (gathered_front s p)
+  pub prefix : NeedAll (prefix_elements s) p gathered_nothing
+  -- so have those of the types, of what is left after the prefix
+  pub types : NeedAll (type_elements s) (left_after_all (prefix_elements s) p) (gathered_prefix s p)
   -- what is gathered with them is all that is said
-  pub all : gathered_with_all (type_elements s) (left_after_all (front_elements s) p) (gathered_front s p) ≡ said_pending p
+  pub all : gathered_with_all (type_elements s) (left_after_all (prefix_elements s) p) (gathered_prefix s p) ≡ said_pending p
 
 -- names of results, or a pack of fewer than its limit
 abbrev pub AreResults : ResultNames → Type 0
@@ -89,4 +89,4 @@ pub record IsSpellable (m : ModuleText) : Type 0 where
 
 -- bytes are read as what modules say, wherever it stands
 abbrev pub AreSpelled : List ℕ → List ModuleText → Type 0
-AreSpelled bytes ms = (ts : List Lexeme) × (tokens bytes ≡ map token_of ts) × FilePhrase (λ t place. Unit {0}) (map inherent_view ms) ts
+AreSpelled bytes ms = (ts : List TextToken) × (tokens bytes ≡ map token_of ts) × FilePhrase (λ t place. Unit {0}) (map inherent_view ms) ts

@@ -12,10 +12,10 @@ use Rattle.ir_store.specs.OperationViews.{OpParts}
 use Rattle.mlir_operations.specs.ElementText.{InherentAttributes}
 use Rattle.mlir_operations.specs.ElementText.InherentAttributes.{nothing, with_reset, with_async_reset, predicate, position, number, literals, field_name, child}
 use Rattle.mlir_reader.specs.Resolving.{put_entry}
-use Rattle.printable_designs.specs.Parts.{parts_in}
-use Rattle.printable_designs.specs.Numbers.{shown_by_first, shown_literals}
+use Rattle.printing_laws.specs.Parts.{parts_in}
+use Rattle.printing_laws.specs.Numbers.{shown_by_first, shown_literals}
 use Rattle.mlir_printer.specs.Naming.{input_count, names_given, first_name, value_named, results_named}
-use Rattle.printable_designs.specs.NameHints.{name_count, port_name_hint}
+use Rattle.printing_laws.specs.NameHints.{name_count, port_name_hint}
 use Rattle.mlir_printer.specs.Modules.{PortText, ModuleText, file_bytes}
 use Rattle.mlir_printer.specs.Elements.{ValueText, Pending}
 use Rattle.mlir_printer.specs.Operations.{OperationText}

@@ -5,7 +5,7 @@ use Rattle.hw_model.specs.Types.HwType.{int, clock, array, struct}
 use Rattle.hw_model.specs.Types.FieldTypes.{no_fields, field}
 use Rattle.mlir_printer.specs.Strings.{name_bytes}
 use Rattle.mlir_printer.specs.Commas.{comma_bytes}
-use Rattle.printable_designs.specs.Numbers.{count_bytes}
+use Rattle.printing_laws.specs.Numbers.{count_bytes}
 
 abbrev mutual
   -- a type

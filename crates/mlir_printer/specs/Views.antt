@@ -7,7 +7,7 @@ use Rattle.ir_store.specs.declared.operation.Value.{Value}
 use Rattle.ir_store.specs.declared.operation.Value.TheVariants.{Port, Result, Undefined}
 use Rattle.mlir_operations.specs.ElementText.{InherentAttributes}
 use Rattle.mlir_operations.specs.ElementText as text
-use Rattle.printable_designs.specs.Numbers.{shown_literals}
+use Rattle.printing_laws.specs.Numbers.{shown_literals}
 use Rattle.mlir_printer.specs.Elements.{ValueText as Shown, Pending as Left, no_value}
 use Rattle.mlir_printer.specs.Naming.{first_name, name_value_text}
 use Rattle.mlir_printer.specs.Chosen.{Chosen}

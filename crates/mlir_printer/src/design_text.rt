@@ -1,7 +1,7 @@
 //! The text of a design.
 ghost use Rattle.std.specs.Prelude.{◌≡◌, ◌++◌, map, OnOk, IfOk};
 ghost use Rattle.ir_store.specs.Designs.{design_of, numbered_module};
-ghost use Rattle.mlir_reader.specs.Spelling.{SpellsPlacelessly};
+ghost use Rattle.mlir_reader.specs.Spelling.{SpellsUnlocated};
 ghost use Rattle.op_verifier.specs.Answered.{modules_verified};
 ghost use Rattle.mlir_printer.specs.Modules.{modules_bytes};
 ghost use Rattle.mlir_printer.specs.Texts.{ir_text, modules_shown};
@@ -12,7 +12,7 @@ use crate::value_names::ValueNames;
 use io_edge::byte_text::Text;
 use ir_store::design::Design;
 use op_verifier::Verified;
-use printable_designs::what_is_canonical_is_printable;
+use printing_laws::what_is_canonical_is_printable;
 use std::alloc::{AllocError, Global};
 
 /// The text of a design: `module {`, its modules in order, and `}`. The error comes only where memory
@@ -31,7 +31,7 @@ pub fn design_text(alloc: Global, design: &Design) -> Result<Text, AllocError>
 /// The text of a verified design, which spells that design. The error comes only when out of memory.
 pub fn print_design(alloc: Global, verified: &Verified) -> Result<Text, AllocError>
     ensures laid_out { IfOk result (λ text. text ≡ ir_text (map numbered_module (modules_verified verified.now))) }
-    ensures spelled { IfOk result (λ text. SpellsPlacelessly text (map numbered_module (modules_verified verified.now))) }
+    ensures spelled { IfOk result (λ text. SpellsUnlocated text (map numbered_module (modules_verified verified.now))) }
 {
     what_is_canonical_is_printable();
     what_is_printable_is_spelled();
@@ -42,7 +42,7 @@ pub fn print_design(alloc: Global, verified: &Verified) -> Result<Text, AllocErr
 /// The error comes only when out of memory.
 pub fn print_and_drop(alloc: Global, verified: Verified) -> Result<Text, AllocError>
     ensures laid_out { IfOk result (λ text. text ≡ ir_text (map numbered_module (modules_verified verified))) }
-    ensures spelled { IfOk result (λ text. SpellsPlacelessly text (map numbered_module (modules_verified verified))) }
+    ensures spelled { IfOk result (λ text. SpellsUnlocated text (map numbered_module (modules_verified verified))) }
 {
     what_is_canonical_is_printable();
     what_is_printable_is_spelled();

@@ -29,13 +29,13 @@ fn push_entries(out: &mut Text, first: usize, entries: &[Entry]) -> Result<(), A
 
 /// Adds a dictionary with something before it, or nothing where it has no entry.
 #[tactic(auto, unfolding(crate::specs::Attributes::dictionary_bytes))]
-pub fn push_dictionary(out: &mut Text, front: &[u8], entries: &[Entry]) -> Result<(), AllocError>
-    ensures { OnOk result (out.new ≡ out.old ++ dictionary_bytes front.now (map entry_of entries.now)) }
+pub fn push_dictionary(out: &mut Text, prefix: &[u8], entries: &[Entry]) -> Result<(), AllocError>
+    ensures { OnOk result (out.new ≡ out.old ++ dictionary_bytes prefix.now (map entry_of entries.now)) }
 {
     if entries.is_empty() {
         return Ok(());
     }
-    out.push_bytes(front)?;
+    out.push_bytes(prefix)?;
     out.push_bytes(b"{")?;
     push_entries(out, 0, entries)?;
     out.push_bytes(b"}")?;

@@ -3,12 +3,13 @@
 ghost use Rattle.std.specs.Prelude.{◌≡◌, ◌≤◌, List, length, Ok};
 ghost use Rattle.hw_model.specs.Design.{Design, IsSameDesign};
 ghost use Rattle.mlir_reader.specs.Reading.{text_limit, read};
-ghost use Rattle.mlir_reader.specs.Spelling.{Spells, SpellsPlacelessly};
+ghost use Rattle.mlir_reader.specs.Spelling.{Spells, SpellsUnlocated};
+ghost use Rattle.mlir_printer.specs.Lines.{HasLines};
 ghost use Rattle.mlir_printer.specs.Modules.{ModuleText, file_bytes};
-ghost use Rattle.canonical_form.specs.Bytes.{Each};
+ghost use Rattle.stored_form.specs.Bytes.{Each};
 ghost use Rattle.mlir_printer.specs.SpellableModules.{IsSpellable, AreSpelled};
 ghost use Rattle.mlir_printer.specs.Texts.{ir_text};
-ghost use Rattle.printable_designs.specs.Printable.{Printable};
+ghost use Rattle.printing_laws.specs.Printable.{Printable};
 
 use mlir_reader::laws::what_is_spelled_is_read;
 
@@ -19,7 +20,7 @@ pub fn what_is_spellable_is_spelled()
 
 /// Does nothing. Its clause says that the text of a design that can be printed spells that design, but for places.
 pub fn what_is_printable_is_spelled()
-    ensures { (d : Design) → Printable d → SpellsPlacelessly (ir_text d) d }
+    ensures { (d : Design) → Printable d → SpellsUnlocated (ir_text d) d }
 {}
 
 /// Does nothing. Its clause says that the text of a design that can be printed, however long it is, spells a design that is the same but for
@@ -29,3 +30,8 @@ pub fn what_is_printed_is_read_again()
 {
     what_is_spelled_is_read();
 }
+
+/// Does nothing. Its clause says that the text of a design is whole lines, each with its line feed, of which none begins with `/`.
+pub fn what_is_printed_is_lines()
+    ensures { (d : Design) → HasLines (ir_text d) }
+{}

@@ -2,7 +2,7 @@
 ghost use Rattle.std.specs.Prelude.{◌≡◌, ◌++◌, map, OnOk};
 ghost use Rattle.hw_model.specs.TypeViews.{type_of};
 ghost use Rattle.hw_model.specs.KindViews.{integer_of, literal_of, literals_of};
-ghost use Rattle.printable_designs.specs.Numbers.{shown_integer, shown_literal, shown_literals};
+ghost use Rattle.printing_laws.specs.Numbers.{shown_integer, shown_literal, shown_literals};
 ghost use Rattle.mlir_printer.specs.Literals.{leaf_bytes, literal_bytes, literals_from};
 
 use crate::attributes::push_typed;

@@ -5,7 +5,7 @@ ghost use Rattle.ir_store.specs.Designs.{port_of, module_of, numbered_module};
 ghost use Rattle.mlir_printer.specs.Commas.{commas};
 ghost use Rattle.mlir_printer.specs.Modules.{input_port_bytes, output_port_bytes, port_name_bytes, port_bytes, private_bytes, header_bytes, module_bytes};
 ghost use Rattle.mlir_printer.specs.Naming.{input_count};
-ghost use Rattle.printable_designs.specs.NameHints.{port_name_hint};
+ghost use Rattle.printing_laws.specs.NameHints.{port_name_hint};
 ghost use Rattle.mlir_printer.specs.Texts.{port_shown, ports_shown, module_shown};
 ghost use Rattle.mlir_printer.specs.Shown.{header_shown};
 ghost use Rattle.mlir_printer.specs.Views.{names_held};

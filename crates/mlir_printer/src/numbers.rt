@@ -2,7 +2,7 @@
 ghost use Rattle.std.specs.Prelude.{◌≡◌, ◌++◌, ◌-◌, ◌^◌, true, map, OnOk};
 ghost use Rattle.hw_model.specs.TypeViews.{type_of};
 ghost use Rattle.hw_model.specs.KindViews.{integer_of};
-ghost use Rattle.printable_designs.specs.Numbers.{count_bytes, further_bytes, integer_bytes, is_negative, shown_number, shown_integer, shown_by_first, is_truth, is_one_bit, is_shown_as_truth, truth_bytes, is_one};
+ghost use Rattle.printing_laws.specs.Numbers.{count_bytes, further_bytes, integer_bytes, is_negative, shown_number, shown_integer, shown_by_first, is_truth, is_one_bit, is_shown_as_truth, truth_bytes, is_one};
 
 use crate::commas::push_few;
 use hw_model::kinds::Integer;
@@ -12,7 +12,7 @@ use itoa::Buffer;
 use std::alloc::AllocError;
 
 /// Adds a number.
-#[tactic(auto, unfolding(printable_designs::specs::Numbers::count_bytes))]
+#[tactic(auto, unfolding(printing_laws::specs::Numbers::count_bytes))]
 pub fn push_count(out: &mut Text, count: u32) -> Result<(), AllocError>
     ensures { OnOk result (out.new ≡ out.old ++ count_bytes count) }
 {
@@ -22,7 +22,7 @@ pub fn push_count(out: &mut Text, count: u32) -> Result<(), AllocError>
 }
 
 /// Adds a length.
-#[tactic(auto, unfolding(printable_designs::specs::Numbers::count_bytes))]
+#[tactic(auto, unfolding(printing_laws::specs::Numbers::count_bytes))]
 pub fn push_length(out: &mut Text, length: usize) -> Result<(), AllocError>
     ensures { OnOk result (out.new ≡ out.old ++ count_bytes length) }
 {
@@ -32,7 +32,7 @@ pub fn push_length(out: &mut Text, length: usize) -> Result<(), AllocError>
 }
 
 /// Adds an integer with its sign.
-#[tactic(auto, unfolding(printable_designs::specs::Numbers::integer_bytes))]
+#[tactic(auto, unfolding(printing_laws::specs::Numbers::integer_bytes))]
 pub fn push_integer(out: &mut Text, value: Integer) -> Result<(), AllocError>
     ensures { OnOk result (out.new ≡ out.old ++ integer_bytes (integer_of value)) }
 {

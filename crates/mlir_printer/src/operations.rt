@@ -8,9 +8,9 @@ ghost use Rattle.ir_store.specs.DictionaryViews.{entries_in};
 ghost use Rattle.mlir_printer.specs.Commas.{commas};
 ghost use Rattle.mlir_printer.specs.Elements.{value_name_bytes, elements_bytes};
 ghost use Rattle.mlir_printer.specs.Operations.{results_bytes, bin_bytes, form_bytes, is_truth_view, format_shown, after_blank, left_after_all, operation_line, operation_lines, shaped_bytes};
-ghost use Rattle.assembly_format.specs.Formats.{front_elements, type_elements};
+ghost use Rattle.assembly_format.specs.Formats.{prefix_elements, type_elements};
 ghost use Rattle.mlir_printer.specs.Naming.{first_name, firsts, listed_names, results_named};
-ghost use Rattle.printable_designs.specs.NameHints.{name_count};
+ghost use Rattle.printing_laws.specs.NameHints.{name_count};
 ghost use Rattle.mlir_printer.specs.Texts.{inherent_shown, entries_shown, operation_shown};
 ghost use Rattle.mlir_printer.specs.Shown.{stored_shown};
 ghost use Rattle.mlir_printer.specs.Views.{names_held, value_held, pending_of, inherent_of};
@@ -23,7 +23,7 @@ use crate::numbers::{is_shown_as_truth, push_length};
 use crate::value_names::ValueNames;
 use crate::wanted::{is_pack, name_count};
 use assembly_format::elements::{Format, FormatElement};
-use assembly_format::formats::{format_of, front_elements, type_elements};
+use assembly_format::formats::{format_of, prefix_elements, type_elements};
 use hw_model::kinds::OpKind;
 use hw_model::types::Ty;
 use io_edge::byte_text::Text;
@@ -137,10 +137,10 @@ fn push_form(
     op: &Op<'_>,
     first: u32,
 ) -> Result<(), AllocError>
-    ensures { OnOk result (out.new ≡ out.old ++ form_bytes (front_elements format) (type_elements format) (pending_of names.now pending.entry) (entries_shown op.now.name.now (first_name (drop first (names_held names.now))) (entries_in op.now.dictionary.now))) }
+    ensures { OnOk result (out.new ≡ out.old ++ form_bytes (prefix_elements format) (type_elements format) (pending_of names.now pending.entry) (entries_shown op.now.name.now (first_name (drop first (names_held names.now))) (entries_in op.now.dictionary.now))) }
 {
     let printed = names.nth(first as usize);
-    let left = push_front(out, names, front_elements(format), pending)?;
+    let left = push_front(out, names, prefix_elements(format), pending)?;
     push_named_dictionary(out, op.name.as_bytes(), printed, &op.dictionary.entries)?;
     push_elements(out, names, type_elements(format), left)?;
     Ok(())

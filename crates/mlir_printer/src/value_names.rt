@@ -53,7 +53,7 @@ impl ValueNames {
     ghost use Rattle.ir_store.specs.Designs.{port_of, ports_in};
     ghost use Rattle.ir_store.specs.Numbered.{position_of, ref_by};
     ghost use Rattle.mlir_printer.specs.Naming.{input_count, names_given, first_name, value_named};
-    ghost use Rattle.printable_designs.specs.NameHints.{constant_name_hint, own_name_hint, instance_name_hints, name_hints, body_name_hints, port_name_hint, port_name_hints};
+    ghost use Rattle.printing_laws.specs.NameHints.{constant_name_hint, own_name_hint, instance_name_hints, name_hints, body_name_hints, port_name_hint, port_name_hints};
     ghost use Rattle.mlir_printer.specs.Chosen.{with_name_hint, with_name_hints};
     ghost use Rattle.mlir_printer.specs.Places.{HavePlaces, place_at, port_places};
     ghost use Rattle.mlir_printer.specs.Shown.{parts_in_body};
@@ -198,7 +198,7 @@ impl ValueNames {
     }
 
     // Takes the names of an operation's results.
-    #[tactic(auto, unfolding(printable_designs::specs::NameHints::name_hints_of))]
+    #[tactic(auto, unfolding(printing_laws::specs::NameHints::name_hints_of))]
     fn take_results(&mut self, alloc: Global, op: &Op<'_>) -> Result<(), AllocError>
         ensures chosen { OnOk result (chosen_names self.new ≡ with_name_hints (chosen_names self.old) (name_hints (read_parts op.now))) }
         ensures ports { self.new.ports ≡ self.old.ports }

@@ -2,7 +2,7 @@
 ghost use Rattle.std.specs.Prelude.{◌≡◌, IfOk};
 ghost use Rattle.hw_model.specs.KindViews.{integer_of, kind_of};
 ghost use Rattle.ir_store.specs.Bodies.{read_parts};
-ghost use Rattle.printable_designs.specs.NameHints.{constant_name, instance_name, is_pack, name_count};
+ghost use Rattle.printing_laws.specs.NameHints.{constant_name, instance_name, is_pack, name_count};
 
 use crate::numbers::{
     is_one, is_shown_as_truth, push_count, push_integer, shown_integer, truth_text,
@@ -14,7 +14,7 @@ use ir_store::body::Op;
 use std::alloc::{AllocError, Global};
 
 /// What a constant of an integer type wants: `cV_iW`, or `true` and `false`.
-#[tactic(auto, unfolding(printable_designs::specs::NameHints::constant_name, printable_designs::specs::Numbers::count_bytes))]
+#[tactic(auto, unfolding(printing_laws::specs::NameHints::constant_name, printing_laws::specs::Numbers::count_bytes))]
 pub fn constant_name(alloc: Global, width: u32, value: Integer) -> Result<Text, AllocError>
     ensures { IfOk result (λ name. name ≡ constant_name width (integer_of value)) }
 {
@@ -31,7 +31,7 @@ pub fn constant_name(alloc: Global, width: u32, value: Integer) -> Result<Text, 
 }
 
 /// What a result of an instance wants: `INSTANCE.PORT`.
-#[tactic(auto, unfolding(printable_designs::specs::NameHints::instance_name))]
+#[tactic(auto, unfolding(printing_laws::specs::NameHints::instance_name))]
 pub fn instance_name(alloc: Global, instance: &[u8], port: &[u8]) -> Result<Text, AllocError>
     ensures { IfOk result (λ name. name ≡ instance_name instance.now port.now) }
 {
@@ -42,7 +42,7 @@ pub fn instance_name(alloc: Global, instance: &[u8], port: &[u8]) -> Result<Text
 }
 
 /// How many names the results of an operation take, a pack one.
-#[tactic(auto, unfolding(printable_designs::specs::NameHints::name_hints_of))]
+#[tactic(auto, unfolding(printing_laws::specs::NameHints::name_hints_of))]
 pub fn name_count(op: &Op<'_>) -> usize
     ensures { result ≡ name_count (read_parts op.now) }
 {

@@ -10,7 +10,7 @@ use Rattle.mlir_reader.specs.ModuleViews.{AreOperations}
 use Rattle.mlir_operations.specs.OperationText.{OperationText, operations_text, is_last}
 use Rattle.mlir_syntax.specs.Reads.{Read, Reads, on}
 use Rattle.mlir_reader.specs.Resolving.{Meanings, ends_with_output}
-use Rattle.mlir_syntax.specs.Stream.{Symbol, is_next}
+use Rattle.mlir_syntax.specs.Stream.{StreamToken, is_next}
 use Rattle.mlir_syntax.specs.Views.{ReadsAs, ReadsFor}
 use Rattle.mlir_syntax.specs.declared.fail.ReadFail.{ReadFail}
 use Rattle.mlir_syntax.specs.declared.fail.ReadFail.TheVariants.{Refused, NoMemory}
@@ -21,21 +21,21 @@ use Rattle.mlir_reader.proofs.BodySteps.{count_is}
 -- ---- failing
 
 -- a refusal says nothing of an answer
-pub refused_for : {A B C : Type 0} (view : C → B) (holds : B → A → Type 0) (fail : ReadFail) (left : List Symbol) (read : Read B)
+pub refused_for : {A B C : Type 0} (view : C → B) (holds : B → A → Type 0) (fail : ReadFail) (left : List StreamToken) (read : Read B)
     → ReadsAs view (Err fail) left read → ReadsFor holds (Err fail) left read
 refused_for view holds (Refused r) left read h = h
 refused_for view holds NoMemory left read h = tt
 
 -- a reader that fails makes the whole fail so
 -- a reader that fails makes the whole fail so, by a `?`
-pub passed_for : {A B C D : Type 0} (view : A → B) (holds : D → C → Type 0) (r : Result C ReadFail) (fail : ReadFail) (left left_over : List Symbol) (read : Read B)
+pub passed_for : {A B C D : Type 0} (view : A → B) (holds : D → C → Type 0) (r : Result C ReadFail) (fail : ReadFail) (left left_over : List StreamToken) (read : Read B)
     (f : B → Reads D) → IsErrAnd r (λ e. e ≡ fail) → ReadsAs view (Err fail) left read → ReadsFor holds r left_over (on read f)
 passed_for view holds (Ok x) fail left left_over read f none h = absurd none
 passed_for view holds (Err e) (Refused r) left left_over read f same h = rw (same, h) refl
 passed_for view holds (Err e) NoMemory left left_over read f same h = rw same tt
 
 -- the same of a reader of which something holds
-pub passed_held : {A B C D : Type 0} (held : B → A → Type 0) (holds : D → C → Type 0) (r : Result C ReadFail) (fail : ReadFail) (left left_over : List Symbol) (read : Read B)
+pub passed_held : {A B C D : Type 0} (held : B → A → Type 0) (holds : D → C → Type 0) (r : Result C ReadFail) (fail : ReadFail) (left left_over : List StreamToken) (read : Read B)
     (f : B → Reads D) → IsErrAnd r (λ e. e ≡ fail) → ReadsFor held (Err fail) left read → ReadsFor holds r left_over (on read f)
 passed_held held holds (Ok x) fail left left_over read f none h = absurd none
 passed_held held holds (Err e) (Refused r) left left_over read f same h = rw (same, h) refl
@@ -68,7 +68,7 @@ ends_here os o before now e f n = n ∙ sym (ends_push os o ∙ ap (λ b. b || i
 abbrev same : OperationText → OperationText
 same o = o
 
-pub all_read : {seen : Meanings} {start : List Symbol} {got : List OperationText} {left : List Symbol} (x : Operations)
+pub all_read : {seen : Meanings} {start : List StreamToken} {got : List OperationText} {left : List StreamToken} (x : Operations)
     → Standing same start got left → is_next kind.RightBrace left ≡ true → IsBody seen got x.body → x.ends ≡ ends_with_output got
     → ReadsFor (AreOperations seen) (Ok x) left (operations_text (length start) start)
 all_read {got = got} {left = left} x standing close body ends =

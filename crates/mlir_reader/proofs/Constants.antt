@@ -4,7 +4,7 @@ use Rattle.hw_model.specs.Kinds as hw
 use Rattle.hw_model.specs.Kinds.Literals.{literal}
 use Rattle.hw_model.specs.KindViews.{literal_of, literals_of}
 use Rattle.hw_model.specs.declared.kinds.Literal.{Literal}
-use Rattle.canonical_form.specs.Constants.{kept_literal, kept_literals}
+use Rattle.stored_form.specs.Constants.{kept_literal, kept_literals}
 
 -- a constant, kept so
 pub kept_of : Literal → hw.Literal

@@ -1,8 +1,7 @@
--- Pieces of operations, and operations: only the first symbol that is left decides.
-use Rattle.std.proofs.Common.{◌≡◌, ℕ, zero, suc, ◌≤◌, ◌<◌, Bool, true, false, ◌&&◌, cond, List, [], ◌∷◌, ◌++◌, length, map, Option, Some, None, Ok, Err, refl, ◌∙◌, ap, arith}
+-- Pieces of operations, and operations: only the first token that is left decides.
+use Rattle.std.proofs.Common.{◌≡◌, ℕ, zero, suc, ◌≤◌, ◌<◌, Bool, true, false, ◌&&◌, cond, List, [], ◌∷◌, ◌++◌, length, map, Option, Some, None, Ok, Err, refl, ◌∙◌, ap, arith, option_and_then}
 use Rattle.std.specs.Prelude.{codes}
-use Rattle.wiring.specs.Options.{bind}
-use Rattle.diag.specs.declared.refusal.Place.{Place}
+use Rattle.diag.specs.declared.refusal.Location.{Location}
 use Rattle.diag.specs.declared.refusal.Refusal.{Refusal}
 use Rattle.diag.specs.declared.refusal.OpName.{OpName}
 use Rattle.diag.specs.declared.refusal.OpName.TheVariants as op
@@ -14,27 +13,30 @@ use Rattle.hw_model.specs.Types.{Name}
 use Rattle.hw_model.specs.Types.HwType.{int}
 use Rattle.hw_model.specs.Design.{Entry}
 use Rattle.mlir_lexer.specs.Contents.{content_of}
-use Rattle.mlir_lexer.specs.Tokens.{Lexeme}
+use Rattle.mlir_lexer.specs.Tokens.{TextToken}
 use Rattle.mlir_lexer.specs.declared.token.TokenKind.TheVariants as kind
-use Rattle.mlir_syntax.specs.Stream.{Symbol, token, bad, end, first, is_first, is_word, refusal, cause_of_first}
+use Rattle.mlir_syntax.specs.Stream.{StreamToken, token, bad, end, first, is_first, is_word, refusal, cause_of_first}
 use Rattle.mlir_lexer.specs.TokenKinds.{is_kind}
 use Rattle.mlir_syntax.specs.Reads.{Reads}
 use Rattle.mlir_syntax.specs.Numerals.{count_limit}
 use Rattle.mlir_syntax.specs.TypeText.{any_type, most_open}
 use Rattle.mlir_operations.specs.OperandText.{ResultNames}
-use Rattle.assembly_format.specs.Formats.{text_of_keyword, format_of, front_elements, type_elements}
-use Rattle.mlir_operations.specs.ElementText.{InherentAttributes, Gathered, gathered_nothing, with_operands, with_types, with_inherent, truth_number, group_text, further_types, types_text, reset_operands, reset_text, reset_mode, sync_or_async_reset_text, input_text, output_text, inputs_text, outputs_text, instance_with, with_instance, instance_text, element_text, elements_text}
+use Rattle.assembly_format.specs.Formats.{text_of_keyword, format_of, prefix_elements, type_elements}
+use Rattle.mlir_operations.specs.ElementText.{InherentAttributes, Gathered, gathered_nothing, with_operands, with_types, with_inherent, truth_number, group_text, further_types, types_text}
+use Rattle.mlir_operations.specs.ElementText.{reset_operands, reset_text, reset_mode, sync_or_async_reset_text, input_text, output_text, inputs_text, outputs_text, instance_with, with_instance}
+use Rattle.mlir_operations.specs.ElementText.{instance_text, element_text, elements_text}
 use Rattle.mlir_syntax.specs.WordText.{predicate_named, bare_text, as_known, predicate_text, truth_named, truth_text, string_text, inner_symbol, module_symbol}
 use Rattle.mlir_operations.specs.ElementText.InherentAttributes.{with_reset, with_async_reset, predicate, position, number, literals, field_name}
-use Rattle.mlir_operations.specs.OperationText.{NameClass, operation, module_name, file_name, locations, outside, unknown, class_of, misplaced_refusal, is_outside, no_operation, bin_text, OperationText, given_entries, late_dictionary, form_text, named_operation, classed_operation, operation_after, operation_text}
-use Rattle.canonical_form.specs.Dictionaries.{takes_bin, string_keys}
+use Rattle.mlir_operations.specs.OperationText.{NameClass, operation, module_name, file_name, locations, outside, unknown, class_of, misplaced_refusal, is_outside, no_operation, bin_text}
+use Rattle.mlir_operations.specs.OperationText.{OperationText, given_entries, late_dictionary, form_text, named_operation, classed_operation, operation_after, operation_text}
+use Rattle.stored_form.specs.Dictionaries.{takes_bin, string_keys}
 use Rattle.mlir_operations.specs.ModuleText.{ModuleText, module_text}
 use Rattle.assembly_format.specs.declared.elements.FormatElement.{FormatElement}
 use Rattle.assembly_format.specs.declared.elements.FormatElement.TheVariants as element
 use Rattle.assembly_format.specs.declared.elements.Format.{Format}
 use Rattle.mlir_operations.proofs.SoundOperations.{sound_operation}
 use Rattle.mlir_reader.proofs.SoundModules.{sound_module}
-use Rattle.mlir_syntax.proofs.Local.{Whole, place_first, same_of, same_is_first, Loc, Local, loc_same, loc_on, loc_if, loc_next, loc_cond, loc_first, loc_after, loc_give, loc_err, loc_refused, loc_unexpected}
+use Rattle.mlir_syntax.proofs.Local.{Whole, location_first, same_of, same_is_first, Loc, Local, loc_same, loc_on, loc_if, loc_next, loc_cond, loc_first, loc_after, loc_give, loc_err, loc_refused, loc_unexpected}
 use Rattle.mlir_syntax.proofs.LocalParts.{local_want, local_word, local_name, local_symbol, local_number, local_integer, local_some, local_until, local_type, local_field, local_maybe, local_aggregate}
 use Rattle.mlir_operations.proofs.LocalOperands.{local_operand, local_maybe_results}
 
@@ -44,8 +46,8 @@ local_as_known : {A : Type 0} (op : OpName) (o : Option A) → Local (λ s. as_k
 local_as_known op None c n = loc_unexpected op
 local_as_known op (Some x) c n = loc_after (loc_give {y = x})
 
-local_known : {A : Type 0} (op : OpName) (f : List ℕ → Option A) → Local (λ s. as_known op s (bind (bare_text (first s)) f))
-local_known op f c n = loc_first (λ o _ s. as_known op s (bind (bare_text o) f)) (λ o. local_as_known op (bind (bare_text o) f) c n)
+local_known : {A : Type 0} (op : OpName) (f : List ℕ → Option A) → Local (λ s. as_known op s (option_and_then f (bare_text (first s))))
+local_known op f c n = loc_first (λ o _ s. as_known op s (option_and_then f (bare_text o))) (λ o. local_as_known op (option_and_then f (bare_text o)) c n)
 
 local_string : (op : OpName) → Local (string_text op)
 unfolding string_text
@@ -161,37 +163,37 @@ local_late op keys None c n = loc_on (local_maybe op keys c n) (λ es. loc_give 
 local_form : (op : OpName) (keys : List Name) (format : Format) → Local (form_text op keys format)
 unfolding form_text
 local_form op keys format c n =
-    loc_on (local_elements op (front_elements format) gathered_nothing c n) (λ g. loc_on (local_maybe op keys c n) (λ es.
+    loc_on (local_elements op (prefix_elements format) gathered_nothing c n) (λ g. loc_on (local_maybe op keys c n) (λ es.
     loc_on (local_elements op (type_elements format) g c n) (λ h. loc_on (local_late op keys es c n) (λ all. loc_give {y = record { gathered = h; dictionary = all }}))))
 
-local_named : (results : ResultNames) (o : Listed) (place : Place) → Local (named_operation results o place)
+local_named : (results : ResultNames) (o : Listed) (location : Location) → Local (named_operation results o location)
 unfolding named_operation
-local_named results o place c n =
+local_named results o location c n =
     loc_on (local_bin o c n) (λ bin.
     loc_on (loc_first (λ next _ s. form_text (op.Listed o) (string_keys o) (format_of o next) s) (λ next. local_form (op.Listed o) (string_keys o) (format_of o next) c n))
-    (λ t. loc_give {y = record { results = results; name = o; bin = bin; gathered = t.gathered; dictionary = t.dictionary; place = place }}))
+    (λ t. loc_give {y = record { results = results; name = o; bin = bin; gathered = t.gathered; dictionary = t.dictionary; location = location }}))
 
-alike_no_operation : (around : OpName) (y : Symbol) (a b : List Symbol) → no_operation around (y ∷ a) ≡ no_operation around (y ∷ b)
+alike_no_operation : (around : OpName) (y : StreamToken) (a b : List StreamToken) → no_operation around (y ∷ a) ≡ no_operation around (y ∷ b)
 unfolding no_operation
 alike_no_operation around (token t) a b = refl
 alike_no_operation around (bad p) a b = refl
 alike_no_operation around (end p) a b = refl
 
-place_of_either : (b : Bool) (p : Place) (o : OpName) (x y : Cause) → p ≡ Refusal.place (cond b (refusal p o x) (refusal p o y))
-place_of_either true p o x y = refl
-place_of_either false p o x y = refl
+location_of_either : (b : Bool) (p : Location) (o : OpName) (x y : Cause) → p ≡ Refusal.location (cond b (refusal p o x) (refusal p o y))
+location_of_either true p o x y = refl
+location_of_either false p o x y = refl
 
-place_no_operation : (around : OpName) (u : List Symbol) → Whole u → place_first u ≡ (no_operation around u).place
+location_no_operation : (around : OpName) (u : List StreamToken) → Whole u → location_first u ≡ (no_operation around u).location
 unfolding no_operation
-place_no_operation around [] w = refl
-place_no_operation around (token t ∷ u) w = place_of_either (is_outside t) t.place around OutsideProfile (cause_of_first t)
-place_no_operation around (bad p ∷ u) w = refl
-place_no_operation around (end p ∷ u) w = refl
+location_no_operation around [] w = refl
+location_no_operation around (token t ∷ u) w = location_of_either (is_outside t) t.location around OutsideProfile (cause_of_first t)
+location_no_operation around (bad p ∷ u) w = refl
+location_no_operation around (end p ∷ u) w = refl
 
 pub loc_no_operation : {A : Type 0} {c n : ℕ} (around : OpName) → Loc {A = A} c n (λ _ s. Err (no_operation around s))
-loc_no_operation around = loc_err (no_operation around) (same_of (no_operation around) (alike_no_operation around)) (place_no_operation around)
+loc_no_operation around = loc_err (no_operation around) (same_of (no_operation around) (alike_no_operation around)) (location_no_operation around)
 
-pub loc_misplaced : {A : Type 0} {c n : ℕ} (around : OpName) (t : Lexeme) (class : NameClass) → Loc {A = A} c n (λ _ s. Err (misplaced_refusal around s t class))
+pub loc_misplaced : {A : Type 0} {c n : ℕ} (around : OpName) (t : TextToken) (class : NameClass) → Loc {A = A} c n (λ _ s. Err (misplaced_refusal around s t class))
 unfolding misplaced_refusal
 loc_misplaced around t (operation o) = loc_refused Unexpected (op.Listed o)
 loc_misplaced around t module_name = loc_refused Unexpected (op.Listed listed.HwModule)
@@ -200,9 +202,9 @@ loc_misplaced around t locations = loc_refused OutsideProfile around
 loc_misplaced around t outside = loc_refused OutsideProfile (op.Other t.at (length t.text))
 loc_misplaced around t unknown = loc_refused UnknownOperation (op.Other t.at (length t.text))
 
-local_classed : (results : ResultNames) (t : Lexeme) (class : NameClass) → Local (λ s. classed_operation results s t class)
+local_classed : (results : ResultNames) (t : TextToken) (class : NameClass) → Local (λ s. classed_operation results s t class)
 unfolding classed_operation
-local_classed results t (operation o) c n = loc_after (local_named results o t.place c n)
+local_classed results t (operation o) c n = loc_after (local_named results o t.location c n)
 local_classed results t module_name c n = loc_misplaced (op.Listed listed.HwModule) t module_name
 local_classed results t file_name c n = loc_misplaced (op.Listed listed.HwModule) t file_name
 local_classed results t locations c n = loc_misplaced (op.Listed listed.HwModule) t locations
@@ -210,19 +212,19 @@ local_classed results t outside c n = loc_misplaced (op.Listed listed.HwModule) 
 local_classed results t unknown c n = loc_misplaced (op.Listed listed.HwModule) t unknown
 
 -- what stands after the names of results, by its first token
-abbrev OperationAt : ResultNames → Option Lexeme → ℕ → Reads OperationText
+abbrev OperationAt : ResultNames → Option TextToken → ℕ → Reads OperationText
 OperationAt results None k s = Err (no_operation (op.Listed listed.HwModule) s)
 OperationAt results (Some t) k s =
     cond (is_kind t.kind kind.BareName) (classed_operation results s t (class_of t.text)) (Err (no_operation (op.Listed listed.HwModule) s))
 
-operation_same : (results : ResultNames) (k : ℕ) (s : List Symbol) → operation_after results s ≡ OperationAt results (first s) k s
+operation_same : (results : ResultNames) (k : ℕ) (s : List StreamToken) → operation_after results s ≡ OperationAt results (first s) k s
 unfolding operation_after
 operation_same results k [] = refl
 operation_same results k (token t ∷ ts) = refl
 operation_same results k (bad p ∷ ts) = refl
 operation_same results k (end p ∷ ts) = refl
 
-loc_operation_at : {c n : ℕ} (results : ResultNames) (o : Option Lexeme) → Loc c n (OperationAt results o)
+loc_operation_at : {c n : ℕ} (results : ResultNames) (o : Option TextToken) → Loc c n (OperationAt results o)
 loc_operation_at results None = loc_no_operation (op.Listed listed.HwModule)
 loc_operation_at {c} {n} results (Some t) =
     loc_cond (is_kind t.kind kind.BareName) (local_classed results t (class_of t.text) c n) (loc_no_operation (op.Listed listed.HwModule))
@@ -236,26 +238,26 @@ local_operation c n = loc_on (local_maybe_results (op.Listed listed.HwModule) c 
 
 -- ---- what is read of an operation or a module is some token at least
 
-none_of : (b f : List Lexeme) (t : Lexeme) → [] ≡ b ++ (t ∷ f) → ⊥
+none_of : (b f : List TextToken) (t : TextToken) → [] ≡ b ++ (t ∷ f) → ⊥
 none_of [] f t h = absurd cc
 none_of (x ∷ b) f t h = absurd cc
 
-longer : (a : List Lexeme) (s left : List Symbol) → ([] ≡ a → ⊥) → s ≡ map token a ++ left → length left < length s
+longer : (a : List TextToken) (s left : List StreamToken) → ([] ≡ a → ⊥) → s ≡ map token a ++ left → length left < length s
 longer [] s left some e = absurd (some refl)
-longer (t ∷ a) s left some e = let h = front_short a left in let l = ap length e in omega (arith, h, l)
+longer (t ∷ a) s left some e = let h = prefix_short a left in let l = ap length e in omega (arith, h, l)
   where
-    front_short : (a : List Lexeme) (w : List Symbol) → length w ≤ length (map token a ++ w)
-    front_short [] w = omega arith
-    front_short (t ∷ a) w = let h = front_short a w in omega (arith, h)
+    prefix_short : (a : List TextToken) (w : List StreamToken) → length w ≤ length (map token a ++ w)
+    prefix_short [] w = omega arith
+    prefix_short (t ∷ a) w = let h = prefix_short a w in omega (arith, h)
 
-pub takes_operation : (s left : List Symbol) (x : OperationText) → operation_text s ≡ Ok (x, left) → length left < length s
+pub takes_operation : (s left : List StreamToken) (x : OperationText) → operation_text s ≡ Ok (x, left) → length left < length s
 takes_operation s left x h =
     let (a, e, p) = sound_operation.said s left x h in
     let r = p.1 in
     let q = r.4 in
     longer a s left (λ none. none_of r.0 q.1 q.3.0 (none ∙ r.2 ∙ ap (λ y. r.0 ++ y) (q.2 ∙ ap (λ y. y ++ q.1) q.3.1))) e
 
-pub takes_module : (s left : List Symbol) (x : ModuleText) → module_text s ≡ Ok (x, left) → length left < length s
+pub takes_module : (s left : List StreamToken) (x : ModuleText) → module_text s ≡ Ok (x, left) → length left < length s
 takes_module s left x h =
     let (a, e, p) = sound_module.said s left x h in
     longer a s left (λ none. none_of [] p.1 p.3.0 (none ∙ p.2 ∙ ap (λ y. y ++ p.1) p.3.1)) e

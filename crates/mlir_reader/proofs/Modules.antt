@@ -6,7 +6,7 @@ use Rattle.hw_model.specs.Design as hw
 use Rattle.ir_store.specs.BodyOps.{BodyOp, ids_in}
 use Rattle.ir_store.specs.Numbered.{op_by, ops_by_position}
 use Rattle.ir_store.specs.Designs.{numbered_module}
-use Rattle.ir_store.specs.OperationViews.{place_of}
+use Rattle.ir_store.specs.OperationViews.{location_of}
 use Rattle.mlir_operations.specs.ModuleText.{ModuleText}
 use Rattle.mlir_reader.specs.Resolving.{Meanings, no_meaning, with_definitions, port_definitions, ports_from, operations_from, meanings, port_meanings, kept_entries, ends_with_output, has_outputs, left_out_output, with_output, module_of}
 use Rattle.mlir_reader.specs.Meanings.{numbers_below}
@@ -50,9 +50,9 @@ module _ (m : ModuleText) (ops₀ ops : List BodyOp) (names seen₀ seen : Meani
       map (op_by (λ i. i)) ops ≡ cond ends (map (op_by (λ i. i)) ops₀) (map (op_by (λ i. i)) ops₀ ++ left_out_output m.close ∷ []) →
       ids_in ops ≡ cond ends (ids_in ops₀) (ids_in ops₀ ++ length (ids_in ops₀) ∷ []) →
       ends ≡ (ends_with_output m.operations || has_outputs m.ports) →
-      numbered_module (record { symbol = m.symbol; is_private = m.is_private; ports = ports; dictionary = entries; ops = ops; place = place_of m.place }) ≡ module_of m
+      numbered_module (record { symbol = m.symbol; is_private = m.is_private; ports = ports; dictionary = entries; ops = ops; location = location_of m.location }) ≡ module_of m
   module_is ports entries n s p t d o i w j e =
-      ap (λ (ps : List hw.Port). record { symbol = m.symbol; is_private = m.is_private; ports = ps; dictionary = entries; body = ops_by_position ops; place = place_of m.place }) (p ∙ ap (λ f. ports_from f 0 m.ports) s)
-      ∙ ap (λ (es : List hw.Entry). record { symbol = m.symbol; is_private = m.is_private; ports = ports_from no_meaning 0 m.ports; dictionary = es; body = ops_by_position ops; place = place_of m.place }) d
-      ∙ ap (λ (os : List hw.Op). record { symbol = m.symbol; is_private = m.is_private; ports = ports_from no_meaning 0 m.ports; dictionary = kept_entries listed.HwModule m.dictionary; body = os; place = place_of m.place })
+      ap (λ (ps : List hw.Port). record { symbol = m.symbol; is_private = m.is_private; ports = ps; dictionary = entries; body = ops_by_position ops; location = location_of m.location }) (p ∙ ap (λ f. ports_from f 0 m.ports) s)
+      ∙ ap (λ (es : List hw.Entry). record { symbol = m.symbol; is_private = m.is_private; ports = ports_from no_meaning 0 m.ports; dictionary = es; body = ops_by_position ops; location = location_of m.location }) d
+      ∙ ap (λ (os : List hw.Op). record { symbol = m.symbol; is_private = m.is_private; ports = ports_from no_meaning 0 m.ports; dictionary = kept_entries listed.HwModule m.dictionary; body = os; location = location_of m.location })
       (body_is m ops (cond ends (length m.operations) (length m.operations + 1)) enough (ids_whole i j) (body_seen n s t o w e))

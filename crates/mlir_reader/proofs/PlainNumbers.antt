@@ -19,7 +19,7 @@ digits_parts b bs h = and_parts (is_digit b) (list_all is_digit bs) h
 -- ---- reading digit by digit
 
 -- the first bytes are digits that stand for a number; the others decide whether all are
-pub record IsDecimalFront (bytes : List ℕ) (number at : ℕ) : Type 0 where
+pub record IsDecimalPrefix (bytes : List ℕ) (number at : ℕ) : Type 0 where
   pub digits : list_all is_digit bytes ≡ list_all is_digit (drop at bytes)
   pub same : number_in 10 0 bytes ≡ number_in 10 number (drop at bytes)
   pub small : number < 10 ^ at
@@ -31,7 +31,7 @@ fits_nine n i small few =
 
 -- ---- names of one number
 
--- of two numbers, of which the second goes on at least as long, the one with the larger front is larger
+-- of two numbers, of which the second goes on at least as long, the one with the larger prefix is larger
 larger : (f g : ℕ) (xs ys : List ℕ) → f < g → list_all is_digit xs ≡ true → length xs ≤ length ys → number_in 10 f xs < number_in 10 g ys
 larger f g [] [] less all long = less
 larger f g [] (y ∷ ys) less all long = larger f (g * 10 + hex_value y) [] ys (omega (arith, less)) refl (omega arith)
@@ -41,7 +41,7 @@ larger f g (x ∷ xs) (y ∷ ys) less all long =
     let v = digit_value x p.0 in
     larger (f * 10 + hex_value x) (g * 10 + hex_value y) xs ys (omega (arith, less, v.1)) p.1 (omega (arith, long))
 
--- of one number and one front, and as many, digits are the same
+-- of one number and one prefix, and as many, digits are the same
 same_digits : (f : ℕ) (xs ys : List ℕ) → list_all is_digit xs ≡ true → list_all is_digit ys ≡ true → length xs ≡ length ys
     → number_in 10 f xs ≡ number_in 10 f ys → xs ≡ ys
 same_digits f [] [] a b long same = refl
@@ -96,8 +96,8 @@ longer (x ∷ xs) [] a b no_zero some more = absurd (omega (arith, more))
 longer (x ∷ xs) (y ∷ []) a b no_zero some more = absurd (omega (arith, more))
 longer (x ∷ xs) (y ∷ z ∷ ys) a b no_zero some more =
     let v = digit_value y (digits_parts y (z ∷ ys) b).0 in
-    let front : 0 < 0 * 10 + hex_value y = grind (arith, v.0, no_zero) in
-    larger 0 (0 * 10 + hex_value y) (x ∷ xs) (z ∷ ys) front a (omega (arith, more))
+    let prefix : 0 < 0 * 10 + hex_value y = grind (arith, v.0, no_zero) in
+    larger 0 (0 * 10 + hex_value y) (x ∷ xs) (z ∷ ys) prefix a (omega (arith, more))
 
 -- two plain numbers of one value are one name
 pub one_number : (x y : Name) (n : ℕ) → number_of x ≡ Some n → number_of y ≡ Some n → x ≡ y

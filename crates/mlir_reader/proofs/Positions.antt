@@ -14,8 +14,10 @@ use Rattle.mlir_operations.specs.OperandText.{OperandName, ResultNames}
 use Rattle.mlir_operations.specs.OperandText.ResultNames.{no_names, names, pack}
 use Rattle.mlir_operations.specs.OperationText.{OperationText}
 use Rattle.mlir_operations.specs.ModuleText.{PortText, ModuleText}
-use Rattle.diag.specs.declared.refusal.Place as code
-use Rattle.mlir_reader.specs.Resolving.{Meanings, Defined, Definition, with_definition, with_definitions, no_meaning, known_or, ref_in, resolve_operand, operation_at, operations_from, operation_definitions, body_definitions, names_defined, names_from, port_definition, port_definitions, own_count, meanings, port_meanings, with_output, ends_with_output, has_outputs, left_out_output}
+use Rattle.diag.specs.declared.refusal.Location as code
+use Rattle.mlir_reader.specs.Resolving.{Meanings, Defined, Definition, with_definition, with_definitions, no_meaning, known_or, ref_in, resolve_operand, operation_at, operations_from}
+use Rattle.mlir_reader.specs.Resolving.{operation_definitions, body_definitions, names_defined, names_from, port_definition, port_definitions, own_count, meanings, port_meanings, with_output}
+use Rattle.mlir_reader.specs.Resolving.{ends_with_output, has_outputs, left_out_output}
 use Rattle.mlir_reader.specs.Resolving.Defined.{is_port, are_results}
 use Rattle.mlir_reader.specs.Meanings.{numbers_from, numbers_below}
 
@@ -156,11 +158,11 @@ numbered_is : (ops : List BodyOp) (n : ℕ) (os : List Op) → ids_in ops ≡ nu
 numbered_is ops n os ids seen stay =
     ap (λ js. map (op_by (position_of js)) ops) ids ∙ ops_moved (position_of (numbers_below n)) ops ∙ ap (map (renumbered (position_of (numbers_below n)))) seen ∙ stay
 
-completed_stays : (a b : Bool) (pos : ℕ → ℕ) (os : List Op) (place : code.Place) → map (renumbered pos) os ≡ os →
-    map (renumbered pos) (cond a os (cond b os (os ++ left_out_output place ∷ []))) ≡ cond a os (cond b os (os ++ left_out_output place ∷ []))
-completed_stays true b pos os place h = h
-completed_stays false true pos os place h = h
-completed_stays false false pos os place h = map-append (renumbered pos) os (left_out_output place ∷ []) ∙ ap (λ rest. rest ++ left_out_output place ∷ []) h
+completed_stays : (a b : Bool) (pos : ℕ → ℕ) (os : List Op) (location : code.Location) → map (renumbered pos) os ≡ os →
+    map (renumbered pos) (cond a os (cond b os (os ++ left_out_output location ∷ []))) ≡ cond a os (cond b os (os ++ left_out_output location ∷ []))
+completed_stays true b pos os location h = h
+completed_stays false true pos os location h = h
+completed_stays false false pos os location h = map-append (renumbered pos) os (left_out_output location ∷ []) ∙ ap (λ rest. rest ++ left_out_output location ∷ []) h
 
 -- a body whose ids are positions is the body of its text
 pub body_is : (m : ModuleText) (ops : List BodyOp) (n : ℕ) → length m.operations ≤ n → ids_in ops ≡ numbers_below n →

@@ -109,7 +109,7 @@ same_tables t u numbered far named = fun_ext (λ q. on q (number_of q))
   where
     on : (q : Name) (o : Option ℕ) → meaning_by u q o ≡ meaning_by t q o
     on q (Some n) =
-        ap (λ places. known_or (option_map defined_of (meaning_at places n)) (table_meanings u.far.entries q)) numbered
+        ap (λ locations. known_or (option_map defined_of (meaning_at locations n)) (table_meanings u.far.entries q)) numbered
         ∙ ap (λ es. known_or (option_map defined_of (meaning_at t.numbered.items n)) (table_meanings es q)) far
     on q None = ap (λ es. table_meanings es q) named
 
@@ -120,7 +120,7 @@ no_names t numbered far named = fun_ext (λ q. on q (number_of q))
   where
     on : (q : Name) (o : Option ℕ) → meaning_by t q o ≡ None
     on q (Some n) =
-        ap (λ places. known_or (option_map defined_of (meaning_at places n)) (table_meanings t.far.entries q)) numbered
+        ap (λ locations. known_or (option_map defined_of (meaning_at locations n)) (table_meanings t.far.entries q)) numbered
         ∙ ap (λ es. known_or (option_map defined_of (meaning_at [] n)) (table_meanings es q)) far
     on q None = ap (λ es. table_meanings es q) named
 
@@ -152,7 +152,7 @@ other_name o q name d other = go (same_name q name) (bytes_decides q name).0
 no_number : (q name : Name) (n : ℕ) → number_of q ≡ None → number_of name ≡ Some n → q ≡ name → ⊥
 no_number q name n e f same = let h : None ≡ Some n = sym e ∙ ap number_of same ∙ f in cc
 
--- a plain number that stood for nothing is put at its place
+-- a plain number that stood for nothing is put at its location
 pub number_put : (t u : Names) (name : Name) (n : ℕ) (d : code.Defined) → number_of name ≡ Some n → is_some (meanings_of t name) ≡ false
     → u.far.entries ≡ t.far.entries → u.named.entries ≡ t.named.entries
     → ((k : ℕ) → meaning_at u.numbered.items k ≡ cond (nat_eq n k) (Some d) (meaning_at t.numbered.items k))
@@ -194,7 +194,7 @@ number_far t u name n d e numbered named far = fun_ext (λ q. on q (number_of q)
 
     on : (q : Name) (o : Option ℕ) → number_of q ≡ o → meaning_by u q o ≡ known_or (meaning_by t q o) (new q)
     on q (Some m) f =
-        ap (λ places. known_or (option_map defined_of (meaning_at places m)) (table_meanings u.far.entries q)) numbered
+        ap (λ locations. known_or (option_map defined_of (meaning_at locations m)) (table_meanings u.far.entries q)) numbered
         ∙ ap (λ means. known_or (option_map defined_of (meaning_at t.numbered.items m)) (means q)) far
         ∙ known_or_three (option_map defined_of (meaning_at t.numbered.items m)) (table_meanings t.far.entries q) (new q)
     on q None f = ap (λ es. table_meanings es q) named ∙ other_name (table_meanings t.named.entries q) q name (Some (defined_of d)) (no_number q name n f e)
@@ -210,7 +210,7 @@ named_put t u name d e numbered far named = fun_ext (λ q. on q (number_of q) re
     on : (q : Name) (o : Option ℕ) → number_of q ≡ o
         → meaning_by u q o ≡ known_or (meaning_by t q o) (cond (same_name q name) (Some (defined_of d)) None)
     on q (Some m) f =
-        ap (λ places. known_or (option_map defined_of (meaning_at places m)) (table_meanings u.far.entries q)) numbered
+        ap (λ locations. known_or (option_map defined_of (meaning_at locations m)) (table_meanings u.far.entries q)) numbered
         ∙ ap (λ es. known_or (option_map defined_of (meaning_at t.numbered.items m)) (table_meanings es q)) far
         ∙ other_name (number_meaning t q m) q name (Some (defined_of d)) (λ same. no_number name q m e f (sym same))
     on q None f = ap (λ means. means q) named

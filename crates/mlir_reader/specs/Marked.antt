@@ -1,7 +1,7 @@
 -- Operations whose names are marked, without what their names stood for earlier.
 use Rattle.std.specs.Prelude.{Bool, List, map}
 use Rattle.hw_model.specs.Design.{Op}
-use Rattle.ir_store.specs.OperationViews.{place_of}
+use Rattle.ir_store.specs.OperationViews.{location_of}
 use Rattle.mlir_operations.specs.OperandText.{named_count}
 use Rattle.mlir_operations.specs.OperationText.{OperationText}
 use Rattle.mlir_reader.specs.Resolving.{Meanings, kind_named, resolve_operand, marked_results, own_types, own_name, kept_entries}
@@ -17,5 +17,5 @@ operation_marked means found o = record {
   name = own_name o;
   dictionary = kept_entries o.name o.dictionary;
   bin = o.bin;
-  place = place_of o.place;
+  location = location_of o.location;
 }

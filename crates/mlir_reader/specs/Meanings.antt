@@ -8,7 +8,7 @@ use Rattle.hw_model.specs.KindViews.{kind_of}
 use Rattle.hw_model.specs.Design.{Op, same_name}
 use Rattle.ir_store.specs.declared.operation.NewOp.{NewOp}
 use Rattle.ir_store.specs.DictionaryViews.{entries_in}
-use Rattle.ir_store.specs.OperationViews.{types_in, results_in, place_of}
+use Rattle.ir_store.specs.OperationViews.{types_in, results_in, location_of}
 use Rattle.ir_store.specs.Numbered.{ref_by}
 use Rattle.mlir_operations.specs.OperandText.{named_count}
 use Rattle.mlir_operations.specs.Views.{names_of}
@@ -34,11 +34,11 @@ definition name d = record { name = name; defined = defined_of d }
 abbrev pub table_meanings : List (Bor Name × code.Defined) → Meanings
 table_meanings entries name = option_map defined_of (lookup (λ k. same_name name k.now) entries)
 
--- what stands at the place of a number
+-- what stands at the location of a number
 abbrev pub meaning_at : List (Option code.Defined) → ℕ → Option code.Defined
 meaning_at table n = option_flatten (slice_get table n)
 
--- what a plain number stands for: what its place holds, or else what the table of those far above holds for its name
+-- what a plain number stands for: what its location holds, or else what the table of those far above holds for its name
 abbrev pub number_meaning : Names → Name → ℕ → Option Defined
 number_meaning t name n = known_or (option_map defined_of (meaning_at t.numbered.items n)) (table_meanings t.far.entries name)
 
@@ -66,7 +66,7 @@ op_of o = record {
   name = o.name;
   dictionary = entries_in o.dictionary;
   bin = o.bin;
-  place = place_of o.place;
+  location = location_of o.location;
 }
 
 -- the numbers below a bound, in order

@@ -38,7 +38,7 @@ pub record IsHead (t : text.ModuleText) (h : ModuleHead) : Type 0 where
   pub private : h.private ≡ t.is_private
   pub ports : store.ports_in h.ports ≡ ports_from no_meaning 0 t.ports
   pub outputs : h.outputs ≡ has_outputs t.ports
-  pub place : h.place ≡ t.place
+  pub location : h.location ≡ t.location
 
 -- what stands after the ports of a module's text
 abbrev pub body_in : text.ModuleText → text.BodyText
@@ -50,7 +50,7 @@ IsModule t m = store.numbered_module (store.module_of m) ≡ resolving.module_of
 
 -- the design of modules after those of another
 abbrev pub designs_after : hw.Design → Read (List text.ModuleText) → Read hw.Design
-designs_after front read = on read (λ ms left. Ok (front ++ resolving.design_of ms, left))
+designs_after prefix read = on read (λ ms left. Ok (prefix ++ resolving.design_of ms, left))
 
 -- `}` and the end of the text
 unfoldable pub closing_text : Reads (Unit {0})

@@ -1,6 +1,6 @@
 -- A text read: the design that its bytes say, or the first thing in it that is refused.
 use Rattle.std.specs.Prelude.{ℕ, ◌^◌, cond, nat_lt, List, length, Result, Ok, Err}
-use Rattle.diag.specs.Place.{start_place}
+use Rattle.diag.specs.Location.{start_location}
 use Rattle.diag.specs.declared.refusal.Refusal.{Refusal}
 use Rattle.diag.specs.declared.refusal.OpName.TheVariants as op
 use Rattle.diag.specs.declared.cause.Cause.TheVariants.{TooLong}
@@ -21,4 +21,4 @@ design_read (Err e) = Err e
 
 -- the design that bytes say, or the first refusal
 abbrev pub read : List ℕ → Result Design Refusal
-read source = cond (nat_lt text_limit (length source)) (Err (refusal start_place op.File TooLong)) (design_read (file_text (stream_of source)))
+read source = cond (nat_lt text_limit (length source)) (Err (refusal start_location op.File TooLong)) (design_read (file_text (stream_of source)))

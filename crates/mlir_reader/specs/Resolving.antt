@@ -2,7 +2,7 @@
 use Rattle.std.specs.Prelude.{ℕ, ◌+◌, Bool, true, false, cond, ◌==◌, nat_lt, not, min, max, replicate as times, List, [], ◌∷◌, ◌++◌, length, map, Option, Some, None, is_some, ℤ, pos}
 use Rattle.std.specs.Ordering.{nat_cmp, is_lt}
 use Rattle.std.specs.Cmp.Lexicographic.{slice_cmp}
-use Rattle.diag.specs.declared.refusal.Place as code
+use Rattle.diag.specs.declared.refusal.Location as code
 use Rattle.opcode.specs.declared.listed.Listed.{Listed}
 use Rattle.opcode.specs.declared.listed.Listed.TheVariants as listed
 use Rattle.hw_model.specs.Types.{Name, HwType}
@@ -20,7 +20,7 @@ use Rattle.hw_model.specs.Design.Attribute.{text_value}
 use Rattle.hw_model.specs.Design.Ref.{port, result, undefined}
 use Rattle.mlir_lexer.specs.Classes.{is_digit}
 use Rattle.mlir_lexer.specs.Runs.{run}
-use Rattle.ir_store.specs.OperationViews.{place_of}
+use Rattle.ir_store.specs.OperationViews.{location_of}
 use Rattle.ir_store.specs.ResultTypes.{result_types, result_count}
 use Rattle.mlir_operations.specs.OperandText.{OperandName, ResultNames, named_count}
 use Rattle.mlir_operations.specs.OperandText.ResultNames.{no_names, names, pack}
@@ -28,9 +28,9 @@ use Rattle.mlir_operations.specs.ElementText.{InherentAttributes}
 use Rattle.mlir_operations.specs.ElementText.InherentAttributes.{with_reset, with_async_reset, predicate, position, number, literals, field_name, child}
 use Rattle.mlir_operations.specs.OperationText.{OperationText, is_last}
 use Rattle.mlir_operations.specs.ModuleText.{PortText, ModuleText}
-use Rattle.canonical_form.specs.ResultTypes.{type_or_none}
-use Rattle.canonical_form.specs.Dictionaries.{has_name, is_name_entry, is_dropped}
-use Rattle.canonical_form.specs.Constants.{kept_by_first, kept_literals}
+use Rattle.stored_form.specs.ResultTypes.{type_or_none}
+use Rattle.stored_form.specs.Dictionaries.{has_name, is_name_entry, is_dropped}
+use Rattle.stored_form.specs.Constants.{kept_by_first, kept_literals}
 
 -- ---- constants
 
@@ -259,7 +259,7 @@ operation_at means earlier i o = record {
   name = own_name o;
   dictionary = kept_entries o.name o.dictionary;
   bin = o.bin;
-  place = place_of o.place;
+  location = location_of o.location;
 }
 
 -- the operations of a body, from a position on
@@ -292,8 +292,8 @@ ends_with_output [] = false
 ends_with_output (o ∷ os) = cond (is_last o.name) true (ends_with_output os)
 
 -- the output of a module that leaves it out: without values and dictionary, at the closing brace
-abbrev pub left_out_output : code.Place → Op
-left_out_output place = record {
+abbrev pub left_out_output : code.Location → Op
+left_out_output location = record {
   kind = output;
   operands = [];
   types = [];
@@ -302,7 +302,7 @@ left_out_output place = record {
   name = [];
   dictionary = [];
   bin = false;
-  place = place_of place;
+  location = location_of location;
 }
 
 -- a module without output ports may leave its output out
@@ -325,7 +325,7 @@ module_of m = record {
   ports = ports_from no_meaning 0 m.ports;
   dictionary = kept_module_entries m.dictionary;
   body = with_output m (operations_from (meanings m) (port_meanings m.ports) 0 m.operations);
-  place = place_of m.place;
+  location = location_of m.location;
 }
 
 -- the design that modules' texts say

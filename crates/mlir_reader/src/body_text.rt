@@ -8,7 +8,7 @@ ghost use Rattle.mlir_reader.specs.ModuleViews.{AreOperations, IsBodyText};
 
 use crate::draft::Draft;
 use crate::names::Names;
-use diag::refusal::Place;
+use diag::refusal::Location;
 use ir_store::body::Body;
 use ir_store::dictionary::Dictionary;
 use mlir_lexer::token::TokenKind;
@@ -35,8 +35,8 @@ pub struct BodyText {
     pub dictionary: Dictionary,
     /// Its operations.
     pub operations: Operations,
-    /// The place of its closing brace.
-    pub close: Place,
+    /// The location of its closing brace.
+    pub close: Location,
 }
 
 /// `[attributes {..}] { OPERATIONS }` after ports whose names stand for something, to which those of the operations
@@ -58,7 +58,7 @@ pub fn body_text<'s>(
     Ok(BodyText {
         dictionary,
         operations,
-        close: close.place,
+        close: close.location,
     })
 }
 

@@ -125,8 +125,8 @@ fn define_each<'s>(
 {
     let again = names.define(first, Defined::Result(position, 0))?;
     found.push(again)?;
-    for (place, name) in others.iter().enumerate() {
-        let again = names.define(name, Defined::Result(position, place as u32 + 1))?;
+    for (index, name) in others.iter().enumerate() {
+        let again = names.define(name, Defined::Result(position, index as u32 + 1))?;
         found.push(again)?;
     }
     Ok(())

@@ -2,12 +2,12 @@
 ghost use Rattle.std.specs.Prelude.{◌≡◌, map, IfOk};
 ghost use Rattle.ir_store.specs.DictionaryViews.{entry_of, entries_in};
 ghost use Rattle.mlir_reader.specs.Resolving.{without, kept_entries, sort_entries};
-ghost use Rattle.canonical_form.specs.Dictionaries.{is_dropped};
+ghost use Rattle.stored_form.specs.Dictionaries.{is_dropped};
 
-use canonical_form::dictionaries::is_dropped;
 use ir_store::dictionary::{Dictionary, Entry};
 use opcode::listed::Listed;
 use std::alloc::{AllocError, Global};
+use stored_form::dictionaries::is_dropped;
 
 // The entries of a dictionary that are kept, in their order.
 fn entries_without(

@@ -42,7 +42,7 @@ pub struct DraftOperation<'s> {
     pub operands: SmallVec<OperandName<'s>, 4, Global>,
 }
 
-/// A body of which a front is read. An operation is put into it as soon as the names of its operands stand for
+/// A body of which a prefix is read. An operation is put into it as soon as the names of its operands stand for
 /// something, and so do those of all before it; until then it waits. Contracts see it by `Drafts`.
 #[derive(Drop)]
 pub struct Draft<'s> {
@@ -237,7 +237,7 @@ fn new_operation(
         name,
         dictionary,
         bin: text.bin,
-        place: text.place,
+        location: text.location,
     })
 }
 
@@ -285,13 +285,13 @@ fn give_back(waiting: &mut VecDeque<DraftOperation<'_>>)
     }
 }
 
-// Where, from a place on, the first operand stands whose name stands for nothing, or how many operands there are.
+// Where, from a location on, the first operand stands whose name stands for nothing, or how many operands there are.
 fn first_unfound(names: &Names<'_>, operands: &[OperandName<'_>], from: usize) -> usize
     ensures { from ≤ length operands.now → result ≡ from + found_count (meanings_of names.now) (drop from (map operand_of operands.now)) }
 {
-    for place in from..operands.len() {
-        if names.find(operands[place].name).is_none() {
-            return place;
+    for index in from..operands.len() {
+        if names.find(operands[index].name).is_none() {
+            return index;
         }
     }
     operands.len()

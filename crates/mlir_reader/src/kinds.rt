@@ -4,17 +4,17 @@ ghost use Rattle.std.specs.Box.{box_value};
 ghost use Rattle.hw_model.specs.TypeViews.{type_of};
 ghost use Rattle.hw_model.specs.KindViews.{kind_of, integer_of, predicate_of, reset_of, literal_of, literals_in, instance_of};
 ghost use Rattle.mlir_reader.specs.Resolving.{kind_named, inherent_kind, inherent_predicate, inherent_position, inherent_number, inherent_literals, inherent_field, inherent_instance, inherent_reset, firreg_kind};
-ghost use Rattle.canonical_form.specs.Constants.{has_negative, kept_number, kept_integer, kept_by_first, kept_literal, kept_literals};
+ghost use Rattle.stored_form.specs.Constants.{has_negative, kept_number, kept_integer, kept_by_first, kept_literal, kept_literals};
 ghost use Rattle.mlir_operations.specs.ElementText.InherentAttributes.{nothing};
 ghost use Rattle.mlir_operations.specs.Views.{inherent_of};
 
-use canonical_form::constants::has_negative;
 use hw_model::kinds::{Instance, Integer, Literal, LiteralList, OpKind, Predicate, Reset};
 use hw_model::types::Ty;
 use io_edge::byte_text::Text;
 use mlir_operations::syntax::InherentAttributes;
 use opcode::listed::Listed;
 use std::alloc::{AllocError, Global};
+use stored_form::constants::has_negative;
 
 /// The kind of an operation of a name, from what its text says besides operands, and from its types.
 pub fn kind_named(

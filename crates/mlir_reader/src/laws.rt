@@ -3,10 +3,10 @@
 ghost use Rattle.std.specs.Prelude.{◌≡◌, ℕ, ◌≤◌, List, length, Ok, Err};
 ghost use Rattle.diag.specs.declared.refusal.Refusal.{Refusal};
 ghost use Rattle.hw_model.specs.Design.{Design};
-ghost use Rattle.canonical_form.specs.Bytes.{AreBytes};
-ghost use Rattle.canonical_form.specs.Canonical.{IsCanonical};
+ghost use Rattle.stored_form.specs.Bytes.{AreBytes};
+ghost use Rattle.stored_form.specs.Canonical.{IsCanonical};
 ghost use Rattle.mlir_reader.specs.Reading.{text_limit, read};
-ghost use Rattle.mlir_reader.specs.Locality.{IsOfItsSymbol, IsUnspelledFront};
+ghost use Rattle.mlir_reader.specs.Locality.{IsOfItsToken, IsUnspelledPrefix};
 ghost use Rattle.mlir_reader.specs.Spelling.{Spells};
 
 /// Does nothing. Its clause says that what is read of a text is spelled by it.
@@ -21,8 +21,8 @@ pub fn what_is_read_is_canonical()
 
 /// Does nothing. Its clause says that a refusal of a text that is not too long is of one of its symbols, whatever follows it:
 /// each text that begins with the same tokens and the same symbol after them is refused alike.
-pub fn a_refusal_is_of_its_symbol()
-    ensures { (source : List ℕ) (r : Refusal) → length source ≤ text_limit → read source ≡ Err r → IsOfItsSymbol source r }
+pub fn a_refusal_is_of_its_token()
+    ensures { (source : List ℕ) (r : Refusal) → length source ≤ text_limit → read source ≡ Err r → IsOfItsToken source r }
 {}
 
 /// Does nothing. Its clause says that what a text spells is read of it, where the text is not too long. So a text that is not too long is
@@ -33,6 +33,6 @@ pub fn what_is_spelled_is_read()
 
 /// Does nothing. Its clause says that where a text that is not too long is refused, no text that begins with the same tokens and the same
 /// symbol after them spells a design, however long it is.
-pub fn a_refused_front_is_not_spelled()
-    ensures { (source : List ℕ) (r : Refusal) → length source ≤ text_limit → read source ≡ Err r → IsUnspelledFront source r }
+pub fn a_refused_prefix_is_not_spelled()
+    ensures { (source : List ℕ) (r : Refusal) → length source ≤ text_limit → read source ≡ Err r → IsUnspelledPrefix source r }
 {}

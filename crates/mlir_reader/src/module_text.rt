@@ -1,6 +1,6 @@
 //! Modules in a text, whose names are resolved as they are read (CIRCT, HW dialect: `hw.module`).
 ghost use Rattle.std.specs.Prelude.{◌≡◌, ◌<◌, ◌≤◌, length, Some, Ok, OnOk};
-ghost use Rattle.mlir_lexer.specs.Tokens.{lexeme_of};
+ghost use Rattle.mlir_lexer.specs.Tokens.{text_token};
 ghost use Rattle.mlir_operations.specs.ModuleText.{module_after, classed_module, module_text};
 ghost use Rattle.mlir_operations.specs.OperationText.{class_of};
 ghost use Rattle.mlir_syntax.specs.Stream.{first};
@@ -10,7 +10,7 @@ ghost use Rattle.mlir_reader.specs.ModuleViews.{IsModule};
 use crate::body_text::body_text;
 use crate::names::Names;
 use crate::resolving::{ModuleHead, named_ports, whole_module};
-use diag::refusal::{OpName, Place};
+use diag::refusal::{Location, OpName};
 use ir_store::design::Module;
 use mlir_lexer::token::{Token, TokenKind, is_kind};
 use mlir_operations::operation_names::{NameClass, class_of};
@@ -49,15 +49,15 @@ fn classed_module<'s>(
     token: Token<'s>,
     likely: u32,
 ) -> Result<Module, ReadFail>
-    requires { Some (lexeme_of token) ≡ first reader.old }
-    ensures gives { ReadsFor IsModule result reader.new (classed_module reader.old (lexeme_of token.entry) (class_of token.entry.text.now)) }
+    requires { Some (text_token token) ≡ first reader.old }
+    ensures gives { ReadsFor IsModule result reader.new (classed_module reader.old (text_token token.entry) (class_of token.entry.text.now)) }
     ensures shorter { OnOk result (length reader.new < length reader.old) }
 {
     let op = OpName::File;
     match class_of(token.text) {
         NameClass::Module => {
             reader.advance();
-            module_after(reader, names, token.place, likely)
+            module_after(reader, names, token.location, likely)
         }
         NameClass::Operation(name) => {
             let class = NameClass::Operation(name);
@@ -82,10 +82,10 @@ fn classed_module<'s>(
 fn module_after<'s>(
     reader: &mut Reader<'s>,
     names: &mut Names<'s>,
-    place: Place,
+    location: Location,
     likely: u32,
 ) -> Result<Module, ReadFail>
-    ensures gives { ReadsFor IsModule result reader.new (module_after place reader.old) }
+    ensures gives { ReadsFor IsModule result reader.new (module_after location reader.old) }
     ensures shorter { OnOk result (length reader.new ≤ length reader.old) }
 {
     let private = private_text(reader);
@@ -98,7 +98,7 @@ fn module_after<'s>(
         private,
         ports: ports.list,
         outputs: ports.outputs,
-        place,
+        location,
     };
     Ok(whole_module(reader.alloc(), head, body)?)
 }

@@ -30,7 +30,7 @@ pub enum Defined {
 /// Names, each with what it stood for first. Contracts see them by `meanings_of`.
 #[derive(Drop)]
 pub struct Names<'s> {
-    // What plain numbers stand for, each at its own place.
+    // What plain numbers stand for, each at its own location.
     pub(crate) numbered: Vec<Option<Defined>>,
     // What plain numbers stand for that are far above those.
     pub(crate) far: IndexMap<&'s [u8], Defined>,
@@ -86,7 +86,7 @@ impl<'s> Names<'s> {
         }
     }
 
-    // What a plain number stands for that is far above those with a place.
+    // What a plain number stands for that is far above those with a location.
     fn find_far(&self, name: &[u8]) -> Option<Defined>
         ensures { option_map defined_of result ≡ table_meanings self.now.far.entries name.now }
     {
@@ -143,17 +143,21 @@ fn clear_table<'s>(alloc: Global, table: &mut IndexMap<&'s [u8], Defined>)
     }
 }
 
-// Puts what a number stands for at its place, after empty ones where there are fewer.
-fn put(places: &mut Vec<Option<Defined>>, number: u32, defined: Defined) -> Result<(), AllocError>
-    ensures { OnOk result ((n : ℕ) → meaning_at places.new.items n ≡ cond (nat_eq number n) (Some defined) (meaning_at places.old.items n)) }
+// Puts what a number stands for at its location, after empty ones where there are fewer.
+fn put(
+    locations: &mut Vec<Option<Defined>>,
+    number: u32,
+    defined: Defined,
+) -> Result<(), AllocError>
+    ensures { OnOk result ((n : ℕ) → meaning_at locations.new.items n ≡ cond (nat_eq number n) (Some defined) (meaning_at locations.old.items n)) }
 {
-    let place = number as usize;
-    if place < places.len() {
-        places[place] = Some(defined);
+    let location = number as usize;
+    if location < locations.len() {
+        locations[location] = Some(defined);
         return Ok(());
     }
-    places.resize(place, None)?;
-    places.push(Some(defined))?;
+    locations.resize(location, None)?;
+    locations.push(Some(defined))?;
     Ok(())
 }
 

@@ -5,13 +5,13 @@ ghost use Rattle.ir_store.specs.DictionaryViews.{attribute_of, entries_in};
 ghost use Rattle.mlir_reader.specs.Resolving.{text_in, given_name, unless_digits, first_name, own_name_of};
 ghost use Rattle.mlir_operations.specs.Views.{names_of};
 
-use canonical_form::dictionaries::{has_name, is_name_entry};
 use io_edge::byte_text::Text;
 use ir_store::dictionary::{Attribute, Dictionary};
 use mlir_lexer::classes::{Digit, run_of};
 use mlir_operations::syntax::ResultNames;
 use opcode::listed::Listed;
 use std::alloc::{AllocError, Global};
+use stored_form::dictionaries::{has_name, is_name_entry};
 
 /// The own name of a register or a wire: that of its dictionary, or else that of its result unless it is digits alone;
 /// other operations have none.

@@ -14,7 +14,7 @@ use crate::body_text::BodyText;
 use crate::definitions::define_port;
 use crate::dictionaries::kept_entries;
 use crate::names::{Defined, Names};
-use diag::refusal::Place;
+use diag::refusal::Location;
 use hw_model::kinds::OpKind;
 use io_edge::byte_text::Text;
 use ir_store::body::Body;
@@ -46,8 +46,8 @@ pub struct ModuleHead {
     pub ports: PortList,
     /// Whether one is an output.
     pub outputs: bool,
-    /// The place of its name.
-    pub place: Place,
+    /// The location of its name.
+    pub location: Location,
 }
 
 /// The ports of a module, each with its mark. Their names, and no others, stand for something then. As many as 2^32,
@@ -85,7 +85,7 @@ pub fn whole_module(alloc: Global, head: ModuleHead, body: BodyText) -> Result<M
         ports: head.ports,
         dictionary,
         body: completed,
-        place: head.place,
+        location: head.location,
     })
 }
 
@@ -115,7 +115,7 @@ fn resolved_ports<'s>(
 }
 
 // A body with the output that its text leaves out, unless that ends already.
-fn with_output(alloc: Global, body: Body, ends: bool, close: Place) -> Result<Body, AllocError>
+fn with_output(alloc: Global, body: Body, ends: bool, close: Location) -> Result<Body, AllocError>
     requires count { length (ids_of body) + 1 < 2 ^ 32 }
     requires gaps { gaps body ≡ 0 }
     ensures ops { IfOk result (λ whole. map (op_by (λ i. i)) (ops_of whole) ≡ cond ends (map (op_by (λ i. i)) (ops_of body)) (map (op_by (λ i. i)) (ops_of body) ++ left_out_output close ∷ [])) }
@@ -192,8 +192,8 @@ fn has_outputs(ports: &[PortText<'_>]) -> bool
 }
 
 // The output of a module that leaves it out. It takes no memory.
-fn left_out_output(alloc: Global, place: Place) -> NewOp
-    ensures { op_of result ≡ left_out_output place }
+fn left_out_output(alloc: Global, location: Location) -> NewOp
+    ensures { op_of result ≡ left_out_output location }
 {
     NewOp {
         kind: OpKind::Output,
@@ -204,6 +204,6 @@ fn left_out_output(alloc: Global, place: Place) -> NewOp
         name: Text::new(alloc),
         dictionary: Dictionary::new(alloc),
         bin: false,
-        place,
+        location,
     }
 }

@@ -1,18 +1,18 @@
 //! The results of operations, with marks where their names stood for something earlier.
-ghost use Rattle.std.specs.Prelude.{◌≡◌, ℕ, ◌++◌, ◌∷◌, [], false, map, drop, slice_index_or, IfOk, IfSome, OnOk};
+ghost use Rattle.std.specs.Prelude.{◌≡◌, ◌++◌, ◌∷◌, [], false, map, drop, slice_index_or, IfOk, OnOk};
 ghost use Rattle.std.specs.Option.{option_map};
 ghost use Rattle.hw_model.specs.KindViews.{kind_of};
 ghost use Rattle.hw_model.specs.TypeViews.{type_of};
 ghost use Rattle.ir_store.specs.ResultTypes.{result_types};
 ghost use Rattle.ir_store.specs.OperationViews.{results_in};
 ghost use Rattle.mlir_reader.specs.Resolving.{marked_results};
-ghost use Rattle.canonical_form.specs.ResultTypes.{type_or_none};
+ghost use Rattle.stored_form.specs.ResultTypes.{type_or_none};
 
-use hw_model::families::Family;
 use hw_model::kinds::OpKind;
 use hw_model::types::Ty;
 use ir_store::operation::{NewResult, NewResultList};
 use ir_store::result_types::result_types;
+use ir_store::settled_type::{SettledType, has_one_result};
 use std::alloc::{AllocError, Global};
 
 /// The results of an operation of this kind, with these types and so many operands, with these marks.
@@ -25,42 +25,13 @@ pub fn results_of(
 ) -> Result<NewResultList, AllocError>
     ensures { IfOk result (λ rs. results_in rs ≡ marked_results (result_types (kind_of kind.now) (map type_of types.now) operands) marks.now) }
 {
-    match one_type(alloc, kind, types)? {
-        Some(ty) => marked_result(alloc, ty, marks),
-        None => {
-            let types = result_types(alloc, kind, types, operands)?;
-            marked_results(alloc, types, marks)
-        }
+    let family = kind.family();
+    if has_one_result(family) {
+        let ty = SettledType::of(family, types, operands).try_clone(alloc)?;
+        return marked_result(alloc, ty, marks);
     }
-}
-
-// The type of the one result of an operation of this kind, where it has its type from those that are written.
-#[tactic(auto, unfolding(ir_store::specs::ResultTypes::result_types, ir_store::specs::ResultTypes::result_type))]
-fn one_type(alloc: Global, kind: &OpKind, types: &[Ty]) -> Result<Option<Option<Ty>>, AllocError>
-    ensures { IfOk result (λ one. IfSome one (λ ty. (n : ℕ) → result_types (kind_of kind.now) (map type_of types.now) n ≡ option_map type_of ty ∷ [])) }
-{
-    match kind.family() {
-        Family::Icmp(_) | Family::Parity => Ok(Some(Some(Ty::Int(1)))),
-        Family::Extract(_) | Family::Replicate => Ok(Some(clone_type(alloc, types.get(1))?)),
-        Family::Variadic(_) | Family::Sub | Family::Division(_) | Family::Shift(_) => {
-            Ok(Some(clone_type(alloc, types.first())?))
-        }
-        Family::Mux | Family::Constant(_) | Family::Wire => {
-            Ok(Some(clone_type(alloc, types.first())?))
-        }
-        Family::Register(..) | Family::AsyncFirReg => Ok(Some(clone_type(alloc, types.first())?)),
-        _ => Ok(None),
-    }
-}
-
-// An equal type with memory of its own, where there is one.
-fn clone_type(alloc: Global, ty: Option<&Ty>) -> Result<Option<Ty>, AllocError>
-    ensures { IfOk result (λ copy. option_map type_of copy ≡ option_map (λ t. type_of t.now) ty.entry) }
-{
-    match ty {
-        Some(ty) => Ok(Some(ty.try_clone(alloc)?)),
-        None => Ok(None),
-    }
+    let types = result_types(alloc, kind, types, operands)?;
+    marked_results(alloc, types, marks)
 }
 
 // A result of this type with the first of these marks, and one of no type for each other mark.

@@ -5,44 +5,47 @@ use Rattle.hw_model.specs.Types.{Name, HwType}
 use Rattle.hw_model.specs.Types.HwType.{int}
 use Rattle.hw_model.specs.Design.{Attribute, Entry}
 use Rattle.hw_model.specs.Design.Attribute.{unit_value, text_value, symbol_value, truth_value, integer_value, list_value}
-use Rattle.mlir_lexer.specs.Tokens.{Lexeme}
+use Rattle.mlir_lexer.specs.Tokens.{TextToken}
 use Rattle.mlir_lexer.specs.declared.token.TokenKind.{TokenKind}
 use Rattle.mlir_lexer.specs.declared.token.TokenKind.TheVariants as kind
-use Rattle.mlir_syntax.specs.Stream.{Symbol, token, first, is_next, after}
+use Rattle.mlir_syntax.specs.Stream.{StreamToken, token, first, is_next, after}
 use Rattle.mlir_lexer.specs.TokenKinds.{is_kind}
 use Rattle.mlir_syntax.specs.Reads.{Reads, items_until}
 use Rattle.mlir_syntax.specs.TypeText.{type_text, too_deep, most_open}
-use Rattle.mlir_syntax.specs.AttributeText.{text_head, symbol_head, truth_head, number_head, list_head, attribute_head, is_stored, stored_integer, integer_type, typed_integer, in_order, list_text, attribute_with, attribute_text, is_among, new_key, string_value, value_of_key, entry_value, entry_text, entries, dictionary_text, maybe_dictionary}
-use Rattle.mlir_syntax.specs.Spelling.{Phrase, Nothing, TypePhrase, Mark, Holding, Then, Where, Commas, Between, NamePhrase, IntegerPhrase, TruthWord, AttributeWith, AttributePhrase, ValuePhrase, EntryPhrase, AreOnce, DictionaryPhrase, MaybeDictionary}
+use Rattle.mlir_syntax.specs.AttributeText.{text_head, symbol_head, truth_head, number_head, list_head, attribute_head, is_stored, stored_integer, integer_type, typed_integer, in_order, list_text}
+use Rattle.mlir_syntax.specs.AttributeText.{attribute_with, attribute_text, is_among, new_key, string_value, value_of_key, entry_value, entry_text, entries, dictionary_text, maybe_dictionary}
+use Rattle.mlir_syntax.specs.Spelling.{Phrase, Nothing, TypePhrase, Mark, Holding, Then, Where, Commas, Between, NamePhrase, IntegerPhrase, TruthWord, AttributeWith, AttributePhrase, ValuePhrase}
+use Rattle.mlir_syntax.specs.Spelling.{EntryPhrase, AreOnce, DictionaryPhrase, MaybeDictionary}
 use Rattle.mlir_syntax.proofs.Again.{At, at_then, at_one, at_where, at_nothing, at_either, on_ok, if_true, if_false, Leads, leads_one, leads_then, leads_where, leads_either, starts, shorter, Again, Any}
-use Rattle.mlir_syntax.proofs.AgainTokens.{unlike, Unlike, mark_at, holding_at, next_at, no_next, again_name, again_integer, leads_holding, leads_name, leads_symbol, leads_integer, BeginsInteger, integer_begins, leads_commas, until_at, no_mark, name_unlike}
+use Rattle.mlir_syntax.proofs.AgainTokens.{unlike, Unlike, mark_at, holding_at, next_at, no_next, again_name, again_integer, leads_holding, leads_name, leads_symbol, leads_integer, BeginsInteger}
+use Rattle.mlir_syntax.proofs.AgainTokens.{integer_begins, leads_commas, until_at, no_mark, name_unlike}
 use Rattle.mlir_syntax.proofs.AgainTypes.{again_type}
 
 -- ---- tokens retold
 
 -- what is said of a token of a kind is said of it as it stands
-pub of_kind : {B : Type 0} (G : Lexeme → B) {k : TokenKind} (t : Lexeme) → t.kind ≡ k → G t ≡ G (record t { kind = k })
+pub of_kind : {B : Type 0} (G : TextToken → B) {k : TokenKind} (t : TextToken) → t.kind ≡ k → G t ≡ G (record t { kind = k })
 of_kind G {k} t e = ap (λ i. G (record t { kind = i })) e
 
-pub of_text : {B : Type 0} (G : Lexeme → B) {k : TokenKind} {text : List ℕ} (t : Lexeme) → t.kind ≡ k → t.text ≡ text → G t ≡ G (record t { kind = k; text = text })
+pub of_text : {B : Type 0} (G : TextToken → B) {k : TokenKind} {text : List ℕ} (t : TextToken) → t.kind ≡ k → t.text ≡ text → G t ≡ G (record t { kind = k; text = text })
 of_text G {k} {text} t e f = ap (λ i. G (record t { kind = i })) e ∙ ap (λ x. G (record t { kind = k; text = x })) f
 
 -- what a reader sees by its first token
-pub seen : {A H : Type 0} {t : Lexeme} {s left : List Symbol} (r : List Symbol → H → A) (head : Option Lexeme → H) (b : H) → s ≡ token t ∷ left → head (Some t) ≡ b
+pub seen : {A H : Type 0} {t : TextToken} {s left : List StreamToken} (r : List StreamToken → H → A) (head : Option TextToken → H) (b : H) → s ≡ token t ∷ left → head (Some t) ≡ b
     → r s (head (first s)) ≡ r (token t ∷ left) b
 seen {t} {s} {left} r head b e h = ap (λ y. r y (head (first y))) e ∙ ap (r (token t ∷ left)) h
 
 -- ---- integers
 
 -- no colon stands there
-abbrev pub NoColon : List Symbol → Type 0
+abbrev pub NoColon : List StreamToken → Type 0
 NoColon s = is_next kind.Colon s ≡ false
 
-stored_at : (op : OpName) {z : ℤ} {s left : List Symbol} → is_stored z ≡ true → At (IntegerPhrase z) s left → stored_integer op s ≡ Ok (z, left)
+stored_at : (op : OpName) {z : ℤ} {s left : List StreamToken} → is_stored z ≡ true → At (IntegerPhrase z) s left → stored_integer op s ≡ Ok (z, left)
 unfolding stored_integer
 stored_at op {z} {s} {left} small h = on_ok _ ((again_integer op).gives z s left h tt) (if_true _ small refl)
 
-integer_type_at : (room : ℕ) (op : OpName) {x : HwType} {s left : List Symbol} → NoColon left
+integer_type_at : (room : ℕ) (op : OpName) {x : HwType} {s left : List StreamToken} → NoColon left
     → At (Then (Mark kind.Colon) (TypePhrase room x)) s left ⊎ At (Where (x ≡ int 64) Nothing) s left → integer_type room op s ≡ Ok (x, left)
 unfolding integer_type
 integer_type_at room op {x} {s} {left} clear (inl h) =
@@ -54,7 +57,7 @@ integer_type_at room op {x} {s} {left} clear (inr h) =
     let same = at_nothing p in
     if_false _ (ap (is_next kind.Colon) same ∙ clear) (ap (λ y. Ok (int 64, y)) same ∙ ap (λ y. Ok (y, left)) (sym e))
 
-typed_at : (room : ℕ) (op : OpName) {z : ℤ} {x : HwType} {s left : List Symbol} → NoColon left → At (AttributeWith (λ l ts. ⊥) room (integer_value z x)) s left
+typed_at : (room : ℕ) (op : OpName) {z : ℤ} {x : HwType} {s left : List StreamToken} → NoColon left → At (AttributeWith (λ l ts. ⊥) room (integer_value z x)) s left
     → typed_integer room op s ≡ Ok (integer_value z x, left)
 unfolding typed_integer
 typed_at room op clear h =
@@ -65,7 +68,7 @@ typed_at room op clear h =
 -- ---- attributes
 
 -- no attribute begins with a closing bracket
-abbrev OpensNot : Lexeme → Type 0
+abbrev OpensNot : TextToken → Type 0
 OpensNot = Unlike kind.RightBracket
 
 leads_with : (Lists : List Attribute → Phrase) (room : ℕ) → ((l : List Attribute) → Leads OpensNot (Lists l)) → (a : Attribute)
@@ -88,7 +91,7 @@ abbrev ListPhrase : (List Attribute → Phrase) → Attribute → Phrase
 ListPhrase Lists (list_value inner) ts = (l : List Attribute) × (inner ≡ in_order l) × Lists l ts
 ListPhrase Lists _ ts = ⊥
 
-symbol_at : (lists : Reads Attribute) (room : ℕ) (op : OpName) (name : Name) {s left : List Symbol}
+symbol_at : (lists : Reads Attribute) (room : ℕ) (op : OpName) (name : Name) {s left : List StreamToken}
     → At (Holding kind.SymbolName name) s left ⊎ At (Holding kind.SymbolString name) s left
     → attribute_with lists room op s (attribute_head (first s)) ≡ Ok (symbol_value name, left)
 unfolding attribute_with
@@ -99,7 +102,7 @@ symbol_at lists room op name (inr h) =
     let (t, e, p) = at_one h in
     seen (attribute_with lists room op) attribute_head (symbol_head name) e (of_kind (λ t. attribute_head (Some t)) t p.0 ∙ ap symbol_head p.1)
 
-truth_at : (lists : Reads Attribute) (room : ℕ) (op : OpName) (b : Bool) {s left : List Symbol} → At (TruthWord b) s left
+truth_at : (lists : Reads Attribute) (room : ℕ) (op : OpName) (b : Bool) {s left : List StreamToken} → At (TruthWord b) s left
     → attribute_with lists room op s (attribute_head (first s)) ≡ Ok (truth_value b, left)
 unfolding attribute_with
 truth_at lists room op true h =
@@ -109,13 +112,13 @@ truth_at lists room op false h =
     let (t, e, p) = at_one h in
     seen (attribute_with lists room op) attribute_head (truth_head false) e (of_text (λ t. attribute_head (Some t)) t p.0 p.1)
 
-number_head_of : (t : Lexeme) → (t.kind ≡ kind.Integer) ⊎ (t.kind ≡ kind.Minus) → attribute_head (Some t) ≡ number_head
+number_head_of : (t : TextToken) → (t.kind ≡ kind.Integer) ⊎ (t.kind ≡ kind.Minus) → attribute_head (Some t) ≡ number_head
 number_head_of t (inl k) = of_kind (λ t. attribute_head (Some t)) t k
 number_head_of t (inr k) = of_kind (λ t. attribute_head (Some t)) t k
 
 attribute_at : (lists : Reads Attribute) (Lists : List Attribute → Phrase) (room : ℕ) (op : OpName)
-    → ((a : Attribute) (s left : List Symbol) → At (ListPhrase Lists a) s left → (attribute_head (first s) ≡ list_head) × (lists s ≡ Ok (a, left)))
-    → (a : Attribute) {s left : List Symbol} → NoColon left → At (AttributeWith Lists room a) s left
+    → ((a : Attribute) (s left : List StreamToken) → At (ListPhrase Lists a) s left → (attribute_head (first s) ≡ list_head) × (lists s ≡ Ok (a, left)))
+    → (a : Attribute) {s left : List StreamToken} → NoColon left → At (AttributeWith Lists room a) s left
     → attribute_with lists room op s (attribute_head (first s)) ≡ Ok (a, left)
 unfolding attribute_with
 attribute_at lists Lists room op listed unit_value clear h = absurd h.says
@@ -132,10 +135,10 @@ attribute_at lists Lists room op listed (list_value inner) {s} {left} clear h =
     let (head, e) = listed (list_value inner) s left h in
     ap (attribute_with lists room op s) head ∙ e
 
-no_colon : (k : TokenKind) → is_kind k kind.Colon ≡ false → (s left : List Symbol) → At (Mark k) s left → NoColon s
+no_colon : (k : TokenKind) → is_kind k kind.Colon ≡ false → (s left : List StreamToken) → At (Mark k) s left → NoColon s
 no_colon k other s left h = no_mark kind.Colon other h
 
-list_at : (room : ℕ) (op : OpName) → Again NoColon (attribute_text room op) (AttributePhrase room) → (a : Attribute) {s left : List Symbol}
+list_at : (room : ℕ) (op : OpName) → Again NoColon (attribute_text room op) (AttributePhrase room) → (a : Attribute) {s left : List StreamToken}
     → At (ListPhrase (λ l. Between kind.LeftBracket kind.RightBracket (Commas (AttributePhrase room) l)) a) s left
     → (attribute_head (first s) ≡ list_head) × (list_text (attribute_text room op) op s ≡ Ok (a, left))
 unfolding list_text
@@ -160,7 +163,7 @@ again_attribute zero op = record {
   gives = λ a s left h clear. attribute_at (too_deep op) (λ l ts. ⊥) zero op (λ a s left h. none_listed (too_deep op) a h) a clear h;
 }
   where
-    none_listed : (lists : Reads Attribute) (a : Attribute) {s left : List Symbol} → At (ListPhrase (λ l ts. ⊥) a) s left
+    none_listed : (lists : Reads Attribute) (a : Attribute) {s left : List StreamToken} → At (ListPhrase (λ l ts. ⊥) a) s left
         → (attribute_head (first s) ≡ list_head) × (lists s ≡ Ok (a, left))
     none_listed lists unit_value h = absurd h.says
     none_listed lists (text_value text) h = absurd h.says
@@ -176,17 +179,17 @@ again_attribute (suc room) op = record {
 -- ---- dictionaries
 
 -- what may stand after an entry
-abbrev EntryEnd : List Symbol → Type 0
+abbrev EntryEnd : List StreamToken → Type 0
 EntryEnd s = (is_next kind.Colon s ≡ false) × (is_next kind.Equals s ≡ false)
 
-entry_end : (k : TokenKind) {s left : List Symbol} → is_kind k kind.Colon ≡ false → is_kind k kind.Equals ≡ false → At (Mark k) s left → EntryEnd s
+entry_end : (k : TokenKind) {s left : List StreamToken} → is_kind k kind.Colon ≡ false → is_kind k kind.Equals ≡ false → At (Mark k) s left → EntryEnd s
 entry_end k clear other h = (no_colon k clear _ _ h, no_mark kind.Equals other h)
 
-key_at : (op : OpName) (keys : List Name) (key : Name) {s left : List Symbol} → is_among key keys ≡ false → At (NamePhrase key) s left → new_key op keys s ≡ Ok (key, left)
+key_at : (op : OpName) (keys : List Name) (key : Name) {s left : List StreamToken} → is_among key keys ≡ false → At (NamePhrase key) s left → new_key op keys s ≡ Ok (key, left)
 unfolding new_key
 key_at op keys key {s} {left} new h = on_ok _ ((again_name op).gives key s left h tt) (if_false _ new refl)
 
-value_at : (op : OpName) (strings : List Name) (e : Entry) {s left : List Symbol} → NoColon left
+value_at : (op : OpName) (strings : List Name) (e : Entry) {s left : List StreamToken} → NoColon left
     → At (Where (is_among e.key strings ≡ false) (AttributePhrase most_open e.value)) s left
     ⊎ At (λ ts. (is_among e.key strings ≡ true) × ((text : Name) × (e.value ≡ text_value text) × Holding kind.StringLiteral text ts)) s left
     → value_of_key 32 op strings e.key s ≡ Ok (e.value, left)
@@ -201,7 +204,7 @@ value_at op strings e {s} {left} clear (inr h) =
     let (t, c, w) = holding_at op inside in
     if_true _ is (on_ok _ w (ap (λ x. Ok (text_value x, left)) c ∙ ap (λ x. Ok (x, left)) (sym same)))
 
-entry_at : (op : OpName) (strings keys : List Name) (e : Entry) {s left : List Symbol} → is_among e.key keys ≡ false → EntryEnd left
+entry_at : (op : OpName) (strings keys : List Name) (e : Entry) {s left : List StreamToken} → is_among e.key keys ≡ false → EntryEnd left
     → At (Then (NamePhrase e.key) (Then (Mark kind.Equals) (ValuePhrase strings e))) s left
     ⊎ At (Where ((is_among e.key strings ≡ false) × (e.value ≡ unit_value)) (NamePhrase e.key)) s left
     → entry_text 32 op strings keys s ≡ Ok (e, left)
@@ -216,13 +219,13 @@ entry_at op strings keys e {s} {left} new clear (inr h) =
     let (is, p) = at_where h in
     on_ok _ (key_at op keys e.key new p) (on_ok _ (if_false _ clear.1 (if_false _ is.0 (ap (λ x. Ok (x, left)) (sym is.1)))) refl)
 
-leads_entry : {T : Lexeme → Type 0} (strings : List Name) (e : Entry) → Leads T (NamePhrase e.key) → Leads T (EntryPhrase strings e)
+leads_entry : {T : TextToken → Type 0} (strings : List Name) (e : Entry) → Leads T (NamePhrase e.key) → Leads T (EntryPhrase strings e)
 leads_entry strings e name = leads_either (leads_then name) (leads_where name)
 
 any_entry : (strings : List Name) (e : Entry) → Leads (λ _. Unit {0}) (EntryPhrase strings e)
 any_entry strings e = leads_entry strings e (leads_name (λ t k. tt) (λ t k. tt))
 
-entries_at : (op : OpName) (strings keys : List Name) (n : ℕ) (e : Entry) (es : List Entry) (s left : List Symbol) → AreOnce keys (e ∷ es)
+entries_at : (op : OpName) (strings keys : List Name) (n : ℕ) (e : Entry) (es : List Entry) (s left : List StreamToken) → AreOnce keys (e ∷ es)
     → At (Commas (EntryPhrase strings) (e ∷ es)) s left → EntryEnd left → is_next kind.Comma left ≡ false → length s ≤ n
     → entries 32 op strings keys n s ≡ Ok (e ∷ es, left)
 unfolding entries
@@ -240,7 +243,7 @@ entries_at op strings keys (suc n) e (f ∷ fs) s left once h end clear le =
     (if_true _ next (on_ok _ (ap (entries 32 op strings (keys ++ e.key ∷ []) n) following
     ∙ entries_at op strings (keys ++ e.key ∷ []) n f fs k left once.1 d end clear (omega (arith, short, short2, le))) refl))
 
-dictionary_at : (op : OpName) (strings : List Name) (es : List Entry) {s left : List Symbol} → At (DictionaryPhrase strings es) s left
+dictionary_at : (op : OpName) (strings : List Name) (es : List Entry) {s left : List StreamToken} → At (DictionaryPhrase strings es) s left
     → dictionary_text op strings s ≡ Ok (es, left)
 unfolding dictionary_text
 dictionary_at op strings [] {s} {left} h =
@@ -265,10 +268,10 @@ pub again_dictionary : (op : OpName) (strings : List Name) → Again Any (dictio
 again_dictionary op strings = record { gives = λ es s left h _. dictionary_at op strings es h }
 
 -- no dictionary stands there
-abbrev pub NoBrace : List Symbol → Type 0
+abbrev pub NoBrace : List StreamToken → Type 0
 NoBrace s = is_next kind.LeftBrace s ≡ false
 
-pub some_dictionary_at : (op : OpName) (strings : List Name) (es : List Entry) {s left : List Symbol} → At (DictionaryPhrase strings es) s left
+pub some_dictionary_at : (op : OpName) (strings : List Name) (es : List Entry) {s left : List StreamToken} → At (DictionaryPhrase strings es) s left
     → maybe_dictionary op strings s ≡ Ok (Some es, left)
 unfolding maybe_dictionary
 some_dictionary_at op strings es h =
@@ -277,7 +280,7 @@ some_dictionary_at op strings es h =
     let (next, following) = next_at a in
     if_true _ next (on_ok _ (dictionary_at op strings es h) refl)
 
-maybe_at : (op : OpName) (strings : List Name) (es : Option (List Entry)) {s left : List Symbol} → NoBrace left → At (MaybeDictionary strings es) s left
+maybe_at : (op : OpName) (strings : List Name) (es : Option (List Entry)) {s left : List StreamToken} → NoBrace left → At (MaybeDictionary strings es) s left
     → maybe_dictionary op strings s ≡ Ok (es, left)
 unfolding maybe_dictionary
 maybe_at op strings None clear h =

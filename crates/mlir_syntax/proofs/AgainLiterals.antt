@@ -4,9 +4,9 @@ use Rattle.diag.specs.declared.refusal.OpName.{OpName}
 use Rattle.hw_model.specs.Types.{HwType}
 use Rattle.hw_model.specs.Kinds.{Literal, Literals}
 use Rattle.hw_model.specs.Kinds.Literal.{leaf, parts}
-use Rattle.mlir_lexer.specs.Tokens.{Lexeme}
+use Rattle.mlir_lexer.specs.Tokens.{TextToken}
 use Rattle.mlir_lexer.specs.declared.token.TokenKind.TheVariants as kind
-use Rattle.mlir_syntax.specs.Stream.{Symbol, first}
+use Rattle.mlir_syntax.specs.Stream.{StreamToken, first}
 use Rattle.mlir_syntax.specs.Reads.{Reads}
 use Rattle.mlir_syntax.specs.TypeText.{too_deep}
 use Rattle.mlir_syntax.specs.LiteralText.{truth_literal, number_literal, list_literal, literal_head, number_leaf, truth_leaf, parts_text, list_part, literal_with, literal_text, aggregate_text}
@@ -17,7 +17,7 @@ use Rattle.mlir_syntax.proofs.AgainTypes.{again_type}
 use Rattle.mlir_syntax.proofs.AgainAttributes.{of_kind, of_text, seen}
 
 -- no constant begins with a closing bracket
-abbrev OpensNot : Lexeme → Type 0
+abbrev OpensNot : TextToken → Type 0
 OpensNot = Unlike kind.RightBracket
 
 leads_with : (Lists : Literals → Phrase) (room : ℕ) → ((ls : Literals) → Leads OpensNot (Lists ls)) → (l : Literal) → Leads OpensNot (LiteralWith Lists room l)
@@ -33,11 +33,11 @@ leads_literal : (room : ℕ) (l : Literal) → Leads OpensNot (LiteralPhrase roo
 leads_literal zero l = leads_with (λ ls ts. ⊥) zero (λ ls. record { lead = λ ts p. absurd p }) l
 leads_literal (suc room) l = leads_with (PartsPhrase (LiteralPhrase room)) (suc room) (leads_parts room) l
 
-number_head_of : (t : Lexeme) → (t.kind ≡ kind.Integer) ⊎ (t.kind ≡ kind.Minus) → literal_head (Some t) ≡ number_literal
+number_head_of : (t : TextToken) → (t.kind ≡ kind.Integer) ⊎ (t.kind ≡ kind.Minus) → literal_head (Some t) ≡ number_literal
 number_head_of t (inl k) = of_kind (λ t. literal_head (Some t)) t k
 number_head_of t (inr k) = of_kind (λ t. literal_head (Some t)) t k
 
-truth_at : (lists : Reads Literal) (room : ℕ) (op : OpName) (b : Bool) {s left : List Symbol} → At (TruthWord b) s left
+truth_at : (lists : Reads Literal) (room : ℕ) (op : OpName) (b : Bool) {s left : List StreamToken} → At (TruthWord b) s left
     → literal_with lists room op s (literal_head (first s)) ≡ Ok (truth_leaf b, left)
 unfolding literal_with
 truth_at lists room op true h =
@@ -47,7 +47,7 @@ truth_at lists room op false h =
     let (t, e, p) = at_one h in
     seen (literal_with lists room op) literal_head (truth_literal false) e (of_text (λ t. literal_head (Some t)) t p.0 p.1)
 
-leaf_at : (lists : Reads Literal) (room : ℕ) (op : OpName) (z : ℤ) (x : HwType) {s left : List Symbol}
+leaf_at : (lists : Reads Literal) (room : ℕ) (op : OpName) (z : ℤ) (x : HwType) {s left : List StreamToken}
     → At (Then (IntegerPhrase z) (Then (Mark kind.Colon) (TypePhrase room x))) s left
     ⊎ At (λ ts. (b : Bool) × (leaf z x ≡ truth_leaf b) × TruthWord b ts) s left
     → literal_with lists room op s (literal_head (first s)) ≡ Ok (leaf z x, left)
@@ -64,7 +64,7 @@ leaf_at lists room op z x {s} {left} (inr h) =
     let inside : At (TruthWord b) s left = record { passed = h.passed; same = h.same; says = p } in
     truth_at lists room op b inside ∙ ap (λ y. Ok (y, left)) (sym same)
 
-parts_at : (op : OpName) (room : ℕ) → Again Any (literal_text room op) (LiteralPhrase room) → (ls : Literals) {s left : List Symbol}
+parts_at : (op : OpName) (room : ℕ) → Again Any (literal_text room op) (LiteralPhrase room) → (ls : Literals) {s left : List StreamToken}
     → At (PartsPhrase (LiteralPhrase room) ls) s left → (literal_head (first s) ≡ list_literal) × (parts_text (literal_text room op) op s ≡ Ok (ls, left))
 unfolding parts_text
 parts_at op room part ls {s} {left} h =
@@ -77,11 +77,11 @@ parts_at op room part ls {s} {left} h =
       on_ok _ eu (on_ok _ (until_at op kind.RightBracket part (leads_literal room) (λ _ _ _. tt) (λ _ _ _. tt) refl l b) (ap (λ y. Ok (y, left)) (sym same))),
     )
 
-again_zero : (op : OpName) (l : Literal) {s left : List Symbol} → At (LiteralPhrase zero l) s left → literal_text zero op s ≡ Ok (l, left)
+again_zero : (op : OpName) (l : Literal) {s left : List StreamToken} → At (LiteralPhrase zero l) s left → literal_text zero op s ≡ Ok (l, left)
 again_zero op (leaf z x) h = leaf_at (too_deep op) zero op z x (at_either h)
 again_zero op (parts ls) h = absurd h.says
 
-again_suc : (room : ℕ) (op : OpName) → Again Any (literal_text room op) (LiteralPhrase room) → (l : Literal) {s left : List Symbol} → At (LiteralPhrase (suc room) l) s left
+again_suc : (room : ℕ) (op : OpName) → Again Any (literal_text room op) (LiteralPhrase room) → (l : Literal) {s left : List StreamToken} → At (LiteralPhrase (suc room) l) s left
     → literal_text (suc room) op s ≡ Ok (l, left)
 unfolding literal_with list_part
 again_suc room op part (leaf z x) h = leaf_at (list_part (literal_text room op) op) (suc room) op z x (at_either h)
@@ -97,5 +97,5 @@ pub again_aggregate : (op : OpName) → Again Any (aggregate_text op) AggregateP
 unfolding aggregate_text
 again_aggregate op = record { gives = λ ls s left h _. let (head, e) = parts_at op 31 (again_literal 31 op) ls h in e }
 
-pub leads_aggregate : {T : Lexeme → Type 0} (ls : Literals) → ((t : Lexeme) → t.kind ≡ kind.LeftBracket → T t) → Leads T (AggregatePhrase ls)
+pub leads_aggregate : {T : TextToken → Type 0} (ls : Literals) → ((t : TextToken) → t.kind ≡ kind.LeftBracket → T t) → Leads T (AggregatePhrase ls)
 leads_aggregate ls to = record { lead = λ ts p. (leads_then {P = Mark kind.LeftBracket} (leads_one to)).lead ts p.2 }

@@ -1,4 +1,4 @@
--- The readers of tokens, numbers, lists, types, attributes and constants look no further than one symbol.
+-- The readers of tokens, numbers, lists, types, attributes and constants look no further than one token.
 use Rattle.std.proofs.Common.{◌≡◌, ℕ, zero, suc, Bool, true, false, cond, nat_lt, List, [], ◌∷◌, ◌++◌, Option, Some, None, Ok, Err, refl, ℤ, pos}
 use Rattle.diag.specs.declared.refusal.Refusal.{Refusal}
 use Rattle.diag.specs.declared.refusal.OpName.{OpName}
@@ -11,16 +11,18 @@ use Rattle.hw_model.specs.Kinds.Literal.{leaf, parts}
 use Rattle.hw_model.specs.Design.{Attribute}
 use Rattle.hw_model.specs.Design.Attribute.{unit_value, text_value, symbol_value, truth_value, integer_value, list_value}
 use Rattle.mlir_lexer.specs.Contents.{content_of}
-use Rattle.mlir_lexer.specs.Tokens.{Lexeme}
+use Rattle.mlir_lexer.specs.Tokens.{TextToken}
 use Rattle.mlir_lexer.specs.declared.token.TokenKind.{TokenKind}
 use Rattle.mlir_lexer.specs.declared.token.TokenKind.TheVariants as kind
-use Rattle.mlir_syntax.specs.Stream.{Symbol, token, bad, end, first, is_next, is_word, after, refusal_at, unexpected_refusal}
+use Rattle.mlir_syntax.specs.Stream.{StreamToken, token, bad, end, first, is_next, is_word, after, refusal_at, unexpected_refusal}
 use Rattle.mlir_lexer.specs.TokenKinds.{is_kind}
 use Rattle.mlir_syntax.specs.Reads.{Read, Reads, on, want, want_word, items, some_items, items_until}
 use Rattle.mlir_syntax.specs.Numerals.{number_in, number_of, count_limit, number_limit, below_limit, number_below, negative, integer}
 use Rattle.mlir_syntax.specs.TypeText.{TypeHead, width_digits, type_head, width_type, type_with, glued_element, x_rest, element_after, element_type, array_text, is_name, name_text, field_text, struct_text, too_deep, type_text}
 use Rattle.mlir_syntax.specs.TypeText.TypeHead.{integer_type as integer_head, clock_type, array_type, struct_type, foreign_type, no_type}
-use Rattle.mlir_syntax.specs.AttributeText.{AttributeHead, text_head, symbol_head, truth_head, number_head, list_head, alias_head, no_head, is_symbol, attribute_head, is_stored, stored_integer, integer_type, typed_integer, in_order, list_text, attribute_with, attribute_text, is_among, new_key, string_value, value_of_key, entry_value, entry_text, entries, dictionary_text, maybe_dictionary}
+use Rattle.mlir_syntax.specs.AttributeText.{AttributeHead, text_head, symbol_head, truth_head, number_head, list_head, alias_head, no_head, is_symbol, attribute_head, is_stored, stored_integer}
+use Rattle.mlir_syntax.specs.AttributeText.{integer_type, typed_integer, in_order, list_text, attribute_with, attribute_text, is_among, new_key, string_value, value_of_key, entry_value, entry_text}
+use Rattle.mlir_syntax.specs.AttributeText.{entries, dictionary_text, maybe_dictionary}
 use Rattle.mlir_syntax.specs.LiteralText.{LiteralHead, truth_literal, number_literal, list_literal, no_literal, literal_head, number_leaf, literals_in_order, truth_leaf, parts_text, list_part, literal_with, literal_text, aggregate_text}
 use Rattle.mlir_syntax.specs.WordText.{symbol_text}
 use Rattle.mlir_syntax.proofs.Local.{Loc, Local, loc_same, loc_on, loc_next, loc_cond, loc_first, loc_after, loc_less, loc_give, loc_refused, loc_unexpected, loc_zero, loc_step, local_all}
@@ -28,23 +30,23 @@ use Rattle.mlir_syntax.proofs.Local.{Loc, Local, loc_same, loc_on, loc_next, loc
 -- ---- a token
 
 -- what a first token that a test tells is read as
-abbrev pub Taken : {A : Type 0} → OpName → (Lexeme → Bool) → (Lexeme → List Symbol → List Symbol → Read A) → Option Lexeme → ℕ → Reads A
+abbrev pub Taken : {A : Type 0} → OpName → (TextToken → Bool) → (TextToken → List StreamToken → List StreamToken → Read A) → Option TextToken → ℕ → Reads A
 Taken op test K None k s = Err (unexpected_refusal op s)
 Taken op test K (Some t) k s = cond (test t) (K t s (after s)) (Err (unexpected_refusal op s))
 
-pub local_taken : {A : Type 0} {r : Reads A} (op : OpName) (test : Lexeme → Bool) (K : Lexeme → List Symbol → List Symbol → Read A)
-    → ((k : ℕ) (s : List Symbol) → r s ≡ Taken op test K (first s) k s) → ((t : Lexeme) → Local (λ s. K t s (after s))) → Local r
+pub local_taken : {A : Type 0} {r : Reads A} (op : OpName) (test : TextToken → Bool) (K : TextToken → List StreamToken → List StreamToken → Read A)
+    → ((k : ℕ) (s : List StreamToken) → r s ≡ Taken op test K (first s) k s) → ((t : TextToken) → Local (λ s. K t s (after s))) → Local r
 local_taken op test K same each c n = loc_same same (loc_first (Taken op test K) go)
   where
-    go : (o : Option Lexeme) → Loc c n (Taken op test K o)
+    go : (o : Option TextToken) → Loc c n (Taken op test K o)
     go None = loc_unexpected op
     go (Some t) = loc_cond (test t) (each t c n) (loc_unexpected op)
 
-on_cond : {A B : Type 0} (b : Bool) (x : A) (left : List Symbol) (e : Refusal) (f : A → Reads B) → on (cond b (Ok (x, left)) (Err e)) f ≡ cond b (f x left) (Err e)
+on_cond : {A B : Type 0} (b : Bool) (x : A) (left : List StreamToken) (e : Refusal) (f : A → Reads B) → on (cond b (Ok (x, left)) (Err e)) f ≡ cond b (f x left) (Err e)
 on_cond true x left e f = refl
 on_cond false x left e f = refl
 
-want_taken : (op : OpName) (k : TokenKind) (j : ℕ) (s : List Symbol) → want op k s ≡ Taken op (λ t. is_kind t.kind k) (λ t _ left. Ok (t, left)) (first s) j s
+want_taken : (op : OpName) (k : TokenKind) (j : ℕ) (s : List StreamToken) → want op k s ≡ Taken op (λ t. is_kind t.kind k) (λ t _ left. Ok (t, left)) (first s) j s
 unfolding want
 want_taken op k j [] = refl
 want_taken op k j (token t ∷ ts) = refl
@@ -54,7 +56,7 @@ want_taken op k j (end p ∷ ts) = refl
 pub local_want : (op : OpName) (k : TokenKind) → Local (want op k)
 local_want op k = local_taken op (λ t. is_kind t.kind k) (λ t _ left. Ok (t, left)) (want_taken op k) (λ t c n. loc_after (loc_give {y = t}))
 
-word_taken : (op : OpName) (name : List ℕ) (j : ℕ) (s : List Symbol) → want_word op name s ≡ Taken op (is_word name) (λ t _ left. Ok (t, left)) (first s) j s
+word_taken : (op : OpName) (name : List ℕ) (j : ℕ) (s : List StreamToken) → want_word op name s ≡ Taken op (is_word name) (λ t _ left. Ok (t, left)) (first s) j s
 unfolding want_word
 word_taken op name j [] = refl
 word_taken op name j (token t ∷ ts) = refl
@@ -64,7 +66,7 @@ word_taken op name j (end p ∷ ts) = refl
 pub local_word : (op : OpName) (name : List ℕ) → Local (want_word op name)
 local_word op name = local_taken op (is_word name) (λ t _ left. Ok (t, left)) (word_taken op name) (λ t c n. loc_after (loc_give {y = t}))
 
-name_taken : (op : OpName) (j : ℕ) (s : List Symbol) → name_text op s ≡ Taken op is_name (λ t _ left. Ok (content_of t.kind t.text, left)) (first s) j s
+name_taken : (op : OpName) (j : ℕ) (s : List StreamToken) → name_text op s ≡ Taken op is_name (λ t _ left. Ok (content_of t.kind t.text, left)) (first s) j s
 unfolding name_text
 name_taken op j [] = refl
 name_taken op j (token t ∷ ts) = refl
@@ -75,7 +77,7 @@ pub local_name : (op : OpName) → Local (name_text op)
 local_name op =
     local_taken op is_name (λ t _ left. Ok (content_of t.kind t.text, left)) (name_taken op) (λ t c n. loc_after (loc_give {y = content_of t.kind t.text}))
 
-symbol_taken : (op : OpName) (j : ℕ) (s : List Symbol) → symbol_text op s ≡ Taken op is_symbol (λ t _ left. Ok (content_of t.kind t.text, left)) (first s) j s
+symbol_taken : (op : OpName) (j : ℕ) (s : List StreamToken) → symbol_text op s ≡ Taken op is_symbol (λ t _ left. Ok (content_of t.kind t.text, left)) (first s) j s
 unfolding symbol_text
 symbol_taken op j [] = refl
 symbol_taken op j (token t ∷ ts) = refl
@@ -92,8 +94,8 @@ pub local_limited : (limit : ℕ) (op : OpName) (x : ℕ) → Local (λ s. below
 unfolding below_limit
 local_limited limit op x c n = loc_cond (nat_lt x limit) (loc_after (loc_give {y = x})) (loc_refused NumberTooLarge op)
 
--- a token of a kind, and what is made of it at its place
-kind_taken : {A : Type 0} (op : OpName) (k : TokenKind) (K : Lexeme → List Symbol → List Symbol → Read A) (j : ℕ) (s : List Symbol)
+-- a token of a kind, and what is made of it at its location
+kind_taken : {A : Type 0} (op : OpName) (k : TokenKind) (K : TextToken → List StreamToken → List StreamToken → Read A) (j : ℕ) (s : List StreamToken)
     → on (want op k s) (λ t left. K t s left) ≡ Taken op (λ t. is_kind t.kind k) K (first s) j s
 unfolding want
 kind_taken op k K j [] = refl
@@ -101,7 +103,7 @@ kind_taken op k K j (token t ∷ ts) = on_cond (is_kind t.kind k) t ts (unexpect
 kind_taken op k K j (bad p ∷ ts) = refl
 kind_taken op k K j (end p ∷ ts) = refl
 
-pub local_kind : {A : Type 0} (op : OpName) (k : TokenKind) (K : Lexeme → List Symbol → List Symbol → Read A) → ((t : Lexeme) → Local (λ s. K t s (after s)))
+pub local_kind : {A : Type 0} (op : OpName) (k : TokenKind) (K : TextToken → List StreamToken → List StreamToken → Read A) → ((t : TextToken) → Local (λ s. K t s (after s)))
     → Local (λ s. on (want op k s) (λ t left. K t s left))
 local_kind op k K each = local_taken op (λ t. is_kind t.kind k) K (kind_taken op k K) each
 
@@ -197,13 +199,13 @@ abbrev stored_with : (ℕ → ℤ) → OpName → Reads ℤ
 stored_with f op s =
     on (number_below number_limit op s) (λ x left. cond (is_stored (f x)) (Ok (f x, left)) (Err (refusal_at NumberTooLarge op s)))
 
-abbrev StoredAt : (ℕ → ℤ) → OpName → Lexeme → List Symbol → List Symbol → Read ℤ
+abbrev StoredAt : (ℕ → ℤ) → OpName → TextToken → List StreamToken → List StreamToken → Read ℤ
 StoredAt f op t s left =
     cond (nat_lt (number_of t.text) number_limit)
     (cond (is_stored (f (number_of t.text))) (Ok (f (number_of t.text), left)) (Err (refusal_at NumberTooLarge op s))) (Err (refusal_at NumberTooLarge op s))
 
-stored_token : (f : ℕ → ℤ) (op : OpName) (t : Lexeme) (ts : List Symbol) (b d : Bool)
-    → on (on (cond {A = Read Lexeme} b (Ok (t, ts)) (Err (unexpected_refusal op (token t ∷ ts))))
+stored_token : (f : ℕ → ℤ) (op : OpName) (t : TextToken) (ts : List StreamToken) (b d : Bool)
+    → on (on (cond {A = Read TextToken} b (Ok (t, ts)) (Err (unexpected_refusal op (token t ∷ ts))))
     (λ u left. cond {A = Read ℕ} d (Ok (number_of t.text, left)) (Err (refusal_at NumberTooLarge op (token t ∷ ts)))))
     (λ x left. cond (is_stored (f x)) (Ok (f x, left)) (Err (refusal_at NumberTooLarge op (token t ∷ ts))))
     ≡ cond b (cond d (cond (is_stored (f (number_of t.text))) (Ok (f (number_of t.text), ts)) (Err (refusal_at NumberTooLarge op (token t ∷ ts))))
@@ -212,13 +214,13 @@ stored_token f op t ts true true = refl
 stored_token f op t ts true false = refl
 stored_token f op t ts false d = refl
 
-stored_taken : (f : ℕ → ℤ) (op : OpName) (j : ℕ) (s : List Symbol)
+stored_taken : (f : ℕ → ℤ) (op : OpName) (j : ℕ) (s : List StreamToken)
     → stored_with f op s ≡ Taken op (λ t. is_kind t.kind kind.Integer) (StoredAt f op) (first s) j s
 unfolding number_below want below_limit
 stored_taken f op j [] = refl
 stored_taken f op j (token t ∷ ts) = go (is_kind t.kind kind.Integer)
   where
-    go : (b : Bool) → on (on (cond {A = Read Lexeme} b (Ok (t, ts)) (Err (unexpected_refusal op (token t ∷ ts))))
+    go : (b : Bool) → on (on (cond {A = Read TextToken} b (Ok (t, ts)) (Err (unexpected_refusal op (token t ∷ ts))))
         (λ u left. cond {A = Read ℕ} (nat_lt (number_of u.text) number_limit) (Ok (number_of u.text, left)) (Err (refusal_at NumberTooLarge op (token t ∷ ts)))))
         (λ x left. cond (is_stored (f x)) (Ok (f x, left)) (Err (refusal_at NumberTooLarge op (token t ∷ ts))))
         ≡ cond b (StoredAt f op t (token t ∷ ts) ts) (Err (unexpected_refusal op (token t ∷ ts)))
@@ -234,7 +236,7 @@ local_stored_with f op =
     (loc_cond (is_stored (f (number_of t.text))) (loc_after (loc_give {y = f (number_of t.text)})) (loc_refused NumberTooLarge op))
     (loc_refused NumberTooLarge op))
 
-stored_sides : (op : OpName) (s : List Symbol) (b : Bool) (m o : Read ℕ)
+stored_sides : (op : OpName) (s : List StreamToken) (b : Bool) (m o : Read ℕ)
     → on (cond b (on m (λ x left. Ok (negative x, left))) (on o (λ x left. Ok (pos x, left))))
     (λ z left. cond (is_stored z) (Ok (z, left)) (Err (refusal_at NumberTooLarge op (cond b (after s) s))))
     ≡ cond b (on m (λ x left. cond (is_stored (negative x)) (Ok (negative x, left)) (Err (refusal_at NumberTooLarge op (after s)))))
@@ -244,7 +246,7 @@ stored_sides op s true (Err e) o = refl
 stored_sides op s false m (Ok p) = refl
 stored_sides op s false m (Err e) = refl
 
-stored_same : (op : OpName) (k : ℕ) (s : List Symbol)
+stored_same : (op : OpName) (k : ℕ) (s : List StreamToken)
     → stored_integer op s ≡ cond (is_next kind.Minus s) (stored_with negative op (after s)) (stored_with pos op s)
 unfolding stored_integer integer
 stored_same op k s = stored_sides op s (is_next kind.Minus s) (number_below number_limit op (after s)) (number_below number_limit op s)
@@ -285,10 +287,10 @@ local_attribute (suc room) op c n =
 
 -- ---- dictionaries
 
-abbrev KeyAt : OpName → List Name → Lexeme → List Symbol → List Symbol → Read Name
+abbrev KeyAt : OpName → List Name → TextToken → List StreamToken → List StreamToken → Read Name
 KeyAt op keys t s left = cond (is_among (content_of t.kind t.text) keys) (Err (refusal_at Unexpected op s)) (Ok (content_of t.kind t.text, left))
 
-key_taken : (op : OpName) (keys : List Name) (j : ℕ) (s : List Symbol) → new_key op keys s ≡ Taken op is_name (KeyAt op keys) (first s) j s
+key_taken : (op : OpName) (keys : List Name) (j : ℕ) (s : List StreamToken) → new_key op keys s ≡ Taken op is_name (KeyAt op keys) (first s) j s
 unfolding new_key name_text
 key_taken op keys j [] = refl
 key_taken op keys j (token t ∷ ts) =

@@ -9,22 +9,25 @@ use Rattle.hw_model.specs.Types.HwType.{int}
 use Rattle.hw_model.specs.Design.{Attribute, Entry}
 use Rattle.hw_model.specs.Design.Attribute.{unit_value, text_value, symbol_value, truth_value, integer_value, list_value}
 use Rattle.mlir_lexer.specs.Contents.{content_of}
-use Rattle.mlir_lexer.specs.Tokens.{Lexeme}
+use Rattle.mlir_lexer.specs.Tokens.{TextToken}
 use Rattle.mlir_lexer.specs.declared.token.TokenKind.TheVariants as kind
-use Rattle.mlir_syntax.specs.Stream.{Symbol, token, bad, end, is_word, is_next, unexpected_refusal}
+use Rattle.mlir_syntax.specs.Stream.{StreamToken, token, bad, end, is_word, is_next, unexpected_refusal}
 use Rattle.mlir_lexer.specs.TokenKinds.{is_kind}
 use Rattle.mlir_syntax.specs.Reads.{Reads, on, give, items_until}
 use Rattle.mlir_syntax.specs.Numerals.{integer}
 use Rattle.mlir_syntax.specs.TypeText.{type_text, too_deep, name_text}
-use Rattle.mlir_syntax.specs.AttributeText.{AttributeHead, text_head, symbol_head, truth_head, number_head, list_head, alias_head, no_head, is_symbol, begins_integer, attribute_head, is_stored, stored_integer, integer_type, typed_integer, in_order, list_text, attribute_with, attribute_text, is_among, new_key, string_value, value_of_key, entry_value, entry_text, entries, dictionary_text, maybe_dictionary}
-use Rattle.mlir_syntax.specs.Spelling.{Phrase, Mark, Holding, Then, Where, Commas, Between, NamePhrase, SymbolPhrase, IntegerPhrase, TruthWord, IntegerType, AttributeWith, AttributePhrase, ValuePhrase, EntryPhrase, AreOnce, DictionaryPhrase, MaybeDictionary}
+use Rattle.mlir_syntax.specs.AttributeText.{AttributeHead, text_head, symbol_head, truth_head, number_head, list_head, alias_head, no_head, is_symbol, begins_integer, attribute_head, is_stored}
+use Rattle.mlir_syntax.specs.AttributeText.{stored_integer, integer_type, typed_integer, in_order, list_text, attribute_with, attribute_text, is_among, new_key, string_value, value_of_key}
+use Rattle.mlir_syntax.specs.AttributeText.{entry_value, entry_text, entries, dictionary_text, maybe_dictionary}
+use Rattle.mlir_syntax.specs.Spelling.{Phrase, Mark, Holding, Then, Where, Commas, Between, NamePhrase, SymbolPhrase, IntegerPhrase, TruthWord, IntegerType, AttributeWith, AttributePhrase}
+use Rattle.mlir_syntax.specs.Spelling.{ValuePhrase, EntryPhrase, AreOnce, DictionaryPhrase, MaybeDictionary}
 use Rattle.mlir_syntax.proofs.Sound.{Said, Sound, Past, ok_of, same_ok, one_more, sound_on, sound_last, sound_as, sound_give, sound_refused, sound_if, sound_past}
 use Rattle.mlir_syntax.proofs.SoundTokens.{pair, mark, kind_is, said_mark, said_word, either_holds, kept_ok, barred_ok, sound_want, sound_name, sound_integer, sound_until, Several, more, all_of}
 use Rattle.mlir_syntax.proofs.SoundTypes.{sound_type}
 
 -- ---- what a token begins an attribute as
 
-abbrev HeadSays : Lexeme → AttributeHead → Type 0
+abbrev HeadSays : TextToken → AttributeHead → Type 0
 HeadSays t (text_head text) = (t.kind ≡ kind.StringLiteral) × (content_of kind.StringLiteral t.text ≡ text)
 HeadSays t (symbol_head name) = SymbolPhrase name (t ∷ [])
 HeadSays t (truth_head b) = TruthWord b (t ∷ [])
@@ -33,7 +36,7 @@ HeadSays t list_head = Mark kind.LeftBracket (t ∷ [])
 HeadSays t alias_head = Unit {0}
 HeadSays t no_head = Unit {0}
 
-head_says : (t : Lexeme) → HeadSays t (attribute_head (Some t))
+head_says : (t : TextToken) → HeadSays t (attribute_head (Some t))
 head_says t =
     cond_both (is_kind t.kind kind.StringLiteral) (text_head (content_of kind.StringLiteral t.text)) _ (HeadSays t) (λ h. (kind_is t.kind kind.StringLiteral h, refl)) (λ _.
     cond_both (begins_integer t) number_head _ (HeadSays t) (λ _. tt) (λ _.
@@ -46,7 +49,7 @@ head_says t =
 
 -- ---- integers
 
-stored_ok : (op : OpName) (s left : List Symbol) (z : ℤ) → stored_integer op s ≡ Ok (z, left) → Said (Where (is_stored z ≡ true) (IntegerPhrase z)) s left
+stored_ok : (op : OpName) (s left : List StreamToken) (z : ℤ) → stored_integer op s ≡ Ok (z, left) → Said (Where (is_stored z ≡ true) (IntegerPhrase z)) s left
 unfolding stored_integer
 stored_ok op s left z h =
     let (y, m, e, k) = ok_of (integer op s) _ z left h in
@@ -69,13 +72,13 @@ sound_typed L room op =
 
 -- ---- attributes
 
-list_after : {value : Reads Attribute} {P : Attribute → Phrase} (room : ℕ) (op : OpName) (t0 : Lexeme) → Mark kind.LeftBracket (t0 ∷ []) → Sound value P
+list_after : {value : Reads Attribute} {P : Attribute → Phrase} (room : ℕ) (op : OpName) (t0 : TextToken) → Mark kind.LeftBracket (t0 ∷ []) → Sound value P
     → Sound (λ s. on (items_until op kind.RightBracket value s) (λ vs left. Ok (list_value (in_order vs), left)))
     (λ y. Past t0 (AttributeWith (λ l. Between kind.LeftBracket kind.RightBracket (Commas P l)) room y))
 list_after room op t0 m one =
     sound_last (λ vs. list_value (in_order vs)) (sound_until op kind.RightBracket one) (λ vs a pa. (vs, refl, pair (t0 ∷ []) a m pa))
 
-with_ok : (L : List Attribute → Phrase) (lists : Reads Attribute) (room : ℕ) (op : OpName) (t : Lexeme) (ts left : List Symbol) (x : Attribute) (head : AttributeHead)
+with_ok : (L : List Attribute → Phrase) (lists : Reads Attribute) (room : ℕ) (op : OpName) (t : TextToken) (ts left : List StreamToken) (x : Attribute) (head : AttributeHead)
     → (Mark kind.LeftBracket (t ∷ []) → lists (token t ∷ ts) ≡ Ok (x, left) → Said (AttributeWith L room x) (token t ∷ ts) left)
     → HeadSays t head → attribute_with lists room op (token t ∷ ts) head ≡ Ok (x, left) → Said (AttributeWith L room x) (token t ∷ ts) left
 unfolding attribute_with
@@ -90,14 +93,14 @@ with_ok L lists room op t ts left x list_head ls says h = ls says h
 with_ok L lists room op t ts left x alias_head ls says h = absurd cc
 with_ok L lists room op t ts left x no_head ls says h = absurd cc
 
-plain_ok : (op : OpName) (s left : List Symbol) (x : Attribute) → attribute_text zero op s ≡ Ok (x, left) → Said (AttributePhrase zero x) s left
+plain_ok : (op : OpName) (s left : List StreamToken) (x : Attribute) → attribute_text zero op s ≡ Ok (x, left) → Said (AttributePhrase zero x) s left
 unfolding attribute_with too_deep
 plain_ok op [] left x h = absurd cc
 plain_ok op (token t ∷ ts) left x h = with_ok (λ l a. ⊥) (too_deep op) zero op t ts left x (attribute_head (Some t)) (λ w e. absurd cc) (head_says t) h
 plain_ok op (bad p ∷ ts) left x h = absurd cc
 plain_ok op (end p ∷ ts) left x h = absurd cc
 
-suc_ok : (room : ℕ) (op : OpName) → Sound (attribute_text room op) (AttributePhrase room) → (s left : List Symbol) (x : Attribute)
+suc_ok : (room : ℕ) (op : OpName) → Sound (attribute_text room op) (AttributePhrase room) → (s left : List StreamToken) (x : Attribute)
     → attribute_text (suc room) op s ≡ Ok (x, left) → Said (AttributePhrase (suc room) x) s left
 unfolding attribute_with list_text
 suc_ok room op inner [] left x h = absurd cc
@@ -113,7 +116,7 @@ sound_attribute (suc room) op = record { said = suc_ok room op (sound_attribute 
 
 -- ---- dictionaries
 
-key_ok : (op : OpName) (keys : List Name) (s left : List Symbol) (x : Name) → new_key op keys s ≡ Ok (x, left)
+key_ok : (op : OpName) (keys : List Name) (s left : List StreamToken) (x : Name) → new_key op keys s ≡ Ok (x, left)
     → Said (Where (is_among x keys ≡ false) (NamePhrase x)) s left
 unfolding new_key
 key_ok op keys s left x h =
@@ -162,7 +165,7 @@ sound_entry_value op strings key =
     sound_past {r = value_of_key 32 op strings key} (λ t h. sound_as (sound_value op strings key) (λ v a p. inl (pair (t ∷ []) a (said_mark h) p)))
     (sound_absent op strings key (is_among key strings) refl)
 
-said_entry : (strings : List Name) (key : Name) (v : Attribute) (a b : List Lexeme) → NamePhrase key a → AfterKey strings key v b
+said_entry : (strings : List Name) (key : Name) (v : Attribute) (a b : List TextToken) → NamePhrase key a → AfterKey strings key v b
     → EntryPhrase strings (entry_of key v) (a ++ b)
 said_entry strings key v a b p (inl q) = inl (pair a b p q)
 said_entry strings key v a b p (inr q) = inr ((q.0, q.1), subst (NamePhrase key) (sym (ap (λ y. a ++ y) q.2 ∙ append-nil a)) p)

@@ -5,9 +5,9 @@ use Rattle.std.proofs.lemmas.Bool.{cond_both}
 use Rattle.diag.specs.declared.refusal.OpName.{OpName}
 use Rattle.hw_model.specs.Kinds.{Literal, Literals}
 use Rattle.hw_model.specs.Kinds.Literal.{leaf, parts}
-use Rattle.mlir_lexer.specs.Tokens.{Lexeme}
+use Rattle.mlir_lexer.specs.Tokens.{TextToken}
 use Rattle.mlir_lexer.specs.declared.token.TokenKind.TheVariants as kind
-use Rattle.mlir_syntax.specs.Stream.{Symbol, token, bad, end, is_word}
+use Rattle.mlir_syntax.specs.Stream.{StreamToken, token, bad, end, is_word}
 use Rattle.mlir_lexer.specs.TokenKinds.{is_kind}
 use Rattle.mlir_syntax.specs.Reads.{Reads}
 use Rattle.mlir_syntax.specs.TypeText.{too_deep}
@@ -18,13 +18,13 @@ use Rattle.mlir_syntax.proofs.Sound.{Said, Sound, same_ok, sound_on, sound_last}
 use Rattle.mlir_syntax.proofs.SoundTokens.{pair, mark, said_word, sound_want, sound_integer, sound_until}
 use Rattle.mlir_syntax.proofs.SoundTypes.{sound_type}
 
-abbrev HeadSays : Lexeme → LiteralHead → Type 0
+abbrev HeadSays : TextToken → LiteralHead → Type 0
 HeadSays t (truth_literal b) = TruthWord b (t ∷ [])
 HeadSays t number_literal = Unit {0}
 HeadSays t list_literal = Unit {0}
 HeadSays t no_literal = Unit {0}
 
-head_says : (t : Lexeme) → HeadSays t (literal_head (Some t))
+head_says : (t : TextToken) → HeadSays t (literal_head (Some t))
 head_says t =
     cond_both (begins_integer t) number_literal _ (HeadSays t) (λ _. tt) (λ _.
     cond_both (is_word (codes "true") t) (truth_literal true) _ (HeadSays t) (λ h. said_word h) (λ _.
@@ -47,7 +47,7 @@ sound_list : {part : Reads Literal} {P : Literal → Phrase} (room : ℕ) (op : 
 unfolding list_part
 sound_list room op one = sound_last parts (sound_parts op one) (λ ls a p. p)
 
-with_ok : (L : Literals → Phrase) (lists : Reads Literal) (room : ℕ) (op : OpName) (t : Lexeme) (ts left : List Symbol) (x : Literal) (head : LiteralHead)
+with_ok : (L : Literals → Phrase) (lists : Reads Literal) (room : ℕ) (op : OpName) (t : TextToken) (ts left : List StreamToken) (x : Literal) (head : LiteralHead)
     → (lists (token t ∷ ts) ≡ Ok (x, left) → Said (LiteralWith L room x) (token t ∷ ts) left)
     → HeadSays t head → literal_with lists room op (token t ∷ ts) head ≡ Ok (x, left) → Said (LiteralWith L room x) (token t ∷ ts) left
 unfolding literal_with
@@ -57,14 +57,14 @@ with_ok L lists room op t ts left x number_literal ls says h = (sound_number_lea
 with_ok L lists room op t ts left x list_literal ls says h = ls h
 with_ok L lists room op t ts left x no_literal ls says h = absurd cc
 
-plain_ok : (op : OpName) (s left : List Symbol) (x : Literal) → literal_text zero op s ≡ Ok (x, left) → Said (LiteralPhrase zero x) s left
+plain_ok : (op : OpName) (s left : List StreamToken) (x : Literal) → literal_text zero op s ≡ Ok (x, left) → Said (LiteralPhrase zero x) s left
 unfolding literal_with too_deep
 plain_ok op [] left x h = absurd cc
 plain_ok op (token t ∷ ts) left x h = with_ok (λ l a. ⊥) (too_deep op) zero op t ts left x (literal_head (Some t)) (λ e. absurd cc) (head_says t) h
 plain_ok op (bad p ∷ ts) left x h = absurd cc
 plain_ok op (end p ∷ ts) left x h = absurd cc
 
-suc_ok : (room : ℕ) (op : OpName) → Sound (literal_text room op) (LiteralPhrase room) → (s left : List Symbol) (x : Literal)
+suc_ok : (room : ℕ) (op : OpName) → Sound (literal_text room op) (LiteralPhrase room) → (s left : List StreamToken) (x : Literal)
     → literal_text (suc room) op s ≡ Ok (x, left) → Said (LiteralPhrase (suc room) x) s left
 unfolding literal_with
 suc_ok room op inner [] left x h = absurd cc

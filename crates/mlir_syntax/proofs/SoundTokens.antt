@@ -7,10 +7,10 @@ use Rattle.diag.specs.declared.refusal.Refusal.{Refusal}
 use Rattle.diag.specs.declared.refusal.OpName.{OpName}
 use Rattle.hw_model.specs.Design.{same_name}
 use Rattle.mlir_lexer.specs.Contents.{content_of}
-use Rattle.mlir_lexer.specs.Tokens.{Lexeme}
+use Rattle.mlir_lexer.specs.Tokens.{TextToken}
 use Rattle.mlir_lexer.specs.declared.token.TokenKind.{TokenKind}
 use Rattle.mlir_lexer.specs.declared.token.TokenKind.TheVariants as kind
-use Rattle.mlir_syntax.specs.Stream.{Symbol, token, bad, end, is_word, refusal_at}
+use Rattle.mlir_syntax.specs.Stream.{StreamToken, token, bad, end, is_word, refusal_at}
 use Rattle.mlir_lexer.specs.TokenKinds.{tag, is_kind}
 use Rattle.mlir_syntax.specs.Reads.{Read, Reads, give, want, want_word, items, some_items, items_until}
 use Rattle.mlir_syntax.specs.Numerals.{number_of, number_limit, below_limit, number_below, negative, integer}
@@ -22,17 +22,17 @@ use Rattle.mlir_syntax.proofs.Sound.{Said, Sound, ok_of, same_ok, sound_on, soun
 
 -- ---- words of the grammar
 
-pub pair : {P Q : Phrase} (a b : List Lexeme) → P a → Q b → Then P Q (a ++ b)
+pub pair : {P Q : Phrase} (a b : List TextToken) → P a → Q b → Then P Q (a ++ b)
 pair a b p q = (a, b, refl, p, q)
 
 -- a token that is known, and it is so
-abbrev pub Only : (Lexeme → Type 0) → Lexeme → Phrase
+abbrev pub Only : (TextToken → Type 0) → TextToken → Phrase
 Only P t ts = (ts ≡ t ∷ []) × P t
 
-abbrev pub IsOf : TokenKind → Lexeme → Type 0
+abbrev pub IsOf : TokenKind → TextToken → Type 0
 IsOf k t = t.kind ≡ k
 
-pub mark : {P : Lexeme → Type 0} {t : Lexeme} {ts : List Lexeme} → Only P t ts → One P ts
+pub mark : {P : TextToken → Type 0} {t : TextToken} {ts : List TextToken} → Only P t ts → One P ts
 mark {t} p = (t, p.0, p.1)
 
 -- ---- tests
@@ -79,36 +79,36 @@ kind_back kind.Minus = refl
 pub kind_is : (a b : TokenKind) → is_kind a b ≡ true → a ≡ b
 kind_is a b h = sym (kind_back a) ∙ ap kind_of (eqb-true (tag a) (tag b) h) ∙ kind_back b
 
-pub word_is : (name : List ℕ) (t : Lexeme) → is_word name t ≡ true → (t.kind ≡ kind.BareName) × (t.text ≡ name)
+pub word_is : (name : List ℕ) (t : TextToken) → is_word name t ≡ true → (t.kind ≡ kind.BareName) × (t.text ≡ name)
 word_is name t h =
     let (k, w) = and_parts (is_kind t.kind kind.BareName) (same_name t.text name) h in
     (kind_is t.kind kind.BareName k, (bytes_decides t.text name).0 w)
 
-pub said_word : {name : List ℕ} {t : Lexeme} → is_word name t ≡ true → Word name (t ∷ [])
+pub said_word : {name : List ℕ} {t : TextToken} → is_word name t ≡ true → Word name (t ∷ [])
 said_word {name} {t} h = (t, refl, word_is name t h)
 
-pub said_mark : {k : TokenKind} {t : Lexeme} → is_kind t.kind k ≡ true → Mark k (t ∷ [])
+pub said_mark : {k : TokenKind} {t : TextToken} → is_kind t.kind k ≡ true → Mark k (t ∷ [])
 said_mark {k} {t} h = (t, refl, kind_is t.kind k h)
 
 -- ---- a token
 
-pub token_ok : {A : Type 0} (Q : A → Phrase) (b : Bool) (t : Lexeme) (ts left : List Symbol) (y x : A) (e : Refusal) → (b ≡ true → Q y (t ∷ []))
+pub token_ok : {A : Type 0} (Q : A → Phrase) (b : Bool) (t : TextToken) (ts left : List StreamToken) (y x : A) (e : Refusal) → (b ≡ true → Q y (t ∷ []))
     → cond {A = Read A} b (Ok (y, ts)) (Err e) ≡ Ok (x, left) → Said (Q x) (token t ∷ ts) left
 token_ok Q true t ts left y x e q h = same_ok y x ts left (λ z l. Said (Q z) (token t ∷ ts) l) h (t ∷ [], refl, q refl)
 token_ok Q false t ts left y x e q h = absurd cc
 
 -- what a test lets through
-pub kept_ok : {A : Type 0} (R : A → List Symbol → Type 0) (b : Bool) (z x : A) (m left : List Symbol) (e : Refusal) → (b ≡ true → R z m)
+pub kept_ok : {A : Type 0} (R : A → List StreamToken → Type 0) (b : Bool) (z x : A) (m left : List StreamToken) (e : Refusal) → (b ≡ true → R z m)
     → cond {A = Read A} b (Ok (z, m)) (Err e) ≡ Ok (x, left) → R x left
 kept_ok R true z x m left e r h = same_ok z x m left R h (r refl)
 kept_ok R false z x m left e r h = absurd cc
 
-pub barred_ok : {A : Type 0} (R : A → List Symbol → Type 0) (b : Bool) (z x : A) (m left : List Symbol) (e : Refusal) → (b ≡ false → R z m)
+pub barred_ok : {A : Type 0} (R : A → List StreamToken → Type 0) (b : Bool) (z x : A) (m left : List StreamToken) (e : Refusal) → (b ≡ false → R z m)
     → cond {A = Read A} b (Err e) (Ok (z, m)) ≡ Ok (x, left) → R x left
 barred_ok R true z x m left e r h = absurd cc
 barred_ok R false z x m left e r h = same_ok z x m left R h (r refl)
 
-want_ok : (op : OpName) (k : TokenKind) (s left : List Symbol) (x : Lexeme) → want op k s ≡ Ok (x, left) → Said (Only (IsOf k) x) s left
+want_ok : (op : OpName) (k : TokenKind) (s left : List StreamToken) (x : TextToken) → want op k s ≡ Ok (x, left) → Said (Only (IsOf k) x) s left
 unfolding want
 want_ok op k [] left x h = absurd cc
 want_ok op k (token t ∷ ts) left x h = token_ok (Only (IsOf k)) (is_kind t.kind k) t ts left t x _ (λ e. (refl, kind_is t.kind k e)) h
@@ -118,7 +118,7 @@ want_ok op k (end p ∷ ts) left x h = absurd cc
 pub sound_want : (op : OpName) (k : TokenKind) → Sound (want op k) (Only (IsOf k))
 sound_want op k = record { said = want_ok op k }
 
-word_ok : (op : OpName) (name : List ℕ) (s left : List Symbol) (x : Lexeme) → want_word op name s ≡ Ok (x, left) → Said (Word name) s left
+word_ok : (op : OpName) (name : List ℕ) (s left : List StreamToken) (x : TextToken) → want_word op name s ≡ Ok (x, left) → Said (Word name) s left
 unfolding want_word
 word_ok op name [] left x h = absurd cc
 word_ok op name (token t ∷ ts) left x h = token_ok (λ _. Word name) (is_word name t) t ts left t x _ said_word h
@@ -129,15 +129,15 @@ pub sound_word : (op : OpName) (name : List ℕ) → Sound (want_word op name) (
 sound_word op name = record { said = word_ok op name }
 
 -- what a token of one of two kinds holds
-holds : (k : TokenKind) (t : Lexeme) → is_kind t.kind k ≡ true → Holding k (content_of t.kind t.text) (t ∷ [])
+holds : (k : TokenKind) (t : TextToken) → is_kind t.kind k ≡ true → Holding k (content_of t.kind t.text) (t ∷ [])
 holds k t h = let e = kind_is t.kind k h in (t, refl, (e, ap (λ j. content_of j t.text) (sym e)))
 
-pub either_holds : (a b : TokenKind) (t : Lexeme) (test : Bool) → is_kind t.kind a ≡ test → cond test true (is_kind t.kind b) ≡ true
+pub either_holds : (a b : TokenKind) (t : TextToken) (test : Bool) → is_kind t.kind a ≡ test → cond test true (is_kind t.kind b) ≡ true
     → Holding a (content_of t.kind t.text) (t ∷ []) ⊎ Holding b (content_of t.kind t.text) (t ∷ [])
 either_holds a b t true e h = inl (holds a t e)
 either_holds a b t false e h = inr (holds b t h)
 
-name_ok : (op : OpName) (s left : List Symbol) (x : List ℕ) → name_text op s ≡ Ok (x, left) → Said (NamePhrase x) s left
+name_ok : (op : OpName) (s left : List StreamToken) (x : List ℕ) → name_text op s ≡ Ok (x, left) → Said (NamePhrase x) s left
 unfolding name_text
 name_ok op [] left x h = absurd cc
 name_ok op (token t ∷ ts) left x h =
@@ -148,7 +148,7 @@ name_ok op (end p ∷ ts) left x h = absurd cc
 pub sound_name : (op : OpName) → Sound (name_text op) NamePhrase
 sound_name op = record { said = name_ok op }
 
-symbol_ok : (op : OpName) (s left : List Symbol) (x : List ℕ) → symbol_text op s ≡ Ok (x, left) → Said (SymbolPhrase x) s left
+symbol_ok : (op : OpName) (s left : List StreamToken) (x : List ℕ) → symbol_text op s ≡ Ok (x, left) → Said (SymbolPhrase x) s left
 unfolding symbol_text
 symbol_ok op [] left x h = absurd cc
 symbol_ok op (token t ∷ ts) left x h =
@@ -161,7 +161,7 @@ sound_symbol op = record { said = symbol_ok op }
 
 -- ---- numbers
 
-pub limited_ok : (limit : ℕ) (op : OpName) (s m left : List Symbol) (n x : ℕ) (R : ℕ → List Symbol → Type 0) → (n < limit → R n m)
+pub limited_ok : (limit : ℕ) (op : OpName) (s m left : List StreamToken) (n x : ℕ) (R : ℕ → List StreamToken → Type 0) → (n < limit → R n m)
     → below_limit limit op s n m ≡ Ok (x, left) → R x left
 unfolding below_limit
 limited_ok limit op s m left n x R r h = go (nat_lt n limit) refl h
@@ -170,7 +170,7 @@ limited_ok limit op s m left n x R r h = go (nat_lt n limit) refl h
     go true e h = same_ok n x m left R h (r (ltb-true n limit e))
     go false e h = absurd cc
 
-number_ok : (limit : ℕ) (op : OpName) (s left : List Symbol) (n : ℕ) → number_below limit op s ≡ Ok (n, left) → Said (NumberPhrase limit n) s left
+number_ok : (limit : ℕ) (op : OpName) (s left : List StreamToken) (n : ℕ) → number_below limit op s ≡ Ok (n, left) → Said (NumberPhrase limit n) s left
 unfolding number_below
 number_ok limit op s left n h =
     let (t, m, e, k) = ok_of (want op kind.Integer s) (λ t left. below_limit limit op s (number_of t.text) left) n left h in
@@ -193,12 +193,12 @@ abbrev pub Several : {A : Type 0} → (A → Phrase) → List A → Phrase
 Several P [] ts = ⊥
 Several P (x ∷ xs) ts = Commas P (x ∷ xs) ts
 
-pub more : {A : Type 0} (P : A → Phrase) (x : A) (t : Lexeme) (xs : List A) (ts a : List Lexeme) → is_kind t.kind kind.Comma ≡ true → Several P xs ts → P x a
+pub more : {A : Type 0} (P : A → Phrase) (x : A) (t : TextToken) (xs : List A) (ts a : List TextToken) → is_kind t.kind kind.Comma ≡ true → Several P xs ts → P x a
     → Several P (x ∷ xs) (a ++ (t ∷ ts))
 more P x t [] ts a h p q = absurd p
 more P x t (y ∷ ys) ts a h p q = (a, t ∷ ts, refl, q, (t ∷ [], ts, refl, said_mark h, p))
 
-pub all_of : {A : Type 0} (P : A → Phrase) (xs : List A) (ts : List Lexeme) → Several P xs ts → Commas P xs ts
+pub all_of : {A : Type 0} (P : A → Phrase) (xs : List A) (ts : List TextToken) → Several P xs ts → Commas P xs ts
 all_of P [] ts p = absurd p
 all_of P (x ∷ xs) ts p = p
 

@@ -11,9 +11,9 @@ use Rattle.hw_model.specs.Design.{same_name}
 use Rattle.mlir_lexer.specs.Classes.{is_digit}
 use Rattle.mlir_lexer.specs.Runs.{run}
 use Rattle.mlir_lexer.specs.Contents.{content_of}
-use Rattle.mlir_lexer.specs.Tokens.{Lexeme}
+use Rattle.mlir_lexer.specs.Tokens.{TextToken}
 use Rattle.mlir_lexer.specs.declared.token.TokenKind.TheVariants as kind
-use Rattle.mlir_syntax.specs.Stream.{Symbol, token, bad, end}
+use Rattle.mlir_syntax.specs.Stream.{StreamToken, token, bad, end}
 use Rattle.mlir_lexer.specs.TokenKinds.{is_kind}
 use Rattle.mlir_syntax.specs.Reads.{Read, Reads, on, want, items_until}
 use Rattle.mlir_syntax.specs.Numerals.{number_in, below_limit, number_below, count_limit}
@@ -26,7 +26,7 @@ use Rattle.mlir_syntax.proofs.SoundTokens.{pair, mark, kind_is, limited_ok, soun
 -- ---- what a token begins a type as
 
 -- what a head says of its token
-abbrev HeadSays : Lexeme → TypeHead → Type 0
+abbrev HeadSays : TextToken → TypeHead → Type 0
 HeadSays t (integer_type digits) =
     (t.kind ≡ kind.BareName) × (t.text ≡ 105 ∷ digits) × (0 < length digits) × (run is_digit digits ≡ length digits)
 HeadSays t clock_type = (t.kind ≡ kind.TypeName) × (content_of kind.TypeName t.text ≡ codes "seq.clock")
@@ -42,21 +42,21 @@ digits_said b d ds h =
     let (e, r) = and_parts (b == 105) (run is_digit (d ∷ ds) == length (d ∷ ds)) h in
     (eqb-true b 105 e, omega arith, eqb-true (run is_digit (d ∷ ds)) (length (d ∷ ds)) r)
 
-bare_says : (t : Lexeme) → t.kind ≡ kind.BareName → (text : List ℕ) → t.text ≡ text → HeadSays t (bare_type (width_digits text))
+bare_says : (t : TextToken) → t.kind ≡ kind.BareName → (text : List ℕ) → t.text ≡ text → HeadSays t (bare_type (width_digits text))
 bare_says t k [] e = tt
 bare_says t k (b ∷ []) e = tt
 bare_says t k (b ∷ d ∷ ds) e =
     cond_both ((b == 105) && (run is_digit (d ∷ ds) == length (d ∷ ds))) (Some (d ∷ ds)) None (λ o. HeadSays t (bare_type o))
     (λ h. let (eb, l, r) = digits_said b d ds h in (k, e ∙ ap (λ x. x ∷ d ∷ ds) eb, l, r)) (λ _. tt)
 
-named_says : (t : Lexeme) → t.kind ≡ kind.TypeName → HeadSays t (named_type (content_of kind.TypeName t.text))
+named_says : (t : TextToken) → t.kind ≡ kind.TypeName → HeadSays t (named_type (content_of kind.TypeName t.text))
 named_says t k =
     let name = content_of kind.TypeName t.text in
     cond_both (same_name name (codes "seq.clock")) clock_type _ (HeadSays t) (λ h. (k, (bytes_decides name (codes "seq.clock")).0 h)) (λ _.
     cond_both (same_name name (codes "hw.array")) array_type _ (HeadSays t) (λ h. (k, (bytes_decides name (codes "hw.array")).0 h)) (λ _.
     cond_both (same_name name (codes "hw.struct")) struct_type foreign_type (HeadSays t) (λ h. (k, (bytes_decides name (codes "hw.struct")).0 h)) (λ _. tt)))
 
-head_says : (t : Lexeme) → HeadSays t (type_head (Some t))
+head_says : (t : TextToken) → HeadSays t (type_head (Some t))
 head_says t =
     cond_both (is_kind t.kind kind.BareName) _ _ (HeadSays t) (λ h. bare_says t (kind_is t.kind kind.BareName h) t.text refl) (λ _.
     cond_both (is_kind t.kind kind.TypeName) _ no_type (HeadSays t) (λ h. named_says t (kind_is t.kind kind.TypeName h)) (λ _. tt))
@@ -64,11 +64,11 @@ head_says t =
 -- ---- integer types
 
 -- a token that ends in a width
-width_ok : (Q : HwType → Phrase) (op : OpName) (t : Lexeme) (ts left : List Symbol) (front digits : List ℕ) (x : HwType)
-    → ((w : ℕ) (a : List Lexeme) → WidthPhrase front w a → Q (int w) a) → t.kind ≡ kind.BareName → t.text ≡ front ++ digits → 0 < length digits
+width_ok : (Q : HwType → Phrase) (op : OpName) (t : TextToken) (ts left : List StreamToken) (prefix digits : List ℕ) (x : HwType)
+    → ((w : ℕ) (a : List TextToken) → WidthPhrase prefix w a → Q (int w) a) → t.kind ≡ kind.BareName → t.text ≡ prefix ++ digits → 0 < length digits
     → run is_digit digits ≡ length digits → width_type op (token t ∷ ts) digits ≡ Ok (x, left) → Said (Q x) (token t ∷ ts) left
 unfolding width_type
-width_ok Q op t ts left front digits x to k text some all h =
+width_ok Q op t ts left prefix digits x to k text some all h =
     let (w, m, e, g) = ok_of (below_limit count_limit op (token t ∷ ts) (number_in 10 0 digits) ts) (λ w left. Ok (int w, left)) x left h in
     limited_ok count_limit op (token t ∷ ts) ts m (number_in 10 0 digits) w (λ z l. ◌≡◌ {A = Read HwType} (Ok (int z, l)) (Ok (x, left)) → Said (Q x) (token t ∷ ts) left)
     (λ small g. same_ok (int (number_in 10 0 digits)) x ts left (λ z l. Said (Q z) (token t ∷ ts) l) g
@@ -76,8 +76,8 @@ width_ok Q op t ts left front digits x to k text some all h =
 
 -- ---- elements of arrays
 
-glued_ok : (Q : HwType → Phrase) (op : OpName) (t : Lexeme) (ts left : List Symbol) (rest : List ℕ) (x : HwType)
-    → ((w : ℕ) (a : List Lexeme) → WidthPhrase (codes "xi") w a → Q (int w) a) → t.kind ≡ kind.BareName → t.text ≡ 120 ∷ rest
+glued_ok : (Q : HwType → Phrase) (op : OpName) (t : TextToken) (ts left : List StreamToken) (rest : List ℕ) (x : HwType)
+    → ((w : ℕ) (a : List TextToken) → WidthPhrase (codes "xi") w a → Q (int w) a) → t.kind ≡ kind.BareName → t.text ≡ 120 ∷ rest
     → glued_element op (token t ∷ ts) (width_digits rest) ≡ Ok (x, left) → Said (Q x) (token t ∷ ts) left
 unfolding glued_element
 glued_ok Q op t ts left [] x to k e h = absurd cc
@@ -88,7 +88,7 @@ glued_ok Q op t ts left (b ∷ d ∷ ds) x to k e h =
     (λ c g. let (eb, l, r) = digits_said b d ds c in width_ok Q op t ts left (codes "xi") (d ∷ ds) x to k (e ∙ ap (λ y. 120 ∷ y ∷ d ∷ ds) eb) l r g)
     (λ _ g. absurd cc) h
 
-rest_ok : (Inner : HwType → Phrase) (element : Reads HwType) (op : OpName) → Sound element Inner → (t : Lexeme) (ts left : List Symbol) (rest : List ℕ) (x : HwType)
+rest_ok : (Inner : HwType → Phrase) (element : Reads HwType) (op : OpName) → Sound element Inner → (t : TextToken) (ts left : List StreamToken) (rest : List ℕ) (x : HwType)
     → t.kind ≡ kind.BareName → t.text ≡ 120 ∷ rest → element_after element op (token t ∷ ts) (Some rest) ≡ Ok (x, left)
     → Said (ElementPhrase Inner x) (token t ∷ ts) left
 unfolding element_after
@@ -96,7 +96,7 @@ rest_ok Inner element op inner t ts left [] x k e h =
     one_more t ts left (ElementPhrase Inner x) (let (a, ea, p) = inner.said ts left x h in (a, ea, inl (pair (t ∷ []) a (t, refl, (k, e)) p)))
 rest_ok Inner element op inner t ts left (b ∷ bs) x k e h = glued_ok (ElementPhrase Inner) op t ts left (b ∷ bs) x (λ w a p. inr p) k e h
 
-after_ok : (Inner : HwType → Phrase) (element : Reads HwType) (op : OpName) → Sound element Inner → (t : Lexeme) (ts left : List Symbol) (text : List ℕ) (x : HwType)
+after_ok : (Inner : HwType → Phrase) (element : Reads HwType) (op : OpName) → Sound element Inner → (t : TextToken) (ts left : List StreamToken) (text : List ℕ) (x : HwType)
     → t.kind ≡ kind.BareName → t.text ≡ text → element_after element op (token t ∷ ts) (after_x text) ≡ Ok (x, left)
     → Said (ElementPhrase Inner x) (token t ∷ ts) left
 unfolding element_after
@@ -105,7 +105,7 @@ after_ok Inner element op inner t ts left (b ∷ bs) x k e h =
     cond_both (b == 120) (Some bs) None (λ o. element_after element op (token t ∷ ts) o ≡ Ok (x, left) → Said (ElementPhrase Inner x) (token t ∷ ts) left)
     (λ c g. rest_ok Inner element op inner t ts left bs x k (e ∙ ap (λ y. y ∷ bs) (eqb-true b 120 c)) g) (λ _ g. absurd cc) h
 
-element_ok : (Inner : HwType → Phrase) (element : Reads HwType) (op : OpName) → Sound element Inner → (s left : List Symbol) (x : HwType)
+element_ok : (Inner : HwType → Phrase) (element : Reads HwType) (op : OpName) → Sound element Inner → (s left : List StreamToken) (x : HwType)
     → element_type element op s ≡ Ok (x, left) → Said (ElementPhrase Inner x) s left
 unfolding element_type element_after
 element_ok Inner element op inner [] left x h = absurd cc
@@ -121,10 +121,10 @@ sound_element {Inner} {element} op inner = record { said = element_ok Inner elem
 
 -- ---- arrays and structs
 
-pub then_left : {P Q R : Phrase} (a b c : List Lexeme) → P a → Q b → R c → Then (Then P Q) R (a ++ (b ++ c))
+pub then_left : {P Q R : Phrase} (a b c : List TextToken) → P a → Q b → R c → Then (Then P Q) R (a ++ (b ++ c))
 then_left a b c p q r = (a ++ b, c, sym (Rattle.std.proofs.lemmas.List.append_assoc a b c), (a, b, refl, p, q), r)
 
-array_after : {Inner : HwType → Phrase} {element : Reads HwType} (op : OpName) (t0 : Lexeme) → TypeWord (codes "hw.array") (t0 ∷ []) → Sound element Inner
+array_after : {Inner : HwType → Phrase} {element : Reads HwType} (op : OpName) (t0 : TextToken) → TypeWord (codes "hw.array") (t0 ∷ []) → Sound element Inner
     → Sound (λ s. on (want op kind.Less s) (λ _ s1. on (number_below count_limit op s1) (λ n s2.
     on (element_type element op s2) (λ t s3. on (want op kind.Greater s3) (λ _ s4. Ok (array n t, s4)))))) (λ y. Past t0 (TypeWith Inner y))
 array_after {Inner} {element} op t0 word inner =
@@ -138,7 +138,7 @@ sound_field {Inner} {element} op inner =
     sound_on (sound_name op) (λ name. sound_on (sound_want op kind.Colon) (λ _.
     sound_last (λ t. record { name = name; type = t }) inner (λ t c pc b pb a pa. pair a (b ++ c) pa (pair b c (mark pb) pc))))
 
-struct_after : {Inner : HwType → Phrase} {element : Reads HwType} (op : OpName) (t0 : Lexeme) → TypeWord (codes "hw.struct") (t0 ∷ []) → Sound element Inner
+struct_after : {Inner : HwType → Phrase} {element : Reads HwType} (op : OpName) (t0 : TextToken) → TypeWord (codes "hw.struct") (t0 ∷ []) → Sound element Inner
     → Sound (λ s. on (want op kind.Less s) (λ _ s1. on (items_until op kind.Greater (field_text element op) s1) (λ fs s2. Ok (struct (fields_of fs), s2))))
     (λ y. Past t0 (TypeWith Inner y))
 struct_after {Inner} {element} op t0 word inner =
@@ -147,8 +147,8 @@ struct_after {Inner} {element} op t0 word inner =
 
 -- ---- types
 
-with_ok : (Q : HwType → Phrase) (arrays structs : Reads HwType) (op : OpName) (t : Lexeme) (ts left : List Symbol) (x : HwType) (head : TypeHead)
-    → ((w : ℕ) (a : List Lexeme) → WidthPhrase (codes "i") w a → Q (int w) a) → ((a : List Lexeme) → TypeWord (codes "seq.clock") a → Q clock a)
+with_ok : (Q : HwType → Phrase) (arrays structs : Reads HwType) (op : OpName) (t : TextToken) (ts left : List StreamToken) (x : HwType) (head : TypeHead)
+    → ((w : ℕ) (a : List TextToken) → WidthPhrase (codes "i") w a → Q (int w) a) → ((a : List TextToken) → TypeWord (codes "seq.clock") a → Q clock a)
     → (TypeWord (codes "hw.array") (t ∷ []) → arrays (token t ∷ ts) ≡ Ok (x, left) → Said (Q x) (token t ∷ ts) left)
     → (TypeWord (codes "hw.struct") (t ∷ []) → structs (token t ∷ ts) ≡ Ok (x, left) → Said (Q x) (token t ∷ ts) left)
     → HeadSays t head → type_with arrays structs op (token t ∷ ts) head ≡ Ok (x, left) → Said (Q x) (token t ∷ ts) left
@@ -162,7 +162,7 @@ with_ok Q arrays structs op t ts left x struct_type ints clocks arrs strs says h
 with_ok Q arrays structs op t ts left x foreign_type ints clocks arrs strs says h = absurd cc
 with_ok Q arrays structs op t ts left x no_type ints clocks arrs strs says h = absurd cc
 
-plain_ok : (op : OpName) (s left : List Symbol) (x : HwType) → type_text zero op s ≡ Ok (x, left) → Said (TypePhrase zero x) s left
+plain_ok : (op : OpName) (s left : List StreamToken) (x : HwType) → type_text zero op s ≡ Ok (x, left) → Said (TypePhrase zero x) s left
 unfolding type_with too_deep
 plain_ok op [] left x h = absurd cc
 plain_ok op (token t ∷ ts) left x h =
@@ -170,7 +170,7 @@ plain_ok op (token t ∷ ts) left x h =
 plain_ok op (bad p ∷ ts) left x h = absurd cc
 plain_ok op (end p ∷ ts) left x h = absurd cc
 
-suc_ok : (room : ℕ) (op : OpName) → Sound (type_text room op) (TypePhrase room) → (s left : List Symbol) (x : HwType) → type_text (suc room) op s ≡ Ok (x, left)
+suc_ok : (room : ℕ) (op : OpName) → Sound (type_text room op) (TypePhrase room) → (s left : List StreamToken) (x : HwType) → type_text (suc room) op s ≡ Ok (x, left)
     → Said (TypePhrase (suc room) x) s left
 unfolding type_with array_text struct_text
 suc_ok room op inner [] left x h = absurd cc

@@ -8,9 +8,9 @@ use Rattle.hw_model.specs.Design.{same_name, Attribute, Attributes, Entry}
 use Rattle.hw_model.specs.Design.Attribute.{unit_value, text_value, symbol_value, truth_value, integer_value, list_value}
 use Rattle.hw_model.specs.Design.Attributes.{no_attributes, attribute}
 use Rattle.mlir_lexer.specs.Contents.{content_of}
-use Rattle.mlir_lexer.specs.Tokens.{Lexeme}
+use Rattle.mlir_lexer.specs.Tokens.{TextToken}
 use Rattle.mlir_lexer.specs.declared.token.TokenKind.TheVariants as kind
-use Rattle.mlir_syntax.specs.Stream.{Symbol, first, is_next, is_word, after, refusal_at, unexpected_refusal}
+use Rattle.mlir_syntax.specs.Stream.{StreamToken, first, is_next, is_word, after, refusal_at, unexpected_refusal}
 use Rattle.mlir_lexer.specs.TokenKinds.{is_kind}
 use Rattle.mlir_syntax.specs.Reads.{Reads, Read, on, want, items_until}
 use Rattle.mlir_syntax.specs.Numerals.{integer}
@@ -23,14 +23,14 @@ pub data AttributeHead : Type 0 where
   number_head list_head alias_head no_head : AttributeHead
 
 -- whether a token is a symbol
-abbrev pub is_symbol : Lexeme → Bool
+abbrev pub is_symbol : TextToken → Bool
 is_symbol t = cond (is_kind t.kind kind.SymbolName) true (is_kind t.kind kind.SymbolString)
 
 -- whether a token begins an integer
-abbrev pub begins_integer : Lexeme → Bool
+abbrev pub begins_integer : TextToken → Bool
 begins_integer t = cond (is_kind t.kind kind.Integer) true (is_kind t.kind kind.Minus)
 
-abbrev pub attribute_head : Option Lexeme → AttributeHead
+abbrev pub attribute_head : Option TextToken → AttributeHead
 attribute_head None = no_head
 attribute_head (Some t) =
     cond (is_kind t.kind kind.StringLiteral) (text_head (content_of kind.StringLiteral t.text))
@@ -47,7 +47,7 @@ is_stored (pos n) = nat_lt n (2 ^ 64)
 is_stored (negsuc n) = nat_lt n (2 ^ 63)
 
 -- the tokens from the digits of an integer on
-abbrev pub digits_of : List Symbol → List Symbol
+abbrev pub digits_of : List StreamToken → List StreamToken
 digits_of s = cond (is_next kind.Minus s) (after s) s
 
 -- an integer within those bounds
@@ -73,7 +73,7 @@ unfoldable pub list_text : Reads Attribute → OpName → Reads Attribute
 list_text value op s = on (items_until op kind.RightBracket value (after s)) (λ vs left. Ok (list_value (in_order vs), left))
 
 -- an attribute of this head, where lists are read so
-unfoldable pub attribute_with : Reads Attribute → ℕ → OpName → List Symbol → AttributeHead → Read Attribute
+unfoldable pub attribute_with : Reads Attribute → ℕ → OpName → List StreamToken → AttributeHead → Read Attribute
 attribute_with lists room op s (text_head text) = Ok (text_value text, after s)
 attribute_with lists room op s (symbol_head name) = Ok (symbol_value name, after s)
 attribute_with lists room op s (truth_head b) = Ok (truth_value b, after s)

@@ -5,9 +5,9 @@ use Rattle.hw_model.specs.Types.HwType.{int}
 use Rattle.hw_model.specs.Kinds.{Literal, Literals}
 use Rattle.hw_model.specs.Kinds.Literal.{leaf, parts}
 use Rattle.hw_model.specs.Kinds.Literals.{no_literals, literal}
-use Rattle.mlir_lexer.specs.Tokens.{Lexeme}
+use Rattle.mlir_lexer.specs.Tokens.{TextToken}
 use Rattle.mlir_lexer.specs.declared.token.TokenKind.TheVariants as kind
-use Rattle.mlir_syntax.specs.Stream.{Symbol, first, is_word, after, unexpected_refusal}
+use Rattle.mlir_syntax.specs.Stream.{StreamToken, first, is_word, after, unexpected_refusal}
 use Rattle.mlir_lexer.specs.TokenKinds.{is_kind}
 use Rattle.mlir_syntax.specs.Reads.{Reads, Read, on, want, items_until}
 use Rattle.mlir_syntax.specs.Numerals.{integer}
@@ -19,7 +19,7 @@ pub data LiteralHead : Type 0 where
   truth_literal : Bool → LiteralHead
   number_literal list_literal no_literal : LiteralHead
 
-abbrev pub literal_head : Option Lexeme → LiteralHead
+abbrev pub literal_head : Option TextToken → LiteralHead
 literal_head None = no_literal
 literal_head (Some t) =
     cond (begins_integer t) number_literal
@@ -49,7 +49,7 @@ unfoldable pub list_part : Reads Literal → OpName → Reads Literal
 list_part part op s = on (parts_text part op s) (λ ls left. Ok (parts ls, left))
 
 -- a constant of this head, where lists are read so
-unfoldable pub literal_with : Reads Literal → ℕ → OpName → List Symbol → LiteralHead → Read Literal
+unfoldable pub literal_with : Reads Literal → ℕ → OpName → List StreamToken → LiteralHead → Read Literal
 literal_with lists room op s (truth_literal b) = Ok (truth_leaf b, after s)
 literal_with lists room op s number_literal = number_leaf room op s
 literal_with lists room op s list_literal = lists s

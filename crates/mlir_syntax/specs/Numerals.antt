@@ -4,13 +4,13 @@ use Rattle.diag.specs.declared.refusal.OpName.{OpName}
 use Rattle.diag.specs.declared.cause.Cause.TheVariants.{NumberTooLarge}
 use Rattle.mlir_lexer.specs.Contents.{hex_value}
 use Rattle.mlir_lexer.specs.declared.token.TokenKind.TheVariants as kind
-use Rattle.mlir_syntax.specs.Stream.{Symbol, is_next, after, refusal_at}
+use Rattle.mlir_syntax.specs.Stream.{StreamToken, is_next, after, refusal_at}
 use Rattle.mlir_syntax.specs.Reads.{Reads, Read, on, want}
 
 -- the number that digits stand for in a base, where so much stands before
 abbrev pub number_in : ℕ → ℕ → List ℕ → ℕ
-number_in base front [] = front
-number_in base front (b ∷ bs) = number_in base (front * base + hex_value b) bs
+number_in base prefix [] = prefix
+number_in base prefix (b ∷ bs) = number_in base (prefix * base + hex_value b) bs
 
 -- decimal, or hexadecimal after `0x`
 abbrev pub number_of : List ℕ → ℕ
@@ -31,7 +31,7 @@ abbrev pub below : ℕ → ℕ → Option ℕ
 below limit n = cond (nat_lt n limit) (Some n) None
 
 -- a number that is below a limit, or the refusal of its token
-unfoldable pub below_limit : ℕ → OpName → List Symbol → ℕ → List Symbol → Read ℕ
+unfoldable pub below_limit : ℕ → OpName → List StreamToken → ℕ → List StreamToken → Read ℕ
 below_limit limit op s n left = cond (nat_lt n limit) (Ok (n, left)) (Err (refusal_at NumberTooLarge op s))
 
 -- a number below a limit

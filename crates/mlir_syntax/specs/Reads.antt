@@ -2,18 +2,18 @@
 use Rattle.std.specs.Prelude.{◌≡◌, ℕ, zero, suc, cond, List, [], ◌∷◌, length, Result, Ok, Err}
 use Rattle.diag.specs.declared.refusal.Refusal.{Refusal}
 use Rattle.diag.specs.declared.refusal.OpName.{OpName}
-use Rattle.mlir_lexer.specs.Tokens.{Lexeme}
+use Rattle.mlir_lexer.specs.Tokens.{TextToken}
 use Rattle.mlir_lexer.specs.declared.token.TokenKind.{TokenKind}
 use Rattle.mlir_lexer.specs.declared.token.TokenKind.TheVariants as kind
-use Rattle.mlir_syntax.specs.Stream.{Symbol, token, bad, end, is_next, is_word, after, unexpected_refusal}
+use Rattle.mlir_syntax.specs.Stream.{StreamToken, token, bad, end, is_next, is_word, after, unexpected_refusal}
 use Rattle.mlir_lexer.specs.TokenKinds.{is_kind}
 
 -- what is read, and what is left
 abbrev pub Read : Type 0 → Type 0
-Read A = Result (A × List Symbol) Refusal
+Read A = Result (A × List StreamToken) Refusal
 
 abbrev pub Reads : Type 0 → Type 0
-Reads A = List Symbol → Read A
+Reads A = List StreamToken → Read A
 
 -- what one reader gives, taken on by the next
 abbrev pub on : {A B : Type 0} → Read A → (A → Reads B) → Read B
@@ -29,14 +29,14 @@ abbrev pub give : {A : Type 0} → A → Reads A
 give x s = Ok (x, s)
 
 -- a token of a kind
-unfoldable pub want : OpName → TokenKind → Reads Lexeme
+unfoldable pub want : OpName → TokenKind → Reads TextToken
 want op k [] = Err (unexpected_refusal op [])
 want op k (token t ∷ ts) = cond (is_kind t.kind k) (Ok (t, ts)) (Err (unexpected_refusal op (token t ∷ ts)))
 want op k (bad p ∷ ts) = Err (unexpected_refusal op (bad p ∷ ts))
 want op k (end p ∷ ts) = Err (unexpected_refusal op (end p ∷ ts))
 
 -- a bare name with this text
-unfoldable pub want_word : OpName → List ℕ → Reads Lexeme
+unfoldable pub want_word : OpName → List ℕ → Reads TextToken
 want_word op name [] = Err (unexpected_refusal op [])
 want_word op name (token t ∷ ts) = cond (is_word name t) (Ok (t, ts)) (Err (unexpected_refusal op (token t ∷ ts)))
 want_word op name (bad p ∷ ts) = Err (unexpected_refusal op (bad p ∷ ts))
@@ -62,5 +62,5 @@ items_until op close item s =
 -- ---- what code gives is what is read
 
 -- an answer is what is read, seen by a view, and what is left; out of memory is free
-abbrev pub Gives : {A B : Type 0} → (A → B) → A → List Symbol → Read B → Type 0
+abbrev pub Gives : {A B : Type 0} → (A → B) → A → List StreamToken → Read B → Type 0
 Gives view x left read = read ≡ Ok (view x, left)

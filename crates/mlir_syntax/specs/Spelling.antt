@@ -10,7 +10,7 @@ use Rattle.hw_model.specs.Design.Attribute.{unit_value, text_value, symbol_value
 use Rattle.mlir_lexer.specs.Classes.{is_digit}
 use Rattle.mlir_lexer.specs.Runs.{run}
 use Rattle.mlir_lexer.specs.Contents.{content_of}
-use Rattle.mlir_lexer.specs.Tokens.{Lexeme}
+use Rattle.mlir_lexer.specs.Tokens.{TextToken}
 use Rattle.mlir_lexer.specs.declared.token.TokenKind.{TokenKind}
 use Rattle.mlir_lexer.specs.declared.token.TokenKind.TheVariants as kind
 use Rattle.mlir_syntax.specs.Numerals.{number_in, number_of, count_limit, number_limit, negative}
@@ -22,23 +22,23 @@ use Rattle.mlir_syntax.specs.LiteralText.{literals_in_order, truth_leaf}
 
 -- what some tokens may be
 abbrev pub Phrase : Type 1
-Phrase = List Lexeme → Type 0
+Phrase = List TextToken → Type 0
 
 -- one token, and it is so
-abbrev pub One : (Lexeme → Type 0) → Phrase
-One P ts = (t : Lexeme) × (ts ≡ t ∷ []) × P t
+abbrev pub One : (TextToken → Type 0) → Phrase
+One P ts = (t : TextToken) × (ts ≡ t ∷ []) × P t
 
 -- a token of a kind
 abbrev pub Mark : TokenKind → Phrase
-Mark k = One (λ (t : Lexeme). t.kind ≡ k)
+Mark k = One (λ (t : TextToken). t.kind ≡ k)
 
 -- a bare name
 abbrev pub Word : List ℕ → Phrase
-Word name = One (λ (t : Lexeme). (t.kind ≡ kind.BareName) × (t.text ≡ name))
+Word name = One (λ (t : TextToken). (t.kind ≡ kind.BareName) × (t.text ≡ name))
 
 -- a token of a kind, by what it holds
 abbrev pub Holding : TokenKind → List ℕ → Phrase
-Holding k content = One (λ (t : Lexeme). (t.kind ≡ k) × (content_of k t.text ≡ content))
+Holding k content = One (λ (t : TextToken). (t.kind ≡ k) × (content_of k t.text ≡ content))
 
 -- no token
 abbrev pub Nothing : Phrase
@@ -46,7 +46,7 @@ Nothing ts = ts ≡ []
 
 -- one phrase and then another
 abbrev pub Then : Phrase → Phrase → Phrase
-Then P Q ts = (a b : List Lexeme) × (ts ≡ a ++ b) × P a × Q b
+Then P Q ts = (a b : List TextToken) × (ts ≡ a ++ b) × P a × Q b
 
 -- one phrase or another
 abbrev pub Either : Phrase → Phrase → Phrase
@@ -78,7 +78,7 @@ SymbolPhrase name = Either (Holding kind.SymbolName name) (Holding kind.SymbolSt
 
 -- a number below a limit
 abbrev pub NumberPhrase : ℕ → ℕ → Phrase
-NumberPhrase limit n = Where (n < limit) (One (λ (t : Lexeme). (t.kind ≡ kind.Integer) × (number_of t.text ≡ n)))
+NumberPhrase limit n = Where (n < limit) (One (λ (t : TextToken). (t.kind ≡ kind.Integer) × (number_of t.text ≡ n)))
 
 -- an integer with its sign
 abbrev pub IntegerPhrase : ℤ → Phrase
@@ -94,7 +94,7 @@ AreDigits digits w = (0 < length digits) × (run is_digit digits ≡ length digi
 
 -- a bare name that begins so and ends with the digits of a width
 abbrev pub WidthPhrase : List ℕ → ℕ → Phrase
-WidthPhrase front w = One (λ (t : Lexeme). (t.kind ≡ kind.BareName) × ((digits : List ℕ) × (t.text ≡ front ++ digits) × AreDigits digits w))
+WidthPhrase prefix w = One (λ (t : TextToken). (t.kind ≡ kind.BareName) × ((digits : List ℕ) × (t.text ≡ prefix ++ digits) × AreDigits digits w))
 
 -- `!name`
 abbrev pub TypeWord : List ℕ → Phrase

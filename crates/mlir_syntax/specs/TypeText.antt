@@ -9,14 +9,14 @@ use Rattle.hw_model.specs.Design.{same_name}
 use Rattle.mlir_lexer.specs.Classes.{is_digit}
 use Rattle.mlir_lexer.specs.Runs.{run}
 use Rattle.mlir_lexer.specs.Contents.{content_of}
-use Rattle.mlir_lexer.specs.Tokens.{Lexeme}
+use Rattle.mlir_lexer.specs.Tokens.{TextToken}
 use Rattle.mlir_lexer.specs.declared.token.TokenKind.TheVariants as kind
-use Rattle.mlir_syntax.specs.Stream.{Symbol, token, bad, end, first, after, refusal_at, unexpected_refusal}
+use Rattle.mlir_syntax.specs.Stream.{StreamToken, token, bad, end, first, after, refusal_at, unexpected_refusal}
 use Rattle.mlir_lexer.specs.TokenKinds.{is_kind}
 use Rattle.mlir_syntax.specs.Reads.{Reads, Read, on, want, items_until}
 use Rattle.mlir_syntax.specs.Numerals.{number_in, below_limit, number_below, count_limit}
 
--- how many types and lists may be open at a place
+-- how many types and lists may be open at a location
 abbrev pub most_open : ℕ
 most_open = 32
 
@@ -48,18 +48,18 @@ named_type name =
     (cond (same_name name (codes "hw.array")) array_type
     (cond (same_name name (codes "hw.struct")) struct_type foreign_type))
 
-abbrev pub type_head : Option Lexeme → TypeHead
+abbrev pub type_head : Option TextToken → TypeHead
 type_head None = no_type
 type_head (Some t) =
     cond (is_kind t.kind kind.BareName) (bare_type (width_digits t.text))
     (cond (is_kind t.kind kind.TypeName) (named_type (content_of kind.TypeName t.text)) no_type)
 
 -- an integer type, whose width the first token says
-unfoldable pub width_type : OpName → List Symbol → List ℕ → Read HwType
+unfoldable pub width_type : OpName → List StreamToken → List ℕ → Read HwType
 width_type op s digits = on (below_limit count_limit op s (number_in 10 0 digits) (after s)) (λ w left. Ok (int w, left))
 
 -- a type of this head, where arrays and structs are read so
-unfoldable pub type_with : Reads HwType → Reads HwType → OpName → List Symbol → TypeHead → Read HwType
+unfoldable pub type_with : Reads HwType → Reads HwType → OpName → List StreamToken → TypeHead → Read HwType
 type_with arrays structs op s (integer_type digits) = width_type op s digits
 type_with arrays structs op s clock_type = Ok (clock, after s)
 type_with arrays structs op s array_type = arrays s
@@ -68,17 +68,17 @@ type_with arrays structs op s foreign_type = Err (refusal_at OutsideProfile op s
 type_with arrays structs op s no_type = Err (unexpected_refusal op s)
 
 -- an element's type that begins within the token of the `x`
-unfoldable pub glued_element : OpName → List Symbol → Option (List ℕ) → Read HwType
+unfoldable pub glued_element : OpName → List StreamToken → Option (List ℕ) → Read HwType
 glued_element op s None = Err (unexpected_refusal op s)
 glued_element op s (Some digits) = width_type op s digits
 
 -- what the first token has after an `x`
-abbrev pub x_rest : Option Lexeme → Option (List ℕ)
+abbrev pub x_rest : Option TextToken → Option (List ℕ)
 x_rest None = None
 x_rest (Some t) = cond (is_kind t.kind kind.BareName) (after_x t.text) None
 
 -- an element's type after an `x`; nothing more may stand in the token of the `x`, or an integer type
-unfoldable pub element_after : Reads HwType → OpName → List Symbol → Option (List ℕ) → Read HwType
+unfoldable pub element_after : Reads HwType → OpName → List StreamToken → Option (List ℕ) → Read HwType
 element_after element op s None = Err (unexpected_refusal op s)
 element_after element op s (Some []) = element (after s)
 element_after element op s (Some (b ∷ bs)) = glued_element op s (width_digits (b ∷ bs))
@@ -94,7 +94,7 @@ array_text element op s =
     on (element_type element op s2) (λ t s3. on (want op kind.Greater s3) (λ _ s4. Ok (array n t, s4)))))
 
 -- whether a token is a bare name or a string
-abbrev pub is_name : Lexeme → Bool
+abbrev pub is_name : TextToken → Bool
 is_name t = cond (is_kind t.kind kind.BareName) true (is_kind t.kind kind.StringLiteral)
 
 -- a bare name, or what a string holds

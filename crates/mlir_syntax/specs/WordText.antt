@@ -1,6 +1,5 @@
 -- The text of words, strings and symbols (MLIR language reference: "Identifiers and keywords").
-use Rattle.std.specs.Prelude.{ℕ, Bool, true, false, cond, List, [], ◌∷◌, Option, Some, None, Ok, Err, codes}
-use Rattle.wiring.specs.Options.{bind}
+use Rattle.std.specs.Prelude.{ℕ, Bool, true, false, cond, List, [], ◌∷◌, Option, Some, None, Ok, Err, codes, option_and_then}
 use Rattle.diag.specs.declared.refusal.OpName.{OpName}
 use Rattle.diag.specs.declared.cause.Cause.TheVariants.{OutsideProfile}
 use Rattle.hw_model.specs.Types.{Name}
@@ -8,9 +7,9 @@ use Rattle.hw_model.specs.Kinds.{Predicate}
 use Rattle.hw_model.specs.Kinds.Predicate.{eq, ne, slt, sle, sgt, sge, ult, ule, ugt, uge, ceq, cne, weq, wne}
 use Rattle.hw_model.specs.Design.{same_name}
 use Rattle.mlir_lexer.specs.Contents.{content_of}
-use Rattle.mlir_lexer.specs.Tokens.{Lexeme}
+use Rattle.mlir_lexer.specs.Tokens.{TextToken}
 use Rattle.mlir_lexer.specs.declared.token.TokenKind.TheVariants as kind
-use Rattle.mlir_syntax.specs.Stream.{Symbol, token, bad, end, first, is_first, is_next, is_word, after, refusal_at, unexpected_refusal}
+use Rattle.mlir_syntax.specs.Stream.{StreamToken, token, bad, end, first, is_first, is_next, is_word, after, refusal_at, unexpected_refusal}
 use Rattle.mlir_lexer.specs.TokenKinds.{is_kind}
 use Rattle.mlir_syntax.specs.Reads.{Reads, Read, on, want}
 use Rattle.mlir_syntax.specs.AttributeText.{is_symbol}
@@ -36,17 +35,17 @@ predicate_named name =
     (cond (same_name name (codes "wne")) (Some wne) None)))))))))))))
 
 -- the text of a token that is a bare name
-abbrev pub bare_text : Option Lexeme → Option (List ℕ)
+abbrev pub bare_text : Option TextToken → Option (List ℕ)
 bare_text None = None
 bare_text (Some t) = cond (is_kind t.kind kind.BareName) (Some t.text) None
 
 -- the first token as something, or its refusal
-abbrev pub as_known : {A : Type 0} → OpName → List Symbol → Option A → Read A
+abbrev pub as_known : {A : Type 0} → OpName → List StreamToken → Option A → Read A
 as_known op s None = Err (unexpected_refusal op s)
 as_known op s (Some x) = Ok (x, after s)
 
 unfoldable pub predicate_text : OpName → Reads Predicate
-predicate_text op s = as_known op s (bind (bare_text (first s)) predicate_named)
+predicate_text op s = as_known op s (option_and_then predicate_named (bare_text (first s)))
 
 -- ---- `true` and `false`
 
@@ -54,7 +53,7 @@ unfoldable pub truth_named : List ℕ → Option Bool
 truth_named name = cond (same_name name (codes "true")) (Some true) (cond (same_name name (codes "false")) (Some false) None)
 
 unfoldable pub truth_text : OpName → Reads Bool
-truth_text op s = as_known op s (bind (bare_text (first s)) truth_named)
+truth_text op s = as_known op s (option_and_then truth_named (bare_text (first s)))
 
 -- ---- strings and symbols
 

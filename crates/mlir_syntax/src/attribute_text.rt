@@ -5,7 +5,7 @@ ghost use Rattle.hw_model.specs.KindViews.{integer_of};
 ghost use Rattle.hw_model.specs.Design.Attribute.{text_value, symbol_value, truth_value, integer_value, list_value};
 ghost use Rattle.ir_store.specs.DictionaryViews.{attribute_of};
 ghost use Rattle.mlir_lexer.specs.Contents.{content_of};
-ghost use Rattle.mlir_lexer.specs.Tokens.{lexeme_of};
+ghost use Rattle.mlir_lexer.specs.Tokens.{text_token};
 ghost use Rattle.mlir_lexer.specs.declared.token.TokenKind.TheVariants as kind;
 ghost use Rattle.mlir_syntax.specs.Stream.{first, after};
 ghost use Rattle.mlir_syntax.specs.Numerals.{signed};
@@ -200,7 +200,7 @@ impl<'s> Reader<'s> {
     {
         self.content(Token {
             kind: TokenKind::StringLiteral,
-            place: token.place,
+            location: token.location,
             at: token.at,
             text: token.text,
         })
@@ -209,7 +209,7 @@ impl<'s> Reader<'s> {
 
 // What a token begins an attribute as.
 fn attribute_head<'s>(token: Token<'s>) -> AttributeHead<'s>
-    ensures { head_of result ≡ attribute_head (Some (lexeme_of token.entry)) }
+    ensures { head_of result ≡ attribute_head (Some (text_token token.entry)) }
 {
     if is_kind(token.kind, TokenKind::StringLiteral) {
         AttributeHead::Text(token)
@@ -232,14 +232,14 @@ fn attribute_head<'s>(token: Token<'s>) -> AttributeHead<'s>
 
 /// Whether a token is a symbol.
 pub fn is_symbol(token: Token) -> bool
-    ensures { result ≡ is_symbol (lexeme_of token.entry) }
+    ensures { result ≡ is_symbol (text_token token.entry) }
 {
     is_kind(token.kind, TokenKind::SymbolName) || is_kind(token.kind, TokenKind::SymbolString)
 }
 
 /// Whether a token begins an integer.
 pub fn begins_integer(token: Token) -> bool
-    ensures { result ≡ begins_integer (lexeme_of token.entry) }
+    ensures { result ≡ begins_integer (text_token token.entry) }
 {
     is_kind(token.kind, TokenKind::Integer) || is_kind(token.kind, TokenKind::Minus)
 }

@@ -63,7 +63,7 @@ impl<'s> Reader<'s> {
     /// `{K = V, ..}`, where the values of some keys are strings. In expected time linear in its
     /// length.
     ///
-    /// Refuses what is no dictionary, and a key that stands twice, at its second place.
+    /// Refuses what is no dictionary, and a key that stands twice, at its second location.
     #[tactic(auto, unfolding(crate::specs::AttributeText::dictionary_text))]
     pub fn dictionary_text(
         &mut self,

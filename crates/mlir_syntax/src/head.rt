@@ -1,5 +1,5 @@
 //! What stands first of what is left of a text.
-use diag::refusal::Place;
+use diag::refusal::Location;
 use mlir_lexer::token::Token;
 
 /// What stands first of what is left of a text.
@@ -8,7 +8,7 @@ pub enum Head<'s> {
     /// A token.
     Token(Token<'s>),
     /// A byte that begins no token.
-    Bad(Place),
+    Bad(Location),
     /// The end of the text.
-    End(Place),
+    End(Location),
 }

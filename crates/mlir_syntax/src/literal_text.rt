@@ -3,7 +3,7 @@ ghost use Rattle.std.specs.Prelude.{◌≡◌, ◌≤◌, length, map, Some, OnO
 ghost use Rattle.hw_model.specs.TypeViews.{type_of};
 ghost use Rattle.hw_model.specs.Kinds.Literal.{leaf, parts};
 ghost use Rattle.hw_model.specs.KindViews.{integer_of, literal_of, literals_in};
-ghost use Rattle.mlir_lexer.specs.Tokens.{lexeme_of};
+ghost use Rattle.mlir_lexer.specs.Tokens.{text_token};
 ghost use Rattle.mlir_lexer.specs.declared.token.TokenKind.TheVariants as kind;
 ghost use Rattle.mlir_syntax.specs.Stream.{first};
 ghost use Rattle.mlir_syntax.specs.Reads.{some_items, items_until};
@@ -149,7 +149,7 @@ impl<'s> Reader<'s> {
 
 // What a token begins a constant as.
 fn literal_head(token: Token) -> LiteralHead
-    ensures { head_of result ≡ literal_head (Some (lexeme_of token.entry)) }
+    ensures { head_of result ≡ literal_head (Some (text_token token.entry)) }
 {
     if begins_integer(token) {
         LiteralHead::Number

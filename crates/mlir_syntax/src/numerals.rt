@@ -105,13 +105,13 @@ fn number_in(base: u8, digits: &[u8]) -> Option<u128>
 }
 
 // A number with one more digit; None exactly where it is 2^128 or more.
-fn with_digit(front: u128, base: u8, digit: u8) -> Option<u128>
-    ensures { result ≡ below number_limit (front * base + hex_value digit) }
+fn with_digit(prefix: u128, base: u8, digit: u8) -> Option<u128>
+    ensures { result ≡ below number_limit (prefix * base + hex_value digit) }
 {
-    if front < 1 << 64 {
-        return Some(front * u128::from(base) + u128::from(hex_value(digit)));
+    if prefix < 1 << 64 {
+        return Some(prefix * u128::from(base) + u128::from(hex_value(digit)));
     }
-    match front.checked_mul(u128::from(base)) {
+    match prefix.checked_mul(u128::from(base)) {
         Some(product) => product.checked_add(u128::from(hex_value(digit))),
         None => None,
     }

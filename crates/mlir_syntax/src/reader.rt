@@ -1,7 +1,7 @@
 //! A text as it is read, token by token.
 ghost use Rattle.std.specs.Prelude.{◌≡◌, ◌<◌, length, cond, OnOk, IsTrue};
 ghost use Rattle.std.specs.Option.{option_map};
-ghost use Rattle.mlir_lexer.specs.Tokens.{lexeme_of};
+ghost use Rattle.mlir_lexer.specs.Tokens.{text_token};
 ghost use Rattle.mlir_syntax.specs.Stream.{stream_of, is_word, first, is_next, is_first, after, refusal_at, unexpected_refusal, refusal, cause_of_first, is_end};
 ghost use Rattle.mlir_lexer.specs.TokenKinds.{is_kind};
 ghost use Rattle.mlir_syntax.specs.Heads.{stream_left, symbols};
@@ -11,7 +11,7 @@ ghost use Rattle.mlir_syntax.specs.Views.{ReadsAs};
 use crate::fail::ReadFail;
 use crate::head::Head;
 use diag::cause::Cause;
-use diag::refusal::{OpName, Place, Refusal};
+use diag::refusal::{Location, OpName, Refusal};
 use mlir_lexer::token::{Token, TokenKind, is_kind};
 use mlir_lexer::tokens::Tokens;
 use std::alloc::Global;
@@ -28,10 +28,10 @@ pub struct Reader<'s> {
 
 impl<'s> Model for Reader<'s> {
     ghost use Rattle.std.specs.Prelude.{List};
-    ghost use Rattle.mlir_syntax.specs.Stream.{Symbol};
+    ghost use Rattle.mlir_syntax.specs.Stream.{StreamToken};
     ghost use Rattle.mlir_syntax.specs.Heads.{stream_left, symbols};
 
-    ghost Value = { List Symbol };
+    ghost Value = { List StreamToken };
 
     ghost view = { λ r. symbols r.head (stream_left r.tokens) };
 }
@@ -42,7 +42,7 @@ impl<'s> Reader<'s> {
         ensures start { result ≡ stream_of source.now }
     {
         let mut tokens = Tokens::new(source);
-        let mut head = Head::End(tokens.place());
+        let mut head = Head::End(tokens.location());
         see_next(&mut head, &mut tokens);
         Reader {
             alloc,
@@ -58,7 +58,7 @@ impl<'s> Reader<'s> {
 
     /// The first token that is left; None at the end, and where a byte begins none.
     pub fn first(&self) -> Option<Token<'s>>
-        ensures { option_map lexeme_of result ≡ first self.now }
+        ensures { option_map text_token result ≡ first self.now }
     {
         match self.head {
             Head::Token(token) => Some(token),
@@ -126,7 +126,7 @@ impl<'s> Reader<'s> {
     #[inline(always)]
     #[tactic(auto, unfolding(crate::specs::Reads::want))]
     pub fn want(&mut self, op: OpName, kind: TokenKind) -> Result<Token<'s>, ReadFail>
-        ensures gives { ReadsAs lexeme_of result self.new (want op kind self.old) }
+        ensures gives { ReadsAs text_token result self.new (want op kind self.old) }
         ensures shorter { OnOk result (length self.new < length self.old) }
     {
         match self.head {
@@ -145,7 +145,7 @@ impl<'s> Reader<'s> {
     /// Refuses everything else that stands there.
     #[tactic(auto, unfolding(crate::specs::Reads::want_word))]
     pub fn want_word(&mut self, op: OpName, word: &[u8]) -> Result<Token<'s>, ReadFail>
-        ensures gives { ReadsAs lexeme_of result self.new (want_word op word.now self.old) }
+        ensures gives { ReadsAs text_token result self.new (want_word op word.now self.old) }
         ensures shorter { OnOk result (length self.new < length self.old) }
     {
         match self.head {
@@ -164,9 +164,9 @@ impl<'s> Reader<'s> {
         ensures { result ≡ unexpected_refusal op self.now }
     {
         match self.head {
-            Head::Token(token) => refusal(token.place, op, cause_of_first(token)),
-            Head::Bad(place) => refusal(place, op, Cause::BadByte),
-            Head::End(place) => refusal(place, op, Cause::Unexpected),
+            Head::Token(token) => refusal(token.location, op, cause_of_first(token)),
+            Head::Bad(location) => refusal(location, op, Cause::BadByte),
+            Head::End(location) => refusal(location, op, Cause::Unexpected),
         }
     }
 
@@ -175,32 +175,32 @@ impl<'s> Reader<'s> {
         ensures { result ≡ refusal_at cause op self.now }
     {
         match self.head {
-            Head::Token(token) => refusal(token.place, op, cause),
-            Head::Bad(place) => refusal(place, op, Cause::BadByte),
-            Head::End(place) => refusal(place, op, Cause::Unexpected),
+            Head::Token(token) => refusal(token.location, op, cause),
+            Head::Bad(location) => refusal(location, op, Cause::BadByte),
+            Head::End(location) => refusal(location, op, Cause::Unexpected),
         }
     }
 }
 
-// Sees what is next of the tokens, and puts it in the place of what was seen.
+// Sees what is next of the tokens, and puts it instead of what was seen.
 #[inline(always)]
 fn see_next<'s>(head: &mut Head<'s>, tokens: &mut Tokens<'s>)
     ensures { symbols head.new (stream_left tokens.new) ≡ stream_left tokens.old }
 {
     match tokens.next() {
         Ok(Some(token)) => *head = Head::Token(token),
-        Ok(None) => *head = Head::End(tokens.place()),
-        Err(fail) => *head = Head::Bad(fail.place),
+        Ok(None) => *head = Head::End(tokens.location()),
+        Err(fail) => *head = Head::Bad(fail.location),
     }
 }
 
 // A refusal of one file.
-fn refusal(place: Place, op: OpName, cause: Cause) -> Refusal
-    ensures { result ≡ refusal place op cause }
+fn refusal(location: Location, op: OpName, cause: Cause) -> Refusal
+    ensures { result ≡ refusal location op cause }
 {
     Refusal {
         file: 0,
-        place,
+        location,
         op,
         cause,
     }
@@ -208,7 +208,7 @@ fn refusal(place: Place, op: OpName, cause: Cause) -> Refusal
 
 // The cause for which a token is refused that no form has there.
 fn cause_of_first(token: Token) -> Cause
-    ensures { result ≡ cause_of_first (lexeme_of token.entry) }
+    ensures { result ≡ cause_of_first (text_token token.entry) }
 {
     if is_word(token, b"loc") {
         Cause::OutsideProfile
@@ -219,7 +219,7 @@ fn cause_of_first(token: Token) -> Cause
 
 /// Whether a token is this word.
 pub fn is_word(token: Token, word: &[u8]) -> bool
-    ensures { result ≡ is_word word.now (lexeme_of token.entry) }
+    ensures { result ≡ is_word word.now (text_token token.entry) }
 {
     is_kind(token.kind, TokenKind::BareName) && token.text == word
 }

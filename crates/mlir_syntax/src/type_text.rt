@@ -4,7 +4,7 @@ ghost use Rattle.std.specs.Prelude.{◌≡◌, ◌≤◌, length, map, drop, IfO
 ghost use Rattle.std.specs.Option.{option_map};
 ghost use Rattle.mlir_lexer.specs.Contents.{content_of};
 ghost use Rattle.hw_model.specs.TypeViews.{type_of, field_of};
-ghost use Rattle.mlir_lexer.specs.Tokens.{lexeme_of};
+ghost use Rattle.mlir_lexer.specs.Tokens.{text_token};
 ghost use Rattle.mlir_lexer.specs.declared.token.TokenKind.TheVariants as kind;
 ghost use Rattle.mlir_syntax.specs.Stream.{first};
 ghost use Rattle.mlir_syntax.specs.Reads.{some_items, items_until};
@@ -23,7 +23,7 @@ use mlir_lexer::classes::{Digit, run_of};
 use mlir_lexer::token::{Token, TokenKind, is_kind};
 use std::alloc::AllocError;
 
-/// How many types and lists may be open at a place.
+/// How many types and lists may be open at a location.
 pub const MOST_OPEN: u32 = 32;
 
 /// What a token begins a type as.
@@ -242,7 +242,7 @@ impl<'s> Reader<'s> {
 
 // What a token begins a type as.
 fn type_head<'s>(token: Token<'s>) -> TypeHead<'s>
-    ensures { head_of result ≡ type_head (Some (lexeme_of token.entry)) }
+    ensures { head_of result ≡ type_head (Some (text_token token.entry)) }
 {
     if is_kind(token.kind, TokenKind::BareName) {
         match width_digits(token.text) {
@@ -285,7 +285,7 @@ fn width_digits(name: &[u8]) -> Option<&[u8]>
 
 // What the token of the `x` of an array's length has after it.
 fn x_rest<'s>(token: Option<Token<'s>>) -> Option<&'s [u8]>
-    ensures { option_map (λ rest. rest.now) result ≡ x_rest (option_map lexeme_of token.entry) }
+    ensures { option_map (λ rest. rest.now) result ≡ x_rest (option_map text_token token.entry) }
 {
     match token {
         Some(token) if is_kind(token.kind, TokenKind::BareName) => after_x(token.text),
@@ -305,7 +305,7 @@ fn after_x(name: &[u8]) -> Option<&[u8]>
 
 // Whether a token is a bare name or a string.
 fn is_name(token: Token) -> bool
-    ensures { result ≡ is_name (lexeme_of token.entry) }
+    ensures { result ≡ is_name (text_token token.entry) }
 {
     is_kind(token.kind, TokenKind::BareName) || is_kind(token.kind, TokenKind::StringLiteral)
 }

@@ -1,10 +1,9 @@
 //! Words, strings and symbols in a text (CIRCT, Comb dialect: ICmpPredicate; MLIR language reference:
 //! "Identifiers and keywords").
-ghost use Rattle.std.specs.Prelude.{◌≡◌, ◌≤◌, length, cond, OnOk, Some};
+ghost use Rattle.std.specs.Prelude.{◌≡◌, ◌≤◌, length, cond, OnOk, Some, option_and_then};
 ghost use Rattle.std.specs.Option.{option_map};
-ghost use Rattle.wiring.specs.Options.{bind};
 ghost use Rattle.hw_model.specs.KindViews.{predicate_of};
-ghost use Rattle.mlir_lexer.specs.Tokens.{lexeme_of};
+ghost use Rattle.mlir_lexer.specs.Tokens.{text_token};
 ghost use Rattle.mlir_syntax.specs.Stream.{first, is_first, is_word, after};
 ghost use Rattle.mlir_syntax.specs.WordText.{predicate_named, predicate_text, truth_named, truth_text, string_text, symbol_text, bare_text, module_symbol, inner_symbol};
 ghost use Rattle.mlir_syntax.specs.Views.{ReadsAs};
@@ -51,7 +50,7 @@ impl<'s> Reader<'s> {
 
     // The predicate that the first token names.
     fn first_predicate(&self) -> Option<Predicate>
-        ensures { option_map predicate_of result ≡ bind (bare_text (first self.now)) predicate_named }
+        ensures { option_map predicate_of result ≡ option_and_then predicate_named (bare_text (first self.now)) }
     {
         match self.first() {
             Some(token) => predicate_at(token),
@@ -78,7 +77,7 @@ impl<'s> Reader<'s> {
 
     // The truth value that the first token names.
     fn first_truth(&self) -> Option<bool>
-        ensures { result ≡ bind (bare_text (first self.now)) truth_named }
+        ensures { result ≡ option_and_then truth_named (bare_text (first self.now)) }
     {
         match self.first() {
             Some(token) => truth_at(token),
@@ -151,7 +150,7 @@ impl<'s> Reader<'s> {
 
 // The predicate that a token names.
 fn predicate_at(token: Token) -> Option<Predicate>
-    ensures { option_map predicate_of result ≡ bind (bare_text (Some (lexeme_of token.entry))) predicate_named }
+    ensures { option_map predicate_of result ≡ option_and_then predicate_named (bare_text (Some (text_token token.entry))) }
 {
     if is_kind(token.kind, TokenKind::BareName) {
         predicate_named(token.text)
@@ -200,7 +199,7 @@ fn predicate_named(name: &[u8]) -> Option<Predicate>
 
 // The truth value that a token names.
 fn truth_at(token: Token) -> Option<bool>
-    ensures { result ≡ bind (bare_text (Some (lexeme_of token.entry))) truth_named }
+    ensures { result ≡ option_and_then truth_named (bare_text (Some (text_token token.entry))) }
 {
     if is_kind(token.kind, TokenKind::BareName) {
         truth_named(token.text)

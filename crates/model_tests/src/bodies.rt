@@ -4,7 +4,7 @@ use crate::body_changes::{Change, OPERANDS, ORDERS, Operand, Run};
 use crate::use_changes::USES;
 use Change::{DropAt, Erase, Insert, Put, Replace, Set};
 use Operand::{Port, Sum, Undefined};
-use diag::refusal::Place;
+use diag::refusal::Location;
 use hw_model::kinds::OpKind;
 use io_edge::byte_text::Text;
 use ir_store::body::Body;
@@ -41,7 +41,7 @@ fn operation(alloc: Global, operands: &[Value]) -> Result<NewOp, AllocError> {
         name: Text::new(alloc),
         dictionary: Dictionary::new(alloc),
         bin: false,
-        place: Place::start(),
+        location: Location::start(),
     })
 }
 

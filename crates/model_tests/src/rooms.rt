@@ -1,7 +1,7 @@
 //! Room that is reserved, ids by position, and modules by symbol.
 
 use crate::bodies::{erase, put};
-use diag::refusal::Place;
+use diag::refusal::Location;
 use io_edge::byte_text::Text;
 use ir_store::body::Body;
 use ir_store::design::{Design, Module, PortList};
@@ -80,7 +80,7 @@ fn bare(alloc: Global, symbol: &[u8]) -> Result<Module, AllocError> {
         },
         dictionary: Dictionary::new(alloc),
         body: Body::new(alloc),
-        place: Place::start(),
+        location: Location::start(),
     })
 }
 

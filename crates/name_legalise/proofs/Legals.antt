@@ -10,7 +10,7 @@ use Rattle.verilog_model.proofs.Numerals.{and_intro, and_first, and_second}
 use Rattle.fresh_names.specs.Fresh.{is_taken, with_suffix, free_name}
 use Rattle.fresh_names.proofs.Taken.{same_is, taken_more, taken_last, one_more}
 use Rattle.fresh_names.proofs.Free.{name_free, name_stays}
-use Rattle.fresh_names.proofs.Giving.{free_front}
+use Rattle.fresh_names.proofs.Giving.{free_prefix}
 use Rattle.name_legalise.specs.Legal.{clean, legal_name, legal_after}
 use Rattle.name_legalise.proofs.Members.{is_taken-append, contains_name-is_taken, free_second, free_both}
 use Rattle.name_legalise.proofs.Suffixes.{reserved_count, suffixed_unreserved, least_within}
@@ -79,7 +79,7 @@ legal_starts ts w small = starts_named (reserved_words ++ ts) w (omega (arith, l
 
 pub legal_unreserved : (ts : List Name) (w : Name) → length ts + 125 < 2 ^ 64 → contains_name (legal_name ts w) reserved_words ≡ false
 legal_unreserved ts w small =
-    contains_name-is_taken (legal_name ts w) reserved_words ∙ free_front reserved_words ts (legal_name ts w) (legal_free ts w small)
+    contains_name-is_taken (legal_name ts w) reserved_words ∙ free_prefix reserved_words ts (legal_name ts w) (legal_free ts w small)
 
 pub legal_identifier : (ts : List Name) (w : Name) → length ts + 125 < 2 ^ 64 → IsTrue (is_identifier (legal_name ts w))
 legal_identifier ts w small =

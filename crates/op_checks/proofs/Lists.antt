@@ -1,6 +1,6 @@
 -- Lists of types, of fields and of constants.
 use Rattle.std.proofs.Common.{◌≡◌, ℕ, zero, suc, Bool, true, false, ◌||◌, List, [], ◌∷◌, map, length, refl, ap, sym, ◌∙◌, ◌==◌, arith, ◌⊎◌, inl, inr, ◌<◌, ◌≤◌, get_or}
-use Rattle.std.specs.Prelude.{Option, Some, None, slice_get}
+use Rattle.std.specs.Prelude.{not, Option, Some, None, slice_get}
 use Rattle.std.proofs.lemmas.Bool.Decides.{nat_tests}
 use Rattle.hw_model.specs.Types.{HwType}
 use Rattle.hw_model.specs.Types.FieldTypes.{no_fields}
@@ -12,6 +12,7 @@ use Rattle.hw_model.specs.TypeViews.{NamedType, type_of, fields_of}
 use Rattle.hw_model.specs.KindViews.{literals_of}
 use Rattle.ir_store.specs.ResultTypes.{first_type}
 use Rattle.ir_store.specs.OperationViews.{types_in, result_of}
+use Rattle.ir_store.specs.SettledTypes.{is_settled_as}
 use Rattle.ir_store.specs.ShortLists.{short_items}
 use Rattle.ir_store.specs.declared.operation.NewResult.{NewResult}
 use Rattle.hw_model.specs.declared.types.Ty.{Ty}
@@ -34,6 +35,14 @@ or_false false = refl
 pub one_differs : (rs : List HwType) (x : Option HwType) → differ (known_types rs) (x ∷ []) ≡ differs (first_type rs) x
 one_differs [] x = refl
 one_differs (r ∷ rs) x = rw (none_differ (known_types rs)) (or_false (differs (Some r) x))
+
+-- a type is another one than the settled one
+pub settled_otherwise : (t : HwType) (x y : Option HwType) (r : Bool) → r ≡ is_settled_as t x true → x ≡ y → not r ≡ differs (Some t) y
+settled_otherwise t x y r is same = ap not (is ∙ ap (λ z. is_settled_as t z true) same) ∙ otherwise y
+  where
+    otherwise : (z : Option HwType) → not (is_settled_as t z true) ≡ differs (Some t) z
+    otherwise None = refl
+    otherwise (Some u) = refl
 
 pub first_seen : {A : Type 0} (view : A → HwType) (xs : List A) (x : A) → Some x ≡ slice_get xs 0 → first_type (map view xs) ≡ Some (view x)
 first_seen view [] x h = cc

@@ -10,7 +10,8 @@ use Rattle.ir_store.specs.ResultTypes.{result_types, result_count}
 use Rattle.op_checks.specs.TypeChecks.{is_outside, has_bad_field, has_clock_part, is_clock}
 use Rattle.op_checks.specs.TypeLists.{known_types, differ}
 use Rattle.op_checks.specs.OperandChecks.{has_other_form, has_other_operand, has_other_result, has_mismatch}
-use Rattle.op_checks.specs.LimitChecks.{has_outside_leaf, has_outside_array, has_type_outside, has_constant_outside, has_extract_outside, has_broken_copy, has_wide_concat, has_unknown_divisor, has_wrong_index, has_unknown_field, has_wrong_field, has_unequal_widths, value_types, has_clock_operand, has_clock_value}
+use Rattle.op_checks.specs.LimitChecks.{has_outside_leaf, has_outside_array, has_type_outside, has_constant_outside, has_extract_outside, has_broken_copy, has_wide_concat, has_unknown_divisor}
+use Rattle.op_checks.specs.LimitChecks.{has_wrong_index, has_unknown_field, has_wrong_field, has_unequal_widths, value_types, has_clock_operand, has_clock_value}
 use Rattle.op_checks.specs.CountChecks.{operand_count, type_count, has_wrong_operands, has_wrong_results, has_miscounted_parts, has_wrong_count}
 use Rattle.op_checks.specs.OwnChecks.{cause_if, own_cause}
 use Rattle.op_checks.proofs.Widths.{neither}

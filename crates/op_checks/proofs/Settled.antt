@@ -7,10 +7,11 @@ use Rattle.hw_model.specs.Types.HwType.{int, clock, array, struct}
 use Rattle.hw_model.specs.Kinds.{Kind}
 use Rattle.hw_model.specs.Kinds.ArrayOp.{array_create, array_concat, array_get, array_slice, array_inject}
 use Rattle.hw_model.specs.Kinds.StructOp.{struct_create, struct_extract, struct_inject, struct_explode}
-use Rattle.hw_model.specs.Kinds.Kind.{variadic, sub, division, shift, icmp, parity, extract, concat, replicate, mux, constant, aggregate_constant, on_array, on_struct, bitcast, wire, instance, output, register, async_firreg}
+use Rattle.hw_model.specs.Kinds.Kind.{variadic, sub, division, shift, extract, concat, replicate, mux, constant, aggregate_constant, on_array, on_struct, bitcast, wire, instance, output, register, async_firreg}
 use Rattle.hw_model.specs.Sound.{field_list}
 use Rattle.hw_model.specs.SameType.{same_type}
-use Rattle.ir_store.specs.ResultTypes.{first_type, second_type, with_width, joined_width, elements_in, sum_of, length_joined, joined_length, kept_size, as_int, as_array, array_of, element_of, field_of, fields_of, field_count, result_type, result_types, result_count}
+use Rattle.ir_store.specs.ResultTypes.{first_type, second_type, with_width, joined_width, elements_in, sum_of, length_joined, joined_length, kept_size, as_int, as_array, array_of, element_of}
+use Rattle.ir_store.specs.ResultTypes.{field_of, fields_of, field_count, result_type, result_types, result_count}
 use Rattle.op_checks.specs.TypeChecks.{is_int}
 use Rattle.op_checks.specs.TypeLists.{known_types, is_no_int, is_no_array, differ}
 use Rattle.op_checks.specs.OperandChecks.{is_no_array_of, has_other_array, has_other_form}
@@ -118,8 +119,6 @@ settles_all (extract low) ts n form field operands types = by_second ts types
 settles_all replicate ts n form field operands types = by_second ts types
 settles_all (on_array array_slice) ts n form field operands types = by_second ts types
 settles_all bitcast ts n form field operands types = by_second ts types
-settles_all (icmp p) ts n form field operands types = one (Some (int 1)) (int 1) refl
-settles_all parity ts n form field operands types = one (Some (int 1)) (int 1) refl
 settles_all concat ts n form field operands types =
     let w = width_known ts form in one (as_int (joined_width ts)) (int (kept_size w.0)) (ap as_int w.1)
 settles_all (on_array array_create) ts n form field operands types =
@@ -136,6 +135,7 @@ settles_all (on_struct struct_explode) ts n form field operands types = fields_k
 settles_all (instance i) ts n form field operands types =
     record { us = drop (length i.inputs) ts; same = refl; number = length-drop (length i.inputs) ts }
 settles_all output ts n form field operands types = record { us = []; same = refl; number = refl }
+settles_all _ ts n form field operands types = one (Some (int 1)) (int 1) refl
 
 -- an operation without a cause of its own has results of the types that it settles
 pub settles : {named n : ℕ} {xs : List (Option HwType)} {is_known : Bool} (kind : Kind) (ts rs : List HwType) → NoOwnCause kind ts rs named n xs is_known

@@ -8,7 +8,7 @@ use Rattle.hw_model.specs.Types.{Name}
 use Rattle.hw_model.specs.Types.HwType.{int}
 use Rattle.hw_model.specs.Kinds.{Instance}
 use Rattle.hw_model.specs.Kinds.Kind.{constant}
-use Rattle.hw_model.specs.Design.{Op, Module, Design, op_without_place, module_without_places, without_places, IsSameDesign, find_module, instance_in}
+use Rattle.hw_model.specs.Design.{Op, Module, Design, op_without_location, module_without_locations, without_locations, IsSameDesign, find_module, instance_in}
 use Rattle.hw_model.specs.Design.Ref.{result}
 use Rattle.hw_model.specs.Flat.{Net, net}
 use Rattle.hw_model.specs.Hierarchy.{HasNoRecursion}
@@ -27,8 +27,8 @@ use Rattle.op_verifier.specs.Verdict.{IsInRange, OpAt, NoOp, NoModule, IsRecursi
 use Rattle.op_verifier.proofs.Distinct.{distinct_symbols}
 use Rattle.op_verifier.proofs.InputResets.{resets_from_ports}
 use Rattle.op_verifier.proofs.NoCauseAlone.{no_cause_alone}
-use Rattle.op_verifier.proofs.Placeless.{calls_placeless, weight_placeless, needs_placeless}
-use Rattle.op_verifier.proofs.PlacelessFaults.{fault_placeless}
+use Rattle.op_verifier.proofs.Unlocated.{calls_unlocated, weight_unlocated, needs_unlocated}
+use Rattle.op_verifier.proofs.UnlocatedFaults.{fault_unlocated}
 use Rattle.op_verifier.proofs.Unrefused.{no_op_cause, ops_unrefused, module_unrefused}
 use Rattle.op_verifier.proofs.WholeDesigns.{unmapped, recursive_forms, cyclic_forms}
 
@@ -68,30 +68,30 @@ module _ (d : Design) (accepted : IsAccepted d) where
 
 -- what holds of no operation of a design holds of none without places, and back
 module _ (d : Design) (P Q : Module → ℕ → Op → Type 0) where
-  no_op_to : ((m : Module) (j : ℕ) (o : Op) → Q (module_without_places m) j (op_without_place o) → P m j o) → NoOp d P → NoOp (without_places d) Q
+  no_op_to : ((m : Module) (j : ℕ) (o : Op) → Q (module_without_locations m) j (op_without_location o) → P m j o) → NoOp d P → NoOp (without_locations d) Q
   no_op_to back none n j m' o' at holds =
-      let m = unmapped module_without_places d n m' at.module_there in
-      let there : slice_get (map op_without_place m.0.body) j ≡ Some o' = ap (λ (x : Module). slice_get x.body j) m.2 ∙ at.op_there in
-      let o = unmapped op_without_place m.0.body j o' there in
+      let m = unmapped module_without_locations d n m' at.module_there in
+      let there : slice_get (map op_without_location m.0.body) j ≡ Some o' = ap (λ (x : Module). slice_get x.body j) m.2 ∙ at.op_there in
+      let o = unmapped op_without_location m.0.body j o' there in
       none n j m.0 o.0 (record { module_there = m.1; op_there = o.1 })
-      (back m.0 j o.0 (subst (λ (x : Module). Q x j (op_without_place o.0)) (sym m.2) (subst (Q m' j) (sym o.2) holds)))
+      (back m.0 j o.0 (subst (λ (x : Module). Q x j (op_without_location o.0)) (sym m.2) (subst (Q m' j) (sym o.2) holds)))
 
-  no_op_from : ((m : Module) (j : ℕ) (o : Op) → P m j o → Q (module_without_places m) j (op_without_place o)) → NoOp (without_places d) Q → NoOp d P
+  no_op_from : ((m : Module) (j : ℕ) (o : Op) → P m j o → Q (module_without_locations m) j (op_without_location o)) → NoOp (without_locations d) Q → NoOp d P
   no_op_from forth none n j m o at holds =
-      none n j (module_without_places m) (op_without_place o)
+      none n j (module_without_locations m) (op_without_location o)
       (record {
-        module_there = slice_get-map module_without_places d n ∙ ap (option_map module_without_places) at.module_there;
-        op_there = slice_get-map op_without_place m.body j ∙ ap (option_map op_without_place) at.op_there;
+        module_there = slice_get-map module_without_locations d n ∙ ap (option_map module_without_locations) at.module_there;
+        op_there = slice_get-map op_without_location m.body j ∙ ap (option_map op_without_location) at.op_there;
       }) (forth m j o holds)
 
 module _ (d : Design) (P Q : Module → Type 0) where
-  no_module_to : ((m : Module) → Q (module_without_places m) → P m) → NoModule d P → NoModule (without_places d) Q
+  no_module_to : ((m : Module) → Q (module_without_locations m) → P m) → NoModule d P → NoModule (without_locations d) Q
   no_module_to back none n m' at holds =
-      let m = unmapped module_without_places d n m' at in
+      let m = unmapped module_without_locations d n m' at in
       none n m.0 m.1 (back m.0 (subst Q (sym m.2) holds))
 
-  no_module_from : ((m : Module) → P m → Q (module_without_places m)) → NoModule (without_places d) Q → NoModule d P
-  no_module_from forth none n m at holds = none n (module_without_places m) (slice_get-map module_without_places d n ∙ ap (option_map module_without_places) at) (forth m holds)
+  no_module_from : ((m : Module) → P m → Q (module_without_locations m)) → NoModule (without_locations d) Q → NoModule d P
+  no_module_from forth none n m at holds = none n (module_without_locations m) (slice_get-map module_without_locations d n ∙ ap (option_map module_without_locations) at) (forth m holds)
 
 -- an instance on a cycle, an operation on a cycle, by what calls and needs what
 abbrev returns_by : (Name → List Name) → Module → Op → Type 0
@@ -100,20 +100,20 @@ returns_by f m o = (i : Instance) × (instance_in o.kind ≡ Some i) × ((i.symb
 abbrev around_by : (Net → List Net) → ℕ → Type 0
 around_by f j = (k : ℕ) × IsReached f (net [] (result j k)) (net [] (result j k))
 
-pub accepted_without : (d : Design) → IsAccepted d → IsAccepted (without_places d)
+pub accepted_without : (d : Design) → IsAccepted d → IsAccepted (without_locations d)
 accepted_without d a = record {
-  unrefused = fault_placeless d ∙ a.unrefused;
-  no_recursion = no_op_to d (IsRecursive d) (IsRecursive (without_places d)) (λ m j o h. subst (λ f. returns_by f m o) (calls_placeless d) h) a.no_recursion;
-  light = no_module_to d (IsTooLarge d) (IsTooLarge (without_places d)) (λ m h. subst (λ n. 2 ^ 28 < n) (weight_placeless d m.symbol) h) a.light;
-  no_cycle = no_op_to d (IsOnCycle d) (IsOnCycle (without_places d)) (λ m j o h. subst (λ f. around_by f j) (needs_placeless d m.symbol) h) a.no_cycle;
+  unrefused = fault_unlocated d ∙ a.unrefused;
+  no_recursion = no_op_to d (IsRecursive d) (IsRecursive (without_locations d)) (λ m j o h. subst (λ f. returns_by f m o) (calls_unlocated d) h) a.no_recursion;
+  light = no_module_to d (IsTooLarge d) (IsTooLarge (without_locations d)) (λ m h. subst (λ n. 2 ^ 28 < n) (weight_unlocated d m.symbol) h) a.light;
+  no_cycle = no_op_to d (IsOnCycle d) (IsOnCycle (without_locations d)) (λ m j o h. subst (λ f. around_by f j) (needs_unlocated d m.symbol) h) a.no_cycle;
 }
 
-pub accepted_with : (d : Design) → IsAccepted (without_places d) → IsAccepted d
+pub accepted_with : (d : Design) → IsAccepted (without_locations d) → IsAccepted d
 accepted_with d a = record {
-  unrefused = sym (fault_placeless d) ∙ a.unrefused;
-  no_recursion = no_op_from d (IsRecursive d) (IsRecursive (without_places d)) (λ m j o h. subst (λ f. returns_by f m o) (sym (calls_placeless d)) h) a.no_recursion;
-  light = no_module_from d (IsTooLarge d) (IsTooLarge (without_places d)) (λ m h. subst (λ n. 2 ^ 28 < n) (sym (weight_placeless d m.symbol)) h) a.light;
-  no_cycle = no_op_from d (IsOnCycle d) (IsOnCycle (without_places d)) (λ m j o h. subst (λ f. around_by f j) (sym (needs_placeless d m.symbol)) h) a.no_cycle;
+  unrefused = sym (fault_unlocated d) ∙ a.unrefused;
+  no_recursion = no_op_from d (IsRecursive d) (IsRecursive (without_locations d)) (λ m j o h. subst (λ f. returns_by f m o) (sym (calls_unlocated d)) h) a.no_recursion;
+  light = no_module_from d (IsTooLarge d) (IsTooLarge (without_locations d)) (λ m h. subst (λ n. 2 ^ 28 < n) (sym (weight_unlocated d m.symbol)) h) a.light;
+  no_cycle = no_op_from d (IsOnCycle d) (IsOnCycle (without_locations d)) (λ m j o h. subst (λ f. around_by f j) (sym (needs_unlocated d m.symbol)) h) a.no_cycle;
 }
 
 -- places decide nothing

@@ -4,7 +4,7 @@ use Rattle.std.proofs.lemmas.List.{map_push}
 use Rattle.hw_model.specs.Types.{HwType}
 use Rattle.ir_store.specs.declared.operation.OpId.{OpId}
 use Rattle.ir_store.specs.BodyOps.{BodyOp, op_at}
-use Rattle.ir_store.proofs.Walks.{in_front, ops_at}
+use Rattle.ir_store.proofs.Walks.{in_prefix, ops_at}
 use Rattle.op_verifier.specs.declared.entries.Entry.{Entry}
 use Rattle.op_verifier.specs.Entries.{op_in, types_beside, settled_for}
 
@@ -17,7 +17,7 @@ walk_step ops olds news e i before left o pushed is found steps so_far =
     ∙ ap (λ (os : List BodyOp). os ++ ops_at ops left) (map_push op_in olds e)
     ∙ append_assoc (map op_in olds) (op_in e ∷ []) (ops_at ops left)
     ∙ ap (λ (p : BodyOp). map op_in olds ++ p ∷ ops_at ops left) is
-    ∙ ap (λ (r : Option BodyOp). map op_in olds ++ in_front r (ops_at ops left)) (sym found)
+    ∙ ap (λ (r : Option BodyOp). map op_in olds ++ in_prefix r (ops_at ops left)) (sym found)
     ∙ ap (λ (is : List OpId). map op_in olds ++ ops_at ops is) (sym steps)
     ∙ so_far
 

@@ -4,7 +4,6 @@ use Prim.Native.Nat.compare
 use Rattle.std.proofs.lemmas.Bool.{lt-ltb}
 use Rattle.std.proofs.lemmas.Option.{slice_get-map}
 use Rattle.std.proofs.lemmas.List.{length-map}
-use Rattle.wiring.specs.Options.{omap}
 use Rattle.hw_model.specs.KindViews.{kind_of}
 use Rattle.hw_model.specs.Design.{Port, OpResult}
 use Rattle.hw_model.specs.Design.Ref.{result}
@@ -36,7 +35,7 @@ op_there p es i o found = slice_get-map (op_by p) (map op_in es) i ∙ ap (optio
 less_suc : (m n : ℕ) → nat_lt (suc m) (suc n) ≡ nat_lt m n
 less_suc m n = rw (compare.suc-suc (suc m) n) refl
 
-pub some_below : {A B C : Type 0} (f : B → C) (g : A → B) (xs : List A) (k : ℕ) → is_some (omap f (slice_get (map g xs) k)) ≡ nat_lt k (length xs)
+pub some_below : {A B C : Type 0} (f : B → C) (g : A → B) (xs : List A) (k : ℕ) → is_some (option_map f (slice_get (map g xs) k)) ≡ nat_lt k (length xs)
 some_below f g [] zero = refl
 some_below f g [] (suc k) = rw (compare.suc-zero (suc k)) refl
 some_below f g (x ∷ xs) zero = sym (lt-ltb 0 (suc (length xs)) (omega arith))

@@ -1,12 +1,11 @@
 -- In a design of which nothing is refused asynchronous resets come from input ports, and reset to constants.
-use Rattle.std.proofs.Common.{◌≡◌, ℕ, zero, suc, ◌<◌, nat_eq, Bool, true, false, cond, ◌&&◌, is_some, List, [], ◌∷◌, map, length, take, slice_get, Option, Some, None, refl, sym, ap, ap₂, ◌∙◌, arith, eqb-true}
+use Rattle.std.proofs.Common.{◌≡◌, ℕ, zero, suc, ◌<◌, nat_eq, Bool, true, false, cond, ◌&&◌, is_some, List, [], ◌∷◌, map, length, take, slice_get, Option, Some, None, refl, sym, ap, ap₂, ◌∙◌, arith, eqb-true, option_map}
 use Rattle.std.proofs.lemmas.Bool.{eqb-false, not-false}
 use Rattle.std.proofs.lemmas.Option.{slice_get_within}
-use Rattle.wiring.specs.Options.{omap}
 use Rattle.wiring.specs.Wiring.{In}
 use Rattle.wiring.proofs.Lists.{slice_get_some}
 use Rattle.wiring.proofs.Members.{position_of_In}
-use Rattle.wiring.proofs.Options.{bind_some}
+use Rattle.wiring.proofs.Options.{and_then_some}
 use Rattle.hw_model.specs.Types.{Name, HwType}
 use Rattle.hw_model.specs.Types.HwType.{int}
 use Rattle.hw_model.specs.Kinds.{Kind, Instance}
@@ -170,7 +169,7 @@ module _ (d : Design) (no_fault : first_fault d ≡ None) (s : Name) (m : Module
       let count : length o.results ≡ 1 = result_number m.ports m.body o (no_cause_alone m.ports m.body o u.no_cause.alone) ∙ one_result o.kind o.types o.operands r is in
       let first = slice_get_some o.results 0 (omega (arith, count)) in
       reset_typed (type_in m.ports m.body) o.kind o.types o.operands first.0.type r is
-      (sound.ops u.position o u.there 0 first.0.type (ap (omap (λ (x : OpResult). x.type)) first.1))
+      (sound.ops u.position o u.there 0 first.0.type (ap (option_map (λ (x : OpResult). x.type)) first.1))
 
   signals : (o : Op) (r : ResetBy) → In o m.body → async_reset_in o ≡ Some r → IsMarkedInput (is_reset_port d) m r.signal
   signals o r within is =
@@ -185,7 +184,7 @@ module _ (d : Design) (no_fault : first_fault d ≡ None) (s : Name) (m : Module
       → (q : Ref) × (port_ref c.ports o.operands given.number ≡ Some q) × IsMarkedInput (is_reset_port d) m q
   joined o c r within called given =
       let u = unrefused o within in
-      let inst = bind_some (instance_in o.kind) (λ (i : Instance). find_module d i.symbol) called in
+      let inst = and_then_some (instance_in o.kind) (λ (i : Instance). find_module d i.symbol) called in
       let fits = sound.instances u.position o u.there inst.0 inst.1 in
       let same : fits.0 ≡ c = some_from (sym fits.1 ∙ inst.2) in
       let types : map (type_in m.ports m.body) o.operands ≡ map (λ (t : HwType). Some t) (input_types c.ports) =

@@ -7,8 +7,8 @@ pub mod Found
 pub mod InputResets
 pub mod Names
 pub mod NoFaults
-pub mod Placeless
-pub mod PlacelessFaults
+pub mod Unlocated
+pub mod UnlocatedFaults
 pub mod Positions
 pub mod ResetJoins
 pub mod SoundDesigns

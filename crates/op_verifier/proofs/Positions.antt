@@ -8,9 +8,9 @@ use Rattle.op_verifier.specs.declared.entries.Entry.{Entry}
 use Rattle.op_verifier.specs.Entries.{op_in}
 
 -- the id at the place before stands before those from the place on
-at_front : (ids : List ℕ) (i id q position : ℕ) → i < length ids → id ≡ get_or ids i 0 → position ≡ suc i + position_of (drop (suc i) ids) q
+at_prefix : (ids : List ℕ) (i id q position : ℕ) → i < length ids → id ≡ get_or ids i 0 → position ≡ suc i + position_of (drop (suc i) ids) q
     → cond (nat_eq id q) i position ≡ i + position_of (drop i ids) q
-at_front ids i id q position less is before = rw (drop-cons ids i 0 less, sym is) (go (nat_eq id q))
+at_prefix ids i id q position less is before = rw (drop-cons ids i 0 less, sym is) (go (nat_eq id q))
   where
     go : (b : Bool) → cond b i position ≡ i + cond b 0 (suc (position_of (drop (suc i) ids) q))
     go true = omega arith
@@ -22,7 +22,7 @@ pub noted_before : (ids : List ℕ) (place id q position : ℕ) → 0 < place �
 noted_before ids zero id q position some within is before = absurd (omega (arith, some))
 noted_before ids (suc i) id q position some within is before =
     let e : suc i - 1 ≡ i = omega arith in
-    rw e (at_front ids i id q position (omega (arith, within)) (is ∙ ap (λ (m : ℕ). get_or ids m 0) e) before)
+    rw e (at_prefix ids i id q position (omega (arith, within)) (is ∙ ap (λ (m : ℕ). get_or ids m 0) e) before)
 
 -- how many ids there are
 pub count_ids : (es : List Entry) → length (ids_in (map op_in es)) ≡ length es

@@ -1,8 +1,7 @@
 -- A design of which nothing is refused is sound.
-use Rattle.std.proofs.Common.{◌≡◌, ℕ, zero, suc, Bool, true, false, cond, not, ◌&&◌, is_some, List, [], ◌∷◌, map, take, drop, length, slice_get, slice_index_or, Option, Some, None, refl, sym, ap, ◌∙◌, subst}
+use Rattle.std.proofs.Common.{◌≡◌, ℕ, zero, suc, Bool, true, false, cond, not, ◌&&◌, is_some, List, [], ◌∷◌, map, take, drop, length, slice_get, slice_index_or, Option, Some, None, refl, sym, ap, ◌∙◌, subst, option_and_then}
 use Rattle.std.specs.Cmp.Lexicographic.{pointwise}
 use Rattle.std.proofs.lemmas.Option.{slice_get-map}
-use Rattle.wiring.specs.Options.{bind}
 use Rattle.diag.specs.declared.cause.Cause.TheVariants.{InstancePorts}
 use Rattle.hw_model.specs.Types.{HwType}
 use Rattle.hw_model.specs.Kinds.{Kind, Instance}
@@ -66,7 +65,7 @@ same_type_in d ports os all undefined = refl
 same_type_in d ports os all (result j k) = go (slice_get os j) refl
   where
     go : (x : Option Op) → slice_get os j ≡ x
-        → bind x (λ (o : Op). slice_index_or (settled_by o) k None) ≡ bind x (λ (o : Op). result_type o k)
+        → option_and_then (λ (o : Op). slice_index_or (settled_by o) k None) x ≡ option_and_then (λ (o : Op). result_type o k) x
     go None e = refl
     go (Some o) e =
         ap (λ (ts : List (Option HwType)). slice_index_or ts k None) (settled_results d ports os o (all j o e))

@@ -25,8 +25,8 @@ Explains d NoMemory = Unit {0}
 
 -- the refusal of the header of a module, of an operation
 abbrev pub IsRefusedModule : List StoredModule → ℕ → Cause → Refusal → Type 0
-IsRefusedModule modules n cause r = (m : StoredModule) → slice_get modules n ≡ Some m → r ≡ refused_at m.place listed.HwModule cause
+IsRefusedModule modules n cause r = (m : StoredModule) → slice_get modules n ≡ Some m → r ≡ refused_at m.location listed.HwModule cause
 
 abbrev pub IsRefusedOp : List StoredModule → OpPlace → Cause → Refusal → Type 0
 IsRefusedOp modules place cause r = (m : StoredModule) (o : BodyOp) → slice_get modules place.module ≡ Some m → op_at m.ops place.op.index ≡ Some o
-    → r ≡ refused_at o.parts.place (opcode_of o.parts.kind) cause
+    → r ≡ refused_at o.parts.location (opcode_of o.parts.kind) cause

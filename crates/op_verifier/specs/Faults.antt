@@ -7,21 +7,21 @@ use Rattle.opcode.specs.declared.listed.Listed.TheVariants as listed
 use Rattle.diag.specs.declared.refusal.OpName.TheVariants as name
 use Rattle.diag.specs.declared.refusal.Refusal.{Refusal}
 use Rattle.hw_model.specs.Opcodes.{opcode_of}
-use Rattle.hw_model.specs.Design.{Place, Port, Op, Module, Design}
+use Rattle.hw_model.specs.Design.{Location, Port, Op, Module, Design}
 use Rattle.op_verifier.specs.Answers.{or_else}
 use Rattle.op_verifier.specs.OpChecks.{op_cause}
 use Rattle.op_verifier.specs.Headers.{header_cause}
 
 -- a refusal of the design's text
-abbrev pub refused_at : Place → Listed → Cause → Refusal
-refused_at p l cause = record { file = 0; place = record { line = p.line; col = p.col }; op = name.Listed l; cause = cause }
+abbrev pub refused_at : Location → Listed → Cause → Refusal
+refused_at p l cause = record { file = 0; location = record { line = p.line; col = p.col }; op = name.Listed l; cause = cause }
 
 -- the refusal of a module's header, of an operation
 abbrev pub header_refusal : Module → Cause → Refusal
-header_refusal m cause = refused_at m.place listed.HwModule cause
+header_refusal m cause = refused_at m.location listed.HwModule cause
 
 abbrev pub op_refusal : Op → Cause → Refusal
-op_refusal o cause = refused_at o.place (opcode_of o.kind) cause
+op_refusal o cause = refused_at o.location (opcode_of o.kind) cause
 
 abbrev pub is_empty : List Op → Bool
 is_empty [] = true

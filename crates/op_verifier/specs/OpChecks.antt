@@ -1,8 +1,7 @@
 -- Why an operation of a module's body is refused, by itself and by what stands around it (CIRCT: HW dialect, `hw.output`
 -- and `hw.instance`; MLIR language reference: SSA values in graph regions).
-use Rattle.std.specs.Prelude.{ℤ, pos, negsuc, Bool, true, false, cond, not, ◌&&◌, nat_eq, List, [], ◌∷◌, map, length, Option, Some, None, is_some, slice_get, slice_index_or}
+use Rattle.std.specs.Prelude.{ℤ, pos, negsuc, Bool, true, false, cond, not, ◌&&◌, nat_eq, List, [], ◌∷◌, map, length, Option, Some, None, is_some, slice_get, slice_index_or, option_and_then}
 use Rattle.std.specs.Cmp.Lexicographic.{pointwise}
-use Rattle.wiring.specs.Options.{bind}
 use Rattle.diag.specs.declared.cause.Cause.{Cause}
 use Rattle.diag.specs.declared.cause.Cause.TheVariants.{Redefined, Undefined, OutputMismatch, MissingOutput}
 use Rattle.hw_model.specs.Types.{HwType}
@@ -37,7 +36,7 @@ settled_by o = result_types o.kind o.types (length o.operands)
 -- the type of a value that its own operation settles: only that is compared with what its users ask
 abbrev pub settled_type : List Port → List Op → Ref → Option HwType
 settled_type ports os (port j) = input_type (slice_get ports j)
-settled_type ports os (result j k) = bind (slice_get os j) (λ (o : Op). slice_index_or (settled_by o) k None)
+settled_type ports os (result j k) = option_and_then (λ (o : Op). slice_index_or (settled_by o) k None) (slice_get os j)
 settled_type ports os undefined = None
 
 -- ---- divisors

@@ -1,8 +1,8 @@
 //! Designs of which nothing is refused, in canonical form.
 ghost use Rattle.std.proofs.Props.{props};
 ghost use Rattle.ir_store.specs.Designs.{design_of};
-ghost use Rattle.canonical_form.specs.Canonical.{IsCanonical};
-ghost use Rattle.canonical_form.proofs.OneProof.{canonical_prop};
+ghost use Rattle.stored_form.specs.Canonical.{IsCanonical};
+ghost use Rattle.stored_form.proofs.OneProof.{canonical_prop};
 ghost use Rattle.op_verifier.specs.Verdict.{IsAccepted};
 
 use ir_store::design::Design;

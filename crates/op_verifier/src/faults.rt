@@ -2,7 +2,7 @@
 ghost use Rattle.std.specs.Prelude.{◌≡◌, IfOk};
 ghost use Rattle.ir_store.specs.Bodies.{ops_of};
 ghost use Rattle.ir_store.specs.Designs.{design_of, module_of, numbered_module};
-ghost use Rattle.ir_store.specs.OperationViews.{place_of};
+ghost use Rattle.ir_store.specs.OperationViews.{location_of};
 ghost use Rattle.port_checks.specs.Marked.{AreResetPorts};
 ghost use Rattle.op_verifier.specs.Entries.{AreSettled};
 ghost use Rattle.op_verifier.specs.BodyViews.{ops_viewed, ports_viewed, body_viewed};
@@ -11,7 +11,7 @@ ghost use Rattle.op_verifier.specs.Faults.{refused_at, body_fault, module_fault,
 use crate::body_view::BodyView;
 use crate::headers::{names_cause, ports_cause};
 use diag::cause::Cause;
-use diag::refusal::{OpName, Place, Refusal};
+use diag::refusal::{Location, OpName, Refusal};
 use ir_store::design::{Design, Module};
 use opcode::listed::Listed;
 use port_checks::ResetPorts;
@@ -51,11 +51,11 @@ fn module_fault(
     ensures { IfOk result (λ fault. fault ≡ module_fault (design_of design.now) number (numbered_module (module_of «module».now))) }
 {
     if let Some(cause) = ports_cause(view.ports) {
-        return Ok(Some(refused_at(module.place, Listed::HwModule, cause)));
+        return Ok(Some(refused_at(module.location, Listed::HwModule, cause)));
     }
     let symbol = module.symbol.as_bytes();
     if let Some(cause) = names_cause(alloc, design, number, symbol, view)? {
-        return Ok(Some(refused_at(module.place, Listed::HwModule, cause)));
+        return Ok(Some(refused_at(module.location, Listed::HwModule, cause)));
     }
     body_fault(alloc, design, resets, view)
 }
@@ -76,7 +76,7 @@ fn body_fault(
         match view.op_cause(alloc, design, resets, entry, place + 1 == count)? {
             Some(cause) => {
                 let name = entry.op.kind.listed();
-                return Ok(Some(refused_at(entry.op.place, name, cause)));
+                return Ok(Some(refused_at(entry.op.location, name, cause)));
             }
             None => {}
         }
@@ -85,12 +85,12 @@ fn body_fault(
 }
 
 /// A refusal of the design's text.
-pub fn refused_at(place: Place, listed: Listed, cause: Cause) -> Refusal
-    ensures { result ≡ refused_at (place_of place) listed cause }
+pub fn refused_at(location: Location, listed: Listed, cause: Cause) -> Refusal
+    ensures { result ≡ refused_at (location_of location) listed cause }
 {
     Refusal {
         file: 0,
-        place,
+        location,
         op: OpName::Listed(listed),
         cause,
     }

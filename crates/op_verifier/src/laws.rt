@@ -50,6 +50,6 @@ pub fn resets_come_from_ports()
 {}
 
 /// Does nothing. Its clause says that a design that differs from an accepted one in nothing but places is accepted.
-pub fn places_decide_no_verdict()
+pub fn locations_decide_no_verdict()
     ensures { (d e : Design) → IsSameDesign d e → IsAccepted d → IsAccepted e }
 {}

@@ -17,7 +17,7 @@ mod verify_fail;
 pub use accepted::Verified;
 pub use faults::{first_fault, refused_at};
 pub use laws::{
-    accepted_designs_are_sound, places_decide_no_verdict, resets_come_from_ports,
+    accepted_designs_are_sound, locations_decide_no_verdict, resets_come_from_ports,
     results_are_settled, unrefused_designs_are_sound,
 };
 pub use verdicts::verify;

@@ -7,11 +7,12 @@ ghost use Rattle.hw_model.specs.KindViews.{kind_of};
 ghost use Rattle.ir_store.specs.ResultTypes.{result_type, result_types};
 ghost use Rattle.op_checks.specs.TypeLists.{known_types};
 
-use hw_model::families::{ArrayOp, Family, StructOp};
+use hw_model::families::{Family, StructOp};
 use hw_model::types::Ty;
 use ir_store::body::Op;
 use ir_store::operation::NewResult;
-use ir_store::result_types::{element_of, field_of, joined_length, joined_width, result_types};
+use ir_store::result_types::result_types;
+use ir_store::settled_type::SettledType;
 use op_checks::result_checks::single_differs;
 use std::alloc::{AllocError, Global};
 
@@ -93,23 +94,9 @@ fn is_own(family: Family<'_>, types: &[Ty], results: &[NewResult], operands: usi
             && !single_differs(family, types, results, operands))
 }
 
-/// Whether the type of the result of an operation that has one is settled. How many operands there are does not decide it:
-/// `operands` is named by the clause alone, whose definition gives an array of so many elements its type.
-#[tactic(auto, unfolding(ir_store::specs::ResultTypes::result_type))]
+/// Whether the type of the result of an operation that has one is settled.
 fn is_settled(family: Family<'_>, types: &[Ty], operands: usize) -> bool
     ensures { result ≡ is_some (result_type (family_of family.entry) (map type_of types.now) operands) }
 {
-    match family {
-        Family::Icmp(_) | Family::Parity => true,
-        Family::Extract(_) | Family::Replicate | Family::Array(ArrayOp::Slice) | Family::Bitcast =>
-            { types.get(1).is_some() }
-        Family::Concat => joined_width(types).is_some(),
-        Family::Array(ArrayOp::Create) => types.first().is_some(),
-        Family::Array(ArrayOp::Concat) => joined_length(types).is_some()
-            && element_of(types.first()).is_some(),
-        Family::Array(ArrayOp::Get) => element_of(types.first()).is_some(),
-        Family::Struct(StructOp::Extract(name)) => field_of(types.first(), name).is_some(),
-        Family::Struct(StructOp::Explode) | Family::Instance(_) | Family::Output => false,
-        _ => types.first().is_some(),
-    }
+    SettledType::of(family, types, operands).is_settled()
 }

@@ -2,7 +2,7 @@
 ghost use Rattle.std.specs.Prelude.{◌≡◌, ◌<◌, length, Contains, IfOk, IfErr};
 ghost use Rattle.ir_store.specs.Designs.{design_of, modules_of};
 ghost use Rattle.design_cycles.specs.Places.{ids_at};
-ghost use Rattle.canonical_form.specs.Canonical.{IsCanonical};
+ghost use Rattle.stored_form.specs.Canonical.{IsCanonical};
 ghost use Rattle.op_verifier.specs.Verdict.{IsVerdict};
 ghost use Rattle.op_verifier.specs.Answered.{modules_verified, Explains, IsRefusedModule, IsRefusedOp};
 
@@ -17,7 +17,7 @@ use opcode::listed::Listed;
 use std::alloc::{AllocError, Global};
 
 /// Takes a design in canonical form of which nothing is refused. It is dropped where something is, and when out of memory.
-/// What is read is in canonical form; who builds a design otherwise may ask `is_canonical` of `canonical_form`.
+/// What is read is in canonical form; who builds a design otherwise may ask `is_canonical` of `stored_form`.
 pub fn verify(alloc: Global, design: Design) -> Result<Verified, VerifyFail>
     requires { IsCanonical (design_of design) }
     ensures ok { IfOk result (λ v. modules_verified v ≡ modules_of design) }
@@ -55,7 +55,7 @@ fn refused_module(design: &Design, number: u32, cause: Cause) -> Refusal
     requires { number < length (modules_of design.now) }
     ensures { IsRefusedModule (modules_of design.now) number cause result }
 {
-    refused_at(design.module(number).place, Listed::HwModule, cause)
+    refused_at(design.module(number).location, Listed::HwModule, cause)
 }
 
 /// The refusal of an operation.
@@ -65,5 +65,5 @@ fn refused_op(design: &Design, at: OpPlace, cause: Cause) -> Refusal
     ensures { IsRefusedOp (modules_of design.now) at cause result }
 {
     let op = design.module(at.module).body.op(at.op);
-    refused_at(op.place, op.kind.listed(), cause)
+    refused_at(op.location, op.kind.listed(), cause)
 }

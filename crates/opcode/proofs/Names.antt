@@ -4,7 +4,10 @@ use Rattle.std.specs.Cmp.Lexicographic.{pointwise, bytes_decides}
 use Rattle.opcode.specs.Listed.{name_of_listed, first_named}
 pub use Rattle.opcode.specs.Listed.{listed_operations}
 use Rattle.opcode.specs.declared.listed.Listed.{Listed}
-use Rattle.opcode.specs.declared.listed.Listed.TheVariants.{HwModule, CombAdd, CombMul, CombAnd, CombOr, CombXor, CombSub, CombDivu, CombModu, CombDivs, CombMods, CombShl, CombShru, CombShrs, CombIcmp, CombParity, CombExtract, CombConcat, CombReplicate, CombMux, HwConstant, HwAggregateConstant, HwArrayCreate, HwArrayConcat, HwArrayGet, HwArraySlice, HwArrayInject, HwStructCreate, HwStructExtract, HwStructInject, HwStructExplode, HwBitcast, HwWire, HwInstance, HwOutput, SeqCompreg, SeqCompregCe, SeqFirreg}
+use Rattle.opcode.specs.declared.listed.Listed.TheVariants.{HwModule, CombAdd, CombMul, CombAnd, CombOr, CombXor, CombSub, CombDivu, CombModu, CombDivs, CombMods, CombShl, CombShru, CombShrs}
+use Rattle.opcode.specs.declared.listed.Listed.TheVariants.{CombIcmp, CombParity, CombExtract, CombConcat, CombReplicate, CombMux, HwConstant, HwAggregateConstant, HwArrayCreate, HwArrayConcat}
+use Rattle.opcode.specs.declared.listed.Listed.TheVariants.{HwArrayGet, HwArraySlice, HwArrayInject, HwStructCreate, HwStructExtract, HwStructInject, HwStructExplode, HwBitcast, HwWire, HwInstance}
+use Rattle.opcode.specs.declared.listed.Listed.TheVariants.{HwOutput, SeqCompreg, SeqCompregCe, SeqFirreg}
 
 -- what is found has the name
 pub first_named-name : (name : List ℕ) (table : List Listed) → IfSome (first_named name table) (λ listed. name_of_listed listed ≡ name)

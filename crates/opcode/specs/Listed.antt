@@ -2,7 +2,10 @@
 use Rattle.std.specs.Prelude.{ℕ, List, [], ◌∷◌, Option, None, Some, nat_eq, codes, if◌then◌else◌}
 use Rattle.std.specs.Cmp.Lexicographic.{pointwise}
 use Rattle.opcode.specs.declared.listed.Listed.{Listed}
-use Rattle.opcode.specs.declared.listed.Listed.TheVariants.{HwModule, CombAdd, CombMul, CombAnd, CombOr, CombXor, CombSub, CombDivu, CombModu, CombDivs, CombMods, CombShl, CombShru, CombShrs, CombIcmp, CombParity, CombExtract, CombConcat, CombReplicate, CombMux, HwConstant, HwAggregateConstant, HwArrayCreate, HwArrayConcat, HwArrayGet, HwArraySlice, HwArrayInject, HwStructCreate, HwStructExtract, HwStructInject, HwStructExplode, HwBitcast, HwWire, HwInstance, HwOutput, SeqCompreg, SeqCompregCe, SeqFirreg}
+use Rattle.opcode.specs.declared.listed.Listed.TheVariants.{HwModule, CombAdd, CombMul, CombAnd, CombOr, CombXor, CombSub, CombDivu, CombModu, CombDivs, CombMods, CombShl, CombShru, CombShrs}
+use Rattle.opcode.specs.declared.listed.Listed.TheVariants.{CombIcmp, CombParity, CombExtract, CombConcat, CombReplicate, CombMux, HwConstant, HwAggregateConstant, HwArrayCreate, HwArrayConcat}
+use Rattle.opcode.specs.declared.listed.Listed.TheVariants.{HwArrayGet, HwArraySlice, HwArrayInject, HwStructCreate, HwStructExtract, HwStructInject, HwStructExplode, HwBitcast, HwWire, HwInstance}
+use Rattle.opcode.specs.declared.listed.Listed.TheVariants.{HwOutput, SeqCompreg, SeqCompregCe, SeqFirreg}
 
 -- the name of an operation (CIRCT's operation references of hw, comb and seq)
 unfoldable pub name_of_listed : Listed → List ℕ
@@ -53,4 +56,6 @@ first_named name (listed ∷ others) = if pointwise nat_eq (name_of_listed liste
 -- every listed operation (CIRCT's operation references of hw, comb and seq)
 abbrev pub listed_operations : List Listed
 listed_operations =
-    HwModule ∷ CombAdd ∷ CombMul ∷ CombAnd ∷ CombOr ∷ CombXor ∷ CombSub ∷ CombDivu ∷ CombModu ∷ CombDivs ∷ CombMods ∷ CombShl ∷ CombShru ∷ CombShrs ∷ CombIcmp ∷ CombParity ∷ CombExtract ∷ CombConcat ∷ CombReplicate ∷ CombMux ∷ HwConstant ∷ HwAggregateConstant ∷ HwArrayCreate ∷ HwArrayConcat ∷ HwArrayGet ∷ HwArraySlice ∷ HwArrayInject ∷ HwStructCreate ∷ HwStructExtract ∷ HwStructInject ∷ HwStructExplode ∷ HwBitcast ∷ HwWire ∷ HwInstance ∷ HwOutput ∷ SeqCompreg ∷ SeqCompregCe ∷ SeqFirreg ∷ []
+    HwModule ∷ CombAdd ∷ CombMul ∷ CombAnd ∷ CombOr ∷ CombXor ∷ CombSub ∷ CombDivu ∷ CombModu ∷ CombDivs ∷ CombMods ∷ CombShl ∷ CombShru ∷ CombShrs ∷ CombIcmp ∷ CombParity ∷ CombExtract
+    ∷ CombConcat ∷ CombReplicate ∷ CombMux ∷ HwConstant ∷ HwAggregateConstant ∷ HwArrayCreate ∷ HwArrayConcat ∷ HwArrayGet ∷ HwArraySlice ∷ HwArrayInject ∷ HwStructCreate ∷ HwStructExtract
+    ∷ HwStructInject ∷ HwStructExplode ∷ HwBitcast ∷ HwWire ∷ HwInstance ∷ HwOutput ∷ SeqCompreg ∷ SeqCompregCe ∷ SeqFirreg ∷ []

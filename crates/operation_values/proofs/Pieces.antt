@@ -1,10 +1,10 @@
--- Words that are put together from the front, a piece at a time.
+-- Words that are put together from the prefix, a piece at a time.
 use Rattle.std.proofs.Common.{◌≡◌, ℕ, zero, suc, ◌+◌, ◌-◌, ◌/◌, ◌%◌, ◌^◌, ◌==◌, ◌<◌, cond, List, [], ◌∷◌, ◌++◌, refl, ap, sym, ◌∙◌, arith, append_assoc, append-nil}
 use Rattle.bits_core.specs.Word.{Word, bits}
 use Rattle.hw_model.specs.Types.{HwType}
 use Rattle.hw_model.specs.Value.{element, elements_from, injected_below}
 
--- a piece more of a word that is built from the front
+-- a piece more of a word that is built from the prefix
 pub piece_more : (part piece rest new whole : Word) → part ++ (piece ++ rest) ≡ whole → new ≡ part ++ piece → new ++ rest ≡ whole
 piece_more part piece rest new whole before step = ap (λ z. z ++ rest) step ∙ append_assoc part piece rest ∙ before
 

@@ -10,7 +10,7 @@ use crate::bit_string::BitString;
 use crate::operands::{one, two, written_fields};
 use crate::refusal::Refusal;
 use crate::values::concat_words;
-use crate::word_parts::{front, past, two_parts};
+use crate::word_parts::{past, prefix, two_parts};
 use hw_model::families::StructOp;
 use hw_model::types::{Field, Ty};
 use std::alloc::{AllocError, Global};
@@ -46,7 +46,7 @@ fn field_named<'w>(fields: &[Field], name: &[u8], word: &'w [bool]) -> &'w [bool
         [] => &[],
         [field, rest @ ..] => {
             if field.name.as_bytes() == name {
-                return front(word, &field.ty);
+                return prefix(word, &field.ty);
             }
             field_named(rest, name, past(word, &field.ty))
         }
@@ -61,7 +61,7 @@ fn field_at<'w>(fields: &[Field], number: u32, word: &'w [bool]) -> &'w [bool]
         [] => &[],
         [field, rest @ ..] => {
             if number == 0 {
-                return front(word, &field.ty);
+                return prefix(word, &field.ty);
             }
             field_at(rest, number - 1, past(word, &field.ty))
         }
@@ -85,7 +85,7 @@ fn with_field(
                 return two_parts(alloc, value.as_slice(), past(word, &field.ty));
             }
             let low = with_field(alloc, rest, name, past(word, &field.ty), value)?;
-            two_parts(alloc, front(word, &field.ty), low.as_slice())
+            two_parts(alloc, prefix(word, &field.ty), low.as_slice())
         }
     }
 }

@@ -29,7 +29,7 @@ pub fn bits_after(word: &[bool], width: u64) -> &[bool]
 }
 
 // the first bits, as many as a value of the type has
-pub(crate) fn front<'w>(word: &'w [bool], ty: &Ty) -> &'w [bool]
+pub(crate) fn prefix<'w>(word: &'w [bool], ty: &Ty) -> &'w [bool]
     ensures { result.now ≡ take (width (type_of ty.now)) word.now }
 {
     let width = ty.width();

@@ -46,7 +46,7 @@ module _ (ps qs : List Pass) (d e f : Design) (first : IsAfter ps d e) (second :
       let again : weight f s ≤ weight e s = two.weight in
       record {
         mark = two.mark ∙ one.mark;
-        place = two.place ∙ one.place;
+        location = two.location ∙ one.location;
         ports = subst (λ b. n.ports ≡ cond b (split_ports m.ports) m.ports) (sym (has_pass-append is_lowering ps qs))
             (ports_both (has_pass is_lowering ps) (has_pass is_lowering qs) m.ports between.0.ports n.ports (named_once e first.accepted first.printable s between.0 between.1) one.ports two.ports);
         registers = subst (λ b. register_types f s ≡ cond b (flat_map leaf_types (register_types d s)) (register_types d s)) (sym (has_pass-append is_lowering ps qs))

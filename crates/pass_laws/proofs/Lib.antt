@@ -8,3 +8,4 @@ pub mod Composed
 pub mod Shapes
 pub mod Steady
 pub mod Steps
+pub mod FitWithoutWires

@@ -8,9 +8,9 @@ use Rattle.fresh_names.specs.Fresh.{fresh}
 use Rattle.op_verifier.specs.Headers.{has_twice}
 use Rattle.op_verifier.specs.Verdict.{IsAccepted}
 use Rattle.op_verifier.proofs.Unrefused.{no_header_cause, module_unrefused}
-use Rattle.printable_designs.specs.Printable.{Printable}
-use Rattle.accepted_edits.specs.Keeps.{IsFit}
-use Rattle.accepted_edits.proofs.Accepted.{accepted_fit}
+use Rattle.printing_laws.specs.Printable.{Printable}
+use Rattle.acceptance_laws.specs.Keeps.{IsFit}
+use Rattle.acceptance_laws.proofs.Accepted.{accepted_fit}
 use Rattle.aggregate_laws.specs.LeafPorts.{split_ports}
 use Rattle.aggregate_laws.proofs.Scalars.{leaves_twice}
 use Rattle.aggregate_laws.proofs.LeafPorts.{split_twice}

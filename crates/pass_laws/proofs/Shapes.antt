@@ -12,11 +12,11 @@ use Rattle.hw_model.specs.Hierarchy.{called_by, callee_symbols}
 use Rattle.hw_model.specs.Sound.{body_of}
 use Rattle.hw_model.proofs.Sorts.{Sort, sort_of}
 use Rattle.hw_model.proofs.Sorts.Sort.{a_register, an_instance, an_output, a_made}
-use Rattle.hw_edits.specs.Edit.{retarget, is_anchor, anchors}
-use Rattle.hw_edits.specs.Laws.{up_ref, without, erase_op, insert_op}
-use Rattle.hw_edits.proofs.Anchors.{called_follow}
-use Rattle.hw_edits.proofs.OtherOperands.{map_retarget_id}
-use Rattle.hw_edits.proofs.Positions.{anchors-retarget, anchors-insert, anchors-remove, anchors-set}
+use Rattle.edit_laws.specs.Edit.{retarget, is_anchor, anchors}
+use Rattle.edit_laws.specs.Laws.{up_ref, without, erase_op, insert_op}
+use Rattle.edit_laws.proofs.Anchors.{called_follow}
+use Rattle.edit_laws.proofs.OtherOperands.{map_retarget_id}
+use Rattle.edit_laws.proofs.Positions.{anchors-retarget, anchors-insert, anchors-remove, anchors-set}
 use Rattle.pass_laws.specs.Steady.{instance_held, op_held, body_held, SameShape}
 
 -- ---- the registers of a module

@@ -10,11 +10,11 @@ use Rattle.hw_model.specs.Sound.{body_of}
 use Rattle.hw_model.specs.Weight.{weight}
 use Rattle.hw_model.proofs.Machines.{same_self, same_then}
 use Rattle.op_verifier.specs.Verdict.{IsAccepted}
-use Rattle.hw_edits.specs.Follows.{Follows}
-use Rattle.hw_edits.specs.Laws.{with_body}
-use Rattle.hw_edits.proofs.Follows.{valid_settles, set_each}
-use Rattle.accepted_edits.specs.Keeps.{IsFit}
-use Rattle.accepted_edits.proofs.NameCounts.{accepted_again}
+use Rattle.edit_laws.specs.Follows.{Follows}
+use Rattle.edit_laws.specs.Laws.{with_body}
+use Rattle.edit_laws.proofs.Follows.{valid_settles, set_each}
+use Rattle.acceptance_laws.specs.Keeps.{IsFit}
+use Rattle.acceptance_laws.proofs.NameCounts.{accepted_again}
 use Rattle.aggregate_laws.specs.LeafPorts.{split_ports}
 use Rattle.pass_pipeline.specs.declared.pass.Pass.{Pass}
 use Rattle.pass_laws.specs.PassLaw.{InstancesStay, leaf_types, register_types, IsAfter}
@@ -27,7 +27,7 @@ use Rattle.pass_laws.proofs.Unchanged.{all_remain, stays_unlowered}
 -- ---- headers
 
 header_self : (m : Module) → SameHeader m m
-header_self m = record { symbol = refl; mark = refl; place = refl; ports = refl }
+header_self m = record { symbol = refl; mark = refl; location = refl; ports = refl }
 
 headers_self : (d : Design) → SameHeaders d d
 headers_self [] = tt
@@ -40,13 +40,13 @@ headers_then [] (y ∷ e) f first second = absurd first
 headers_then (x ∷ d) [] f first second = absurd first
 headers_then (x ∷ d) (y ∷ e) [] first second = absurd second
 headers_then (x ∷ d) (y ∷ e) (z ∷ f) (a, first) (b, second) =
-    (record { symbol = b.symbol ∙ a.symbol; mark = b.mark ∙ a.mark; place = b.place ∙ a.place; ports = b.ports ∙ a.ports }, headers_then d e f first second)
+    (record { symbol = b.symbol ∙ a.symbol; mark = b.mark ∙ a.mark; location = b.location ∙ a.location; ports = b.ports ∙ a.ports }, headers_then d e f first second)
 
 headers_set : (d : Design) (k : ℕ) (m : Module) (os : List Op) → slice_get d k ≡ Some m → SameHeaders d (with_body d k m os)
 headers_set [] k m os at = cc
 headers_set (x ∷ d) zero m os at =
     let same : m ≡ x = cc in
-    (subst (λ y. SameHeader y (record m { body = os })) same (record { symbol = refl; mark = refl; place = refl; ports = refl }), headers_self d)
+    (subst (λ y. SameHeader y (record m { body = os })) same (record { symbol = refl; mark = refl; location = refl; ports = refl }), headers_self d)
 headers_set (x ∷ d) (suc k) m os at = (header_self x, headers_set d k m os at)
 
 same_symbols : (d e : Design) → SameHeaders d e → symbols e ≡ symbols d
@@ -121,7 +121,7 @@ steady_is_after passes d e flat gone kept accepted steady lighter =
           let header = found_headers d e steady.headers s m n was now in
           record {
             mark = header.mark;
-            place = header.place;
+            location = header.location;
             ports = header.ports ∙ stays_unlowered (has_pass is_lowering passes) kept split_ports m.ports;
             registers = steady.registers s ∙ stays_unlowered (has_pass is_lowering passes) kept (flat_map leaf_types) (register_types d s);
             instances = instances_stay (has_pass is_flatten passes) flat s;

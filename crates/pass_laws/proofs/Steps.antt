@@ -5,8 +5,8 @@ use Rattle.wiring.proofs.Lists.{slice_get-set_same, set_some}
 use Rattle.hw_model.specs.Types.{Name}
 use Rattle.hw_model.specs.Design.{Op, Module, Design}
 use Rattle.hw_model.specs.Weight.{weight}
-use Rattle.hw_edits.specs.Laws.{with_body}
-use Rattle.accepted_edits.specs.Keeps.{IsFit}
+use Rattle.edit_laws.specs.Laws.{with_body}
+use Rattle.acceptance_laws.specs.Keeps.{IsFit}
 use Rattle.pass_laws.specs.Steady.{IsSteady}
 use Rattle.pass_laws.specs.Steps.{StepsBy}
 use Rattle.pass_laws.proofs.Steady.{steady_self, steady_then}

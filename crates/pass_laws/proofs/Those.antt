@@ -68,10 +68,10 @@ within_self (x ∷ xs) = inl (xs, refl, within_self xs)
 
 pub within_then : (xs ys zs : List Name) → AreWithin xs ys → AreWithin ys zs → AreWithin xs zs
 within_then xs ys [] first second = subst (AreWithin xs) second first
-within_then xs ys (z ∷ zs) first (inl (rest, is, more)) = go (subst (AreWithin xs) is first) (λ front inside. within_then front rest zs inside more)
+within_then xs ys (z ∷ zs) first (inl (rest, is, more)) = go (subst (AreWithin xs) is first) (λ prefix inside. within_then prefix rest zs inside more)
   where
-    go : AreWithin xs (z ∷ rest) → ((front : List Name) → AreWithin front rest → AreWithin front zs) → AreWithin xs (z ∷ zs)
-    go (inl (front, are, inside)) following = inl (front, are, following front inside)
+    go : AreWithin xs (z ∷ rest) → ((prefix : List Name) → AreWithin prefix rest → AreWithin prefix zs) → AreWithin xs (z ∷ zs)
+    go (inl (prefix, are, inside)) following = inl (prefix, are, following prefix inside)
     go (inr inside) following = inr (following xs inside)
 within_then xs ys (z ∷ zs) first (inr more) = inr (within_then xs ys zs first more)
 

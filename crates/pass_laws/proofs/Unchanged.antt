@@ -40,7 +40,7 @@ identity_keeps passes flat gone kept d e accepted printable same = subst (IsAfte
     same_module : (s : Name) (m n : Module) → m ≡ n → IsModuleAfter passes d d s m n
     same_module s m n e = subst (IsModuleAfter passes d d s m) e (record {
       mark = refl;
-      place = refl;
+      location = refl;
       ports = stays_unlowered (has_pass is_lowering passes) kept split_ports m.ports;
       registers = stays_unlowered (has_pass is_lowering passes) kept (flat_map leaf_types) (register_types d s);
       instances = instances_stay (has_pass is_flatten passes) flat d s;

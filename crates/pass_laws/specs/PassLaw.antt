@@ -9,7 +9,7 @@ use Rattle.hw_model.specs.Machine.{Same}
 use Rattle.hw_model.specs.Meaning.{machine}
 use Rattle.hw_model.specs.Weight.{weight}
 use Rattle.op_verifier.specs.Verdict.{IsAccepted}
-use Rattle.printable_designs.specs.Printable.{Printable}
+use Rattle.printing_laws.specs.Printable.{Printable}
 use Rattle.pass_pipeline.specs.declared.pass.Pass.{Pass}
 use Rattle.aggregate_laws.specs.Leaves.{leaves_of}
 use Rattle.aggregate_laws.specs.LeafPorts.{split_ports}
@@ -45,7 +45,7 @@ InstancesStay true d before after = (public : List Name) × AreThose (IsPublic d
 -- leave, its instances stand in order, and it is no heavier
 pub record IsModuleAfter (passes : List Pass) (d e : Design) (s : Name) (m n : Module) : Type 0 where
   pub mark : n.is_private ≡ m.is_private
-  pub place : n.place ≡ m.place
+  pub location : n.location ≡ m.location
   pub ports : n.ports ≡ ports_after passes m.ports
   pub registers : register_types e s ≡ register_types_after passes (register_types d s)
   pub instances : InstancesStay (has_pass is_flatten passes) d (calls d s) (calls e s)

@@ -6,7 +6,7 @@ use Rattle.hw_model.specs.Design.{Op, Module, Design, instance_in, is_register, 
 use Rattle.hw_model.specs.Hierarchy.{callee_symbols, calls}
 use Rattle.hw_model.specs.Machine.{Same}
 use Rattle.hw_model.specs.Meaning.{machine}
-use Rattle.accepted_edits.specs.Keeps.{IsFit}
+use Rattle.acceptance_laws.specs.Keeps.{IsFit}
 use Rattle.pass_laws.specs.PassLaw.{register_types}
 
 -- ---- the shape of a body
@@ -36,7 +36,7 @@ pub record SameShape (os os' : List Op) : Type 0 where
 pub record SameHeader (m n : Module) : Type 0 where
   pub symbol : n.symbol ≡ m.symbol
   pub mark : n.is_private ≡ m.is_private
-  pub place : n.place ≡ m.place
+  pub location : n.location ≡ m.location
   pub ports : n.ports ≡ m.ports
 
 -- so one by one

@@ -3,7 +3,7 @@ use Rattle.std.proofs.Common.{◌≡◌, ℕ, suc, ◌+◌, ◌<◌, ◌≤◌, 
 use Rattle.std.proofs.lemmas.List.{length-append, length-map, append_assoc, append-nil, map-append}
 use Rattle.std.proofs.lemmas.Option.{slice_get-map}
 use Rattle.hw_model.specs.Design.{Op}
-use Rattle.accepted_edits.specs.Keeps.{IsFit}
+use Rattle.acceptance_laws.specs.Keeps.{IsFit}
 use Rattle.ir_store.specs.declared.body.Body.{Body}
 use Rattle.ir_store.specs.BodyOps.{BodyOp}
 use Rattle.ir_store.specs.Bodies.{ops_of}
@@ -16,80 +16,80 @@ use Rattle.pass_manager.proofs.ChangedBodies.{of_fit}
 
 -- ---- one body of a design
 
-with_ops_here : (front : List StoredModule) (ops : List BodyOp) (m : StoredModule) (back : List StoredModule) → with_ops (length front) ops (front ++ m ∷ back) ≡ front ++ record m { ops = ops } ∷ back
+with_ops_here : (prefix : List StoredModule) (ops : List BodyOp) (m : StoredModule) (back : List StoredModule) → with_ops (length prefix) ops (prefix ++ m ∷ back) ≡ prefix ++ record m { ops = ops } ∷ back
 with_ops_here [] ops m back = refl
-with_ops_here (x ∷ front) ops m back = ap (λ zs. x ∷ zs) (with_ops_here front ops m back)
+with_ops_here (x ∷ prefix) ops m back = ap (λ zs. x ∷ zs) (with_ops_here prefix ops m back)
 
-ops_here : (front : List StoredModule) (m : StoredModule) (back : List StoredModule) → slice_get (map (λ (one : StoredModule). one.ops) (front ++ m ∷ back)) (length front) ≡ Some m.ops
+ops_here : (prefix : List StoredModule) (m : StoredModule) (back : List StoredModule) → slice_get (map (λ (one : StoredModule). one.ops) (prefix ++ m ∷ back)) (length prefix) ≡ Some m.ops
 ops_here [] m back = refl
-ops_here (x ∷ front) m back = ops_here front m back
+ops_here (x ∷ prefix) m back = ops_here prefix m back
 
 -- ---- bodies taken out
 
 -- the first modules of a design have lost their bodies, which have these operations
 pub record IsTaking (whole now : List StoredModule) (taken : List (List BodyOp)) (number : ℕ) : Type 0 where
-  pub front : List StoredModule
+  pub prefix : List StoredModule
   pub back : List StoredModule
-  pub parts : whole ≡ front ++ back
-  pub is : now ≡ without_bodies front ++ back
-  pub bodies : taken ≡ map (λ (m : StoredModule). m.ops) front
-  pub size : length front ≡ number
+  pub parts : whole ≡ prefix ++ back
+  pub is : now ≡ without_bodies prefix ++ back
+  pub bodies : taken ≡ map (λ (m : StoredModule). m.ops) prefix
+  pub size : length prefix ≡ number
 
 pub taking_none : (whole : List StoredModule) → IsTaking whole whole [] 0
-taking_none whole = record { front = []; back = whole; parts = refl; is = refl; bodies = refl; size = refl }
+taking_none whole = record { prefix = []; back = whole; parts = refl; is = refl; bodies = refl; size = refl }
 
 pub taking_within : (whole now : List StoredModule) (taken : List (List BodyOp)) (number : ℕ) → IsTaking whole now taken number → length now ≡ length whole
 taking_within whole now taken number t =
-    let one : length now ≡ length (without_bodies t.front ++ t.back) = ap length t.is in
-    let two : length (without_bodies t.front ++ t.back) ≡ length (without_bodies t.front) + length t.back = length-append (without_bodies t.front) t.back in
-    let three : length (without_bodies t.front) ≡ length t.front = length-map t.front (λ (m : StoredModule). record m { ops = [] }) in
-    let four : length whole ≡ length (t.front ++ t.back) = ap length t.parts in
-    let five : length (t.front ++ t.back) ≡ length t.front + length t.back = length-append t.front t.back in
+    let one : length now ≡ length (without_bodies t.prefix ++ t.back) = ap length t.is in
+    let two : length (without_bodies t.prefix ++ t.back) ≡ length (without_bodies t.prefix) + length t.back = length-append (without_bodies t.prefix) t.back in
+    let three : length (without_bodies t.prefix) ≡ length t.prefix = length-map t.prefix (λ (m : StoredModule). record m { ops = [] }) in
+    let four : length whole ≡ length (t.prefix ++ t.back) = ap length t.parts in
+    let five : length (t.prefix ++ t.back) ≡ length t.prefix + length t.back = length-append t.prefix t.back in
     omega (arith, one, two, three, four, five)
 
 pub taking_more : (whole now next : List StoredModule) (taken : List (List BodyOp)) (number : ℕ) (ops : List BodyOp) → IsTaking whole now taken number → number < length whole
     → Some ops ≡ slice_get (map (λ (m : StoredModule). m.ops) now) number → next ≡ with_ops number [] now → IsTaking whole next (taken ++ ops ∷ []) (number + 1)
 taking_more whole now next taken number ops t below at is = go t.back refl
   where
-    count : length (without_bodies t.front) ≡ number
-    count = length-map t.front (λ (m : StoredModule). record m { ops = [] }) ∙ t.size
+    count : length (without_bodies t.prefix) ≡ number
+    count = length-map t.prefix (λ (m : StoredModule). record m { ops = [] }) ∙ t.size
 
     go : (back : List StoredModule) → t.back ≡ back → IsTaking whole next (taken ++ ops ∷ []) (number + 1)
     go [] none =
-        let one : length whole ≡ length (t.front ++ t.back) = ap length t.parts in
-        let two : length (t.front ++ t.back) ≡ length t.front + length t.back = length-append t.front t.back in
+        let one : length whole ≡ length (t.prefix ++ t.back) = ap length t.parts in
+        let two : length (t.prefix ++ t.back) ≡ length t.prefix + length t.back = length-append t.prefix t.back in
         let three : length t.back ≡ 0 = ap length none in
         absurd (omega (arith, one, two, three, below, t.size))
     go (m ∷ back) some =
-        let now_is : now ≡ (without_bodies t.front) ++ m ∷ back = t.is ∙ ap (λ zs. (without_bodies t.front) ++ zs) some in
+        let now_is : now ≡ (without_bodies t.prefix) ++ m ∷ back = t.is ∙ ap (λ zs. (without_bodies t.prefix) ++ zs) some in
         let found : slice_get (map (λ (x : StoredModule). x.ops) now) number ≡ Some m.ops =
-        ap₂ (λ zs k. slice_get (map (λ (x : StoredModule). x.ops) zs) k) now_is (sym count) ∙ ops_here (without_bodies t.front) m back in
+        ap₂ (λ zs k. slice_get (map (λ (x : StoredModule). x.ops) zs) k) now_is (sym count) ∙ ops_here (without_bodies t.prefix) m back in
         let both : Some ops ≡ Some m.ops = at ∙ found in
         let same : ops ≡ m.ops = cc in
         record {
-          front = t.front ++ m ∷ [];
+          prefix = t.prefix ++ m ∷ [];
           back = back;
-          parts = t.parts ∙ ap (λ zs. t.front ++ zs) some ∙ sym (append_assoc t.front (m ∷ []) back);
-          is = is ∙ ap₂ (λ k zs. with_ops k [] zs) (sym count) now_is ∙ with_ops_here (without_bodies t.front) [] m back
-              ∙ sym (append_assoc (without_bodies t.front) (record m { ops = [] } ∷ []) back)
-              ∙ ap (λ zs. zs ++ back) (sym (map-append (λ (x : StoredModule). record x { ops = [] }) t.front (m ∷ [])));
-          bodies = ap₂ (λ a b. a ++ b ∷ []) t.bodies same ∙ sym (map-append (λ (x : StoredModule). x.ops) t.front (m ∷ []));
-          size = let sum : length (t.front ++ m ∷ []) ≡ length t.front + 1 = length-append t.front (m ∷ []) in omega (arith, sum, t.size);
+          parts = t.parts ∙ ap (λ zs. t.prefix ++ zs) some ∙ sym (append_assoc t.prefix (m ∷ []) back);
+          is = is ∙ ap₂ (λ k zs. with_ops k [] zs) (sym count) now_is ∙ with_ops_here (without_bodies t.prefix) [] m back
+              ∙ sym (append_assoc (without_bodies t.prefix) (record m { ops = [] } ∷ []) back)
+              ∙ ap (λ zs. zs ++ back) (sym (map-append (λ (x : StoredModule). record x { ops = [] }) t.prefix (m ∷ [])));
+          bodies = ap₂ (λ a b. a ++ b ∷ []) t.bodies same ∙ sym (map-append (λ (x : StoredModule). x.ops) t.prefix (m ∷ []));
+          size = let sum : length (t.prefix ++ m ∷ []) ≡ length t.prefix + 1 = length-append t.prefix (m ∷ []) in omega (arith, sum, t.size);
         }
 
-no_back : (front back : List StoredModule) (number : ℕ) → length front ≡ number → length (front ++ back) ≤ number → back ≡ []
-no_back front [] number size most = refl
-no_back front (m ∷ back) number size most =
-    let sum : length (front ++ m ∷ back) ≡ length front + suc (length back) = length-append front (m ∷ back) in
+no_back : (prefix back : List StoredModule) (number : ℕ) → length prefix ≡ number → length (prefix ++ back) ≤ number → back ≡ []
+no_back prefix [] number size most = refl
+no_back prefix (m ∷ back) number size most =
+    let sum : length (prefix ++ m ∷ back) ≡ length prefix + suc (length back) = length-append prefix (m ∷ back) in
     absurd (omega (arith, sum, size, most))
 
 pub taking_ends : (whole now : List StoredModule) (taken : List (List BodyOp)) (number : ℕ) → IsTaking whole now taken number → length whole ≤ number
     → (taken ≡ map (λ (m : StoredModule). m.ops) whole) × (now ≡ without_bodies whole)
 taking_ends whole now taken number t most =
-    let none : t.back ≡ [] = no_back t.front t.back number t.size (subst (λ zs. length zs ≤ number) t.parts most) in
-    let all : whole ≡ t.front = t.parts ∙ ap (λ zs. t.front ++ zs) none ∙ append-nil t.front in (
+    let none : t.back ≡ [] = no_back t.prefix t.back number t.size (subst (λ zs. length zs ≤ number) t.parts most) in
+    let all : whole ≡ t.prefix = t.parts ∙ ap (λ zs. t.prefix ++ zs) none ∙ append-nil t.prefix in (
       t.bodies ∙ ap (map (λ (m : StoredModule). m.ops)) (sym all),
-      t.is ∙ ap (λ zs. without_bodies t.front ++ zs) none ∙ append-nil (without_bodies t.front) ∙ ap without_bodies (sym all),
+      t.is ∙ ap (λ zs. without_bodies t.prefix ++ zs) none ∙ append-nil (without_bodies t.prefix) ∙ ap without_bodies (sym all),
     )
 
 -- ---- bodies put back
@@ -108,17 +108,17 @@ length-with_bodies (b ∷ bs) (m ∷ ms) = ap suc (length-with_bodies bs ms)
 
 -- the first modules of a design have the first of the bodies, and the rest is to be put
 pub record IsPutting (whole now : List StoredModule) (all rest : List (List BodyOp)) (number : ℕ) : Type 0 where
-  pub front : List StoredModule
+  pub prefix : List StoredModule
   pub back : List StoredModule
   pub put : List (List BodyOp)
-  pub parts : whole ≡ front ++ back
+  pub parts : whole ≡ prefix ++ back
   pub bodies : all ≡ put ++ rest
-  pub is : now ≡ with_bodies put front ++ back
-  pub size : length front ≡ number
+  pub is : now ≡ with_bodies put prefix ++ back
+  pub size : length prefix ≡ number
   pub count : length put ≡ number
 
 pub putting_none : (whole : List StoredModule) (all : List (List BodyOp)) → IsPutting whole whole all all 0
-putting_none whole all = record { front = []; back = whole; put = []; parts = refl; bodies = refl; is = refl; size = refl; count = refl }
+putting_none whole all = record { prefix = []; back = whole; put = []; parts = refl; bodies = refl; is = refl; size = refl; count = refl }
 
 pub putting_more : (whole now next : List StoredModule) (all rest : List (List BodyOp)) (number : ℕ) (ops : List BodyOp) → length all ≡ length whole
     → IsPutting whole now all (ops ∷ rest) number → next ≡ with_ops number ops now → IsPutting whole next all rest (number + 1)
@@ -126,25 +126,25 @@ putting_more whole now next all rest number ops equal p is = go p.back refl
   where
     go : (back : List StoredModule) → p.back ≡ back → IsPutting whole next all rest (number + 1)
     go [] none =
-        let one : length whole ≡ length (p.front ++ p.back) = ap length p.parts in
-        let two : length (p.front ++ p.back) ≡ length p.front + length p.back = length-append p.front p.back in
+        let one : length whole ≡ length (p.prefix ++ p.back) = ap length p.parts in
+        let two : length (p.prefix ++ p.back) ≡ length p.prefix + length p.back = length-append p.prefix p.back in
         let three : length p.back ≡ 0 = ap length none in
         let four : length all ≡ length (p.put ++ ops ∷ rest) = ap length p.bodies in
         let five : length (p.put ++ ops ∷ rest) ≡ length p.put + suc (length rest) = length-append p.put (ops ∷ rest) in
         absurd (omega (arith, one, two, three, four, five, equal, p.size, p.count))
     go (m ∷ back) some =
-        let now_is : now ≡ with_bodies p.put p.front ++ m ∷ back = p.is ∙ ap (λ zs. with_bodies p.put p.front ++ zs) some in
-        let here : number ≡ length (with_bodies p.put p.front) = sym (length-with_bodies p.put p.front ∙ p.size) in
+        let now_is : now ≡ with_bodies p.put p.prefix ++ m ∷ back = p.is ∙ ap (λ zs. with_bodies p.put p.prefix ++ zs) some in
+        let here : number ≡ length (with_bodies p.put p.prefix) = sym (length-with_bodies p.put p.prefix ∙ p.size) in
         record {
-          front = p.front ++ m ∷ [];
+          prefix = p.prefix ++ m ∷ [];
           back = back;
           put = p.put ++ ops ∷ [];
-          parts = p.parts ∙ ap (λ zs. p.front ++ zs) some ∙ sym (append_assoc p.front (m ∷ []) back);
+          parts = p.parts ∙ ap (λ zs. p.prefix ++ zs) some ∙ sym (append_assoc p.prefix (m ∷ []) back);
           bodies = p.bodies ∙ sym (append_assoc p.put (ops ∷ []) rest);
-          is = is ∙ ap₂ (λ k zs. with_ops k ops zs) here now_is ∙ with_ops_here (with_bodies p.put p.front) ops m back
-              ∙ sym (append_assoc (with_bodies p.put p.front) (record m { ops = ops } ∷ []) back)
-              ∙ ap (λ zs. zs ++ back) (sym (with_bodies_more p.put p.front ops m (p.count ∙ sym p.size)));
-          size = let sum : length (p.front ++ m ∷ []) ≡ length p.front + 1 = length-append p.front (m ∷ []) in omega (arith, sum, p.size);
+          is = is ∙ ap₂ (λ k zs. with_ops k ops zs) here now_is ∙ with_ops_here (with_bodies p.put p.prefix) ops m back
+              ∙ sym (append_assoc (with_bodies p.put p.prefix) (record m { ops = ops } ∷ []) back)
+              ∙ ap (λ zs. zs ++ back) (sym (with_bodies_more p.put p.prefix ops m (p.count ∙ sym p.size)));
+          size = let sum : length (p.prefix ++ m ∷ []) ≡ length p.prefix + 1 = length-append p.prefix (m ∷ []) in omega (arith, sum, p.size);
           count = let sum : length (p.put ++ ops ∷ []) ≡ length p.put + 1 = length-append p.put (ops ∷ []) in omega (arith, sum, p.count);
         }
 
@@ -152,21 +152,21 @@ putting_more whole now next all rest number ops equal p is = go p.back refl
 pub putting_within : (whole now : List StoredModule) (all rest : List (List BodyOp)) (number : ℕ) → length all ≡ length whole → IsPutting whole now all rest number
     → (number + length rest ≡ length whole) × (length now ≡ length whole)
 putting_within whole now all rest number equal p =
-    let one : length whole ≡ length (p.front ++ p.back) = ap length p.parts in
-    let two : length (p.front ++ p.back) ≡ length p.front + length p.back = length-append p.front p.back in
+    let one : length whole ≡ length (p.prefix ++ p.back) = ap length p.parts in
+    let two : length (p.prefix ++ p.back) ≡ length p.prefix + length p.back = length-append p.prefix p.back in
     let three : length all ≡ length (p.put ++ rest) = ap length p.bodies in
     let four : length (p.put ++ rest) ≡ length p.put + length rest = length-append p.put rest in
-    let five : length now ≡ length (with_bodies p.put p.front ++ p.back) = ap length p.is in
-    let six : length (with_bodies p.put p.front ++ p.back) ≡ length (with_bodies p.put p.front) + length p.back = length-append (with_bodies p.put p.front) p.back in
-    let seven : length (with_bodies p.put p.front) ≡ length p.front = length-with_bodies p.put p.front in
+    let five : length now ≡ length (with_bodies p.put p.prefix ++ p.back) = ap length p.is in
+    let six : length (with_bodies p.put p.prefix ++ p.back) ≡ length (with_bodies p.put p.prefix) + length p.back = length-append (with_bodies p.put p.prefix) p.back in
+    let seven : length (with_bodies p.put p.prefix) ≡ length p.prefix = length-with_bodies p.put p.prefix in
     (omega (arith, one, two, three, four, equal, p.size, p.count), omega (arith, one, two, five, six, seven))
 
 pub putting_ends : (whole now : List StoredModule) (all : List (List BodyOp)) (number : ℕ) → length all ≡ length whole → IsPutting whole now all [] number → now ≡ with_bodies all whole
 putting_ends whole now all number equal p =
     let within = putting_within whole now all [] number equal p in
-    let none : p.back ≡ [] = no_back p.front p.back number p.size (let one : length (p.front ++ p.back) ≡ length whole = ap length (sym p.parts) in let two = within.0 in omega (arith, one, two)) in
-    p.is ∙ ap (λ zs. with_bodies p.put p.front ++ zs) none ∙ append-nil (with_bodies p.put p.front)
-    ∙ sym (ap₂ with_bodies (p.bodies ∙ append-nil p.put) (p.parts ∙ ap (λ zs. p.front ++ zs) none ∙ append-nil p.front))
+    let none : p.back ≡ [] = no_back p.prefix p.back number p.size (let one : length (p.prefix ++ p.back) ≡ length whole = ap length (sym p.parts) in let two = within.0 in omega (arith, one, two)) in
+    p.is ∙ ap (λ zs. with_bodies p.put p.prefix ++ zs) none ∙ append-nil (with_bodies p.put p.prefix)
+    ∙ sym (ap₂ with_bodies (p.bodies ∙ append-nil p.put) (p.parts ∙ ap (λ zs. p.prefix ++ zs) none ∙ append-nil p.prefix))
 
 -- ---- what is made of them
 

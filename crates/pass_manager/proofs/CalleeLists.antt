@@ -22,7 +22,7 @@ use Rattle.ir_store.proofs.Ordering.{length-walk}
 use Rattle.design_cycles.specs.Calls.{symbols_in, numbers_of, call_lists}
 use Rattle.design_cycles.proofs.Callees.{from_In-numbers, place_found, acyclic_numbers}
 use Rattle.op_verifier.proofs.Distinct.{distinct_symbols}
-use Rattle.accepted_edits.specs.Keeps.{IsFit}
+use Rattle.acceptance_laws.specs.Keeps.{IsFit}
 
 -- ---- how many callees there are
 

@@ -3,11 +3,11 @@ use Rattle.std.proofs.Common.{◌≡◌, ℕ, ◌+◌, ◌<◌, ◌≤◌, List,
 use Rattle.std.proofs.Math.Seq.{drop-cons}
 use Rattle.std.proofs.lemmas.List.{drop_all}
 use Rattle.hw_model.specs.Design.{Op, Module, Design}
-use Rattle.hw_edits.specs.Laws.{with_body}
+use Rattle.edit_laws.specs.Laws.{with_body}
 use Rattle.op_verifier.specs.Verdict.{IsAccepted}
-use Rattle.printable_designs.specs.Printable.{Printable}
-use Rattle.accepted_edits.specs.Keeps.{IsFit}
-use Rattle.accepted_edits.proofs.Accepted.{accepted_fit}
+use Rattle.printing_laws.specs.Printable.{Printable}
+use Rattle.acceptance_laws.specs.Keeps.{IsFit}
+use Rattle.acceptance_laws.proofs.Accepted.{accepted_fit}
 use Rattle.pass_pipeline.specs.declared.pass.Pass.{Pass}
 use Rattle.pass_pipeline.specs.declared.pass.Pass.TheVariants.{Canonicalize, Cse, SeqLowerRegs, HwLowerAggregates, HwFlattenModules, SymbolDce}
 use Rattle.pass_laws.specs.PassLaw.{IsAfter, PassLaw}

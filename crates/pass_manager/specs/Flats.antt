@@ -3,7 +3,7 @@ use Rattle.std.specs.Prelude.{◌≡◌, ℕ, List, Option, Some}
 use Rattle.std.specs.Arc.{arc_value}
 use Rattle.std.specs.declared.sync.Arc.{Arc}
 use Rattle.hw_model.specs.Design.{Design}
-use Rattle.accepted_edits.specs.Keeps.{IsFit}
+use Rattle.acceptance_laws.specs.Keeps.{IsFit}
 use Rattle.ir_store.specs.declared.body.Body.{Body}
 use Rattle.ir_store.specs.Designs.{StoredModule}
 use Rattle.design_cycles.specs.Calls.{call_lists}

@@ -1,7 +1,7 @@
 //! The pass `hw-flatten-modules`, worked by several workers.
 ghost use Rattle.std.specs.Prelude.{◌≡◌, ◌≤◌, OnOk};
 ghost use Rattle.ir_store.specs.Designs.{design_of};
-ghost use Rattle.accepted_edits.specs.Keeps.{IsFit};
+ghost use Rattle.acceptance_laws.specs.Keeps.{IsFit};
 ghost use Rattle.inline_pass.specs.Flattening.{flat_design, IsFlattened};
 
 use crate::bodies::{put_bodies, take_bodies};

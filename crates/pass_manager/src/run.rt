@@ -1,7 +1,7 @@
 //! Runs of passes over a design.
 ghost use Rattle.std.specs.Prelude.{◌≤◌, IfOk, OnOk};
 ghost use Rattle.ir_store.specs.Designs.{design_of};
-ghost use Rattle.accepted_edits.specs.Keeps.{IsFit};
+ghost use Rattle.acceptance_laws.specs.Keeps.{IsFit};
 ghost use Rattle.pass_pipeline.specs.declared.pass.Pass.TheVariants.{HwLowerAggregates};
 ghost use Rattle.pass_manager.specs.Results.{AreModulesBy, IsChosen, IsResult};
 

@@ -1,12 +1,12 @@
--- The texts that are read are those whose symbols spell a pipeline.
+-- The texts that are read are those whose tokens spell a pipeline.
 use Rattle.std.proofs.Common.{◌≡◌, ℕ, zero, suc, ◌+◌, ◌-◌, Bool, true, false, cond, not, List, [], ◌∷◌, ◌++◌, length, Option, Some, None, Result, Ok, Err, refl, sym, ap, subst, ◌∙◌}
 use Rattle.std.specs.Prelude.{codes}
 use Rattle.std.specs.Cmp.Lexicographic.{same_text}
-use Rattle.pass_pipeline.specs.Symbols.{is_space, symbol_in, is_name}
+use Rattle.pass_pipeline.specs.Tokens.{is_space, token_in, is_name}
 use Rattle.pass_pipeline.specs.Passes.{same_bytes, pass_name, runs_on, pass_named}
 use Rattle.pass_pipeline.specs.Steps.{mark, closed, misplaced, root, opening, pass_item, nested, named_item, item, first_item, separator, step_over}
 use Rattle.pass_pipeline.specs.Pipelines.{added, ended, after, passes_after, passes}
-use Rattle.pass_pipeline.specs.Grammar.{symbols_after, symbols, Item, more_passes, passes_spelled, item_spelled, more_items, items_spelled, pipeline_spelled, passes_of, passes_in, IsOffered, RunOnModules, MayStand, AllMayStand}
+use Rattle.pass_pipeline.specs.Grammar.{tokens_after, tokens, Item, more_passes, passes_spelled, item_spelled, more_items, items_spelled, pipeline_spelled, passes_of, passes_in, IsOffered, RunOnModules, MayStand, AllMayStand}
 use Rattle.pass_pipeline.specs.Grammar.Item.{on_design, on_modules}
 use Rattle.pass_pipeline.specs.declared.pass.Pass.{Pass}
 use Rattle.pass_pipeline.specs.declared.pass.Pass.TheVariants.{Canonicalize, Cse, SeqLowerRegs, HwLowerAggregates, HwFlattenModules, SymbolDce}
@@ -18,8 +18,8 @@ use Rattle.pass_pipeline.specs.declared.step.Step.{Step}
 use Rattle.pass_pipeline.specs.declared.pipeline.PipelineFail.{PipelineFail}
 use Rattle.pass_pipeline.specs.declared.pipeline.PipelineFail.TheVariants.{UnknownPass, WrongPlace, BadText}
 
-abbrev Symbols : Type 0
-Symbols = List (List ℕ)
+abbrev Tokens : Type 0
+Tokens = List (List ℕ)
 
 -- ---- names
 
@@ -76,8 +76,8 @@ passes_told None = []
 passes_told (Some p) = p ∷ []
 
 module _ (offered : List Pass) where
-  -- the symbols, and the passes that they name
-  abbrev Rest : Expected → Symbols → List Pass → Type 0
+  -- the tokens, and the passes that they name
+  abbrev Rest : Expected → Tokens → List Pass → Type 0
   Rest expected.Root ss out = (is : List Item) × (ss ≡ pipeline_spelled is) × (out ≡ passes_in is) × AllMayStand offered is
   Rest (expected.Opening BuiltinModule) ss out = (is : List Item) × (ss ≡ codes "(" ∷ items_spelled is) × (out ≡ passes_in is) × AllMayStand offered is
   Rest (expected.Opening HwModule) ss out =
@@ -99,13 +99,13 @@ module _ (offered : List Pass) where
   Rest expected.End ss out = (ss ≡ []) × (out ≡ [])
 
   -- what may stand after a step
-  abbrev After : Symbols → List Pass → Result Step PipelineFail → Type 0
+  abbrev After : Tokens → List Pass → Result Step PipelineFail → Type 0
   After ss out (Err fail) = ⊥
   After ss out (Ok s) = (rest : List Pass) × (out ≡ passes_told s.pass ++ rest) × Rest s.next ss rest
 
-  -- ---- a symbol over which there is a step
+  -- ---- a token over which there is a step
 
-  item_forth : (a : Anchor) (at : ℕ) (s : List ℕ) (ss : Symbols) (out : List Pass) → After ss out (item offered a at s) → Rest (expected.Item a) (s ∷ ss) out
+  item_forth : (a : Anchor) (at : ℕ) (s : List ℕ) (ss : Tokens) (out : List Pass) → After ss out (item offered a at s) → Rest (expected.Item a) (s ∷ ss) out
   unfolding item nested pass_item
   item_forth a at s ss out h = by_name (is_name s) h
     where
@@ -153,7 +153,7 @@ module _ (offered : List Pass) where
       by_name true g = by_found a (pass_named offered s) refl g
 
   -- after the items of an anchor
-  closed_forth : (a : Anchor) (s : List ℕ) (ss : Symbols) (out : List Pass) → s ≡ codes ")" → After ss out (Ok (closed a)) → Rest (expected.Separator a) (s ∷ ss) out
+  closed_forth : (a : Anchor) (s : List ℕ) (ss : Tokens) (out : List Pass) → s ≡ codes ")" → After ss out (Ok (closed a)) → Rest (expected.Separator a) (s ∷ ss) out
   unfolding closed
   closed_forth BuiltinModule s ss out same (rest, told, (none, nothing)) = (
     [],
@@ -170,7 +170,7 @@ module _ (offered : List Pass) where
     stand,
   )
 
-  separator_forth : (a : Anchor) (at : ℕ) (s : List ℕ) (ss : Symbols) (out : List Pass) → After ss out (separator a at s) → Rest (expected.Separator a) (s ∷ ss) out
+  separator_forth : (a : Anchor) (at : ℕ) (s : List ℕ) (ss : Tokens) (out : List Pass) → After ss out (separator a at s) → Rest (expected.Separator a) (s ∷ ss) out
   unfolding separator
   separator_forth a at s ss out h = by_comma (same_bytes s (codes ",")) refl h
     where
@@ -199,7 +199,7 @@ module _ (offered : List Pass) where
       by_comma true same g = comma a (same_text s (codes ",") (sym same)) g
       by_comma false other g = by_end (same_bytes s (codes ")")) refl g
 
-  first_forth : (a : Anchor) (at : ℕ) (s : List ℕ) (ss : Symbols) (out : List Pass) → After ss out (first_item offered a at s) → Rest (expected.FirstItem a) (s ∷ ss) out
+  first_forth : (a : Anchor) (at : ℕ) (s : List ℕ) (ss : Tokens) (out : List Pass) → After ss out (first_item offered a at s) → Rest (expected.FirstItem a) (s ∷ ss) out
   unfolding first_item closed
   first_forth a at s ss out h = by_end (same_bytes s (codes ")")) refl h
     where
@@ -227,7 +227,7 @@ module _ (offered : List Pass) where
       by_end true same g = ending a (same_text s (codes ")") (sym same)) g
       by_end false other g = items a (item_forth a at s ss out g)
 
-  opening_forth : (a : Anchor) (at : ℕ) (s : List ℕ) (ss : Symbols) (out : List Pass) → After ss out (opening a at s) → Rest (expected.Opening a) (s ∷ ss) out
+  opening_forth : (a : Anchor) (at : ℕ) (s : List ℕ) (ss : Tokens) (out : List Pass) → After ss out (opening a at s) → Rest (expected.Opening a) (s ∷ ss) out
   unfolding opening
   opening_forth a at s ss out h = go a (same_bytes s (codes "(")) refl h
     where
@@ -248,7 +248,7 @@ module _ (offered : List Pass) where
         stand,
       )
 
-  root_forth : (at : ℕ) (s : List ℕ) (ss : Symbols) (out : List Pass) → After ss out (root offered at s) → Rest expected.Root (s ∷ ss) out
+  root_forth : (at : ℕ) (s : List ℕ) (ss : Tokens) (out : List Pass) → After ss out (root offered at s) → Rest expected.Root (s ∷ ss) out
   unfolding root
   root_forth at s ss out h = go (same_bytes s (codes "builtin.module")) refl h
     where
@@ -271,7 +271,7 @@ module _ (offered : List Pass) where
         stand,
       )
 
-  step_forth : (e : Expected) (at : ℕ) (s : List ℕ) (ss : Symbols) (out : List Pass) → After ss out (step_over offered e at s) → Rest e (s ∷ ss) out
+  step_forth : (e : Expected) (at : ℕ) (s : List ℕ) (ss : Tokens) (out : List Pass) → After ss out (step_over offered e at s) → Rest e (s ∷ ss) out
   unfolding step_over
   step_forth expected.Root at s ss out h = root_forth at s ss out h
   step_forth (expected.Opening a) at s ss out h = opening_forth a at s ss out h
@@ -280,16 +280,16 @@ module _ (offered : List Pass) where
   step_forth (expected.Separator a) at s ss out h = separator_forth a at s ss out h
   step_forth expected.End at s ss out never = absurd never
 
-  -- ---- the step over a symbol that may stand
+  -- ---- the step over a token that may stand
 
   -- of a list that begins
-  head_is : (s t : List ℕ) (ss ts : Symbols) → s ∷ ss ≡ t ∷ ts → s ≡ t
+  head_is : (s t : List ℕ) (ss ts : Tokens) → s ∷ ss ≡ t ∷ ts → s ≡ t
   head_is s t ss ts e = cc
 
-  rest_is : (s t : List ℕ) (ss ts : Symbols) → s ∷ ss ≡ t ∷ ts → ss ≡ ts
+  rest_is : (s t : List ℕ) (ss ts : Tokens) → s ∷ ss ≡ t ∷ ts → ss ≡ ts
   rest_is s t ss ts e = cc
 
-  pass_back : (a : Anchor) (at : ℕ) (p : Pass) (ss : Symbols) (out rest : List Pass) → IsOffered offered p → runs_on a p ≡ true → out ≡ p ∷ rest
+  pass_back : (a : Anchor) (at : ℕ) (p : Pass) (ss : Tokens) (out rest : List Pass) → IsOffered offered p → runs_on a p ≡ true → out ≡ p ∷ rest
       → Rest (expected.Separator a) ss rest → After ss out (item offered a at (pass_name p))
   unfolding item pass_item
   pass_back a at p ss out rest named runs told h =
@@ -298,12 +298,12 @@ module _ (offered : List Pass) where
       (subst (λ b. After ss out (cond b (Ok (record { pass = Some p; next = expected.Separator a })) (Err (WrongPlace at)))) (sym runs)
       (rest, told, h)))
 
-  modules_back : (at : ℕ) (ss : Symbols) (out : List Pass) → Rest (expected.Opening HwModule) ss out → After ss out (item offered BuiltinModule at (codes "hw.module"))
+  modules_back : (at : ℕ) (ss : Tokens) (out : List Pass) → Rest (expected.Opening HwModule) ss out → After ss out (item offered BuiltinModule at (codes "hw.module"))
   unfolding item nested
   modules_back at ss out h =
       subst (λ x. After ss out (named_item BuiltinModule at (codes "hw.module") x)) (sym (no_pass offered)) (out, refl, h)
 
-  item_back : (a : Anchor) (at : ℕ) (s : List ℕ) (ss : Symbols) (out : List Pass) → Rest (expected.Item a) (s ∷ ss) out → After ss out (item offered a at s)
+  item_back : (a : Anchor) (at : ℕ) (s : List ℕ) (ss : Tokens) (out : List Pass) → Rest (expected.Item a) (s ∷ ss) out → After ss out (item offered a at s)
   item_back BuiltinModule at s ss out (on_design p, is, spelled, out_is, stands, stand) =
       subst (λ z. After ss out (item offered BuiltinModule at z)) (sym (head_is s (pass_name p) ss (more_items is) spelled))
       (pass_back BuiltinModule at p ss out (passes_in is) stands (on_any_design p) out_is
@@ -316,8 +316,8 @@ module _ (offered : List Pass) where
       (pass_back HwModule at p ss out (ps ++ passes_in is) one.0 one.1 out_is
       (ps, is, rest_is s (pass_name p) ss (more_passes ps ++ codes ")" ∷ more_items is) spelled, refl, run, stand))
 
-  -- the first symbol of items does not end them
-  item_goes_on : (a : Anchor) (s : List ℕ) (ss : Symbols) (out : List Pass) → Rest (expected.Item a) (s ∷ ss) out → same_bytes s (codes ")") ≡ false
+  -- the first token of items does not end them
+  item_goes_on : (a : Anchor) (s : List ℕ) (ss : Tokens) (out : List Pass) → Rest (expected.Item a) (s ∷ ss) out → same_bytes s (codes ")") ≡ false
   item_goes_on BuiltinModule s ss out (on_design p, is, spelled, out_is, stands, stand) =
       ap (λ z. same_bytes z (codes ")")) (head_is s (pass_name p) ss (more_items is) spelled) ∙ name_no_end p
   item_goes_on BuiltinModule s ss out (on_modules ps, is, spelled, out_is, stands, stand) =
@@ -325,7 +325,7 @@ module _ (offered : List Pass) where
   item_goes_on HwModule s ss out (p, ps, is, spelled, out_is, one, run, stand) =
       ap (λ z. same_bytes z (codes ")")) (head_is s (pass_name p) ss (more_passes ps ++ codes ")" ∷ more_items is) spelled) ∙ name_no_end p
 
-  closed_back : (a : Anchor) (s : List ℕ) (ss : Symbols) (out : List Pass) → Rest (expected.Separator a) (s ∷ ss) out → same_bytes s (codes ",") ≡ false
+  closed_back : (a : Anchor) (s : List ℕ) (ss : Tokens) (out : List Pass) → Rest (expected.Separator a) (s ∷ ss) out → same_bytes s (codes ",") ≡ false
       → (s ≡ codes ")") × After ss out (Ok (closed a))
   unfolding closed
   closed_back BuiltinModule s ss out ([], spelled, out_is, stand) other =
@@ -338,7 +338,7 @@ module _ (offered : List Pass) where
       let clash : true ≡ false =
       ap (λ z. same_bytes z (codes ",")) (sym (head_is s (codes ",") ss (pass_name p ∷ more_passes ps ++ codes ")" ∷ more_items is) spelled)) ∙ other in cc
 
-  comma_back : (a : Anchor) (s : List ℕ) (ss : Symbols) (out : List Pass) → Rest (expected.Separator a) (s ∷ ss) out → same_bytes s (codes ",") ≡ true
+  comma_back : (a : Anchor) (s : List ℕ) (ss : Tokens) (out : List Pass) → Rest (expected.Separator a) (s ∷ ss) out → same_bytes s (codes ",") ≡ true
       → Rest (expected.Item a) ss out
   comma_back BuiltinModule s ss out ([], spelled, out_is, stand) same =
       let clash : false ≡ true = ap (λ z. same_bytes z (codes ",")) (sym (head_is s (codes ")") ss [] spelled)) ∙ same in cc
@@ -349,7 +349,7 @@ module _ (offered : List Pass) where
   comma_back HwModule s ss out (p ∷ ps, is, spelled, out_is, run, stand) same =
       (p, ps, is, rest_is s (codes ",") ss (pass_name p ∷ more_passes ps ++ codes ")" ∷ more_items is) spelled, out_is, run.0, run.1, stand)
 
-  separator_back : (a : Anchor) (at : ℕ) (s : List ℕ) (ss : Symbols) (out : List Pass) → Rest (expected.Separator a) (s ∷ ss) out → After ss out (separator a at s)
+  separator_back : (a : Anchor) (at : ℕ) (s : List ℕ) (ss : Tokens) (out : List Pass) → Rest (expected.Separator a) (s ∷ ss) out → After ss out (separator a at s)
   unfolding separator
   separator_back a at s ss out h = go (same_bytes s (codes ",")) refl
     where
@@ -360,7 +360,7 @@ module _ (offered : List Pass) where
           let end = closed_back a s ss out h other in
           subst (λ z. After ss out (cond (same_bytes z (codes ")")) (Ok (closed a)) (Err (BadText at)))) (sym end.0) end.1
 
-  first_back : (a : Anchor) (at : ℕ) (s : List ℕ) (ss : Symbols) (out : List Pass) → Rest (expected.FirstItem a) (s ∷ ss) out → After ss out (first_item offered a at s)
+  first_back : (a : Anchor) (at : ℕ) (s : List ℕ) (ss : Tokens) (out : List Pass) → Rest (expected.FirstItem a) (s ∷ ss) out → After ss out (first_item offered a at s)
   unfolding first_item closed
   first_back a at s ss out h = go a h
     where
@@ -379,7 +379,7 @@ module _ (offered : List Pass) where
           ending HwModule (head_is s (codes ")") ss (more_items is) spelled) (out, refl, (is, rest_is s (codes ")") ss (more_items is) spelled, out_is, stand))
       go HwModule (p ∷ ps, is, spelled, out_is, run, stand) = items HwModule (p, ps, is, spelled, out_is, run.0, run.1, stand)
 
-  step_back : (e : Expected) (at : ℕ) (s : List ℕ) (ss : Symbols) (out : List Pass) → Rest e (s ∷ ss) out → After ss out (step_over offered e at s)
+  step_back : (e : Expected) (at : ℕ) (s : List ℕ) (ss : Tokens) (out : List Pass) → Rest e (s ∷ ss) out → After ss out (step_over offered e at s)
   unfolding step_over root opening
   step_back expected.Root at s ss out (is, spelled, out_is, stand) =
       subst (λ z. After ss out (root offered at z)) (sym (head_is s (codes "builtin.module") ss (codes "(" ∷ items_spelled is) spelled))
@@ -419,38 +419,38 @@ module _ (offered : List Pass) where
   end_forth got expected.End at all h = let same : got ≡ all = cc in ([], sym same ∙ none_added got, (refl, refl))
 
   read_forth : (got : List Pass) (e : Expected) (k at : ℕ) (bs : List ℕ) (all : List Pass) → passes_after offered got e k at bs ≡ Ok all
-      → (out : List Pass) × (all ≡ got ++ out) × Rest e (symbols_after k bs) out
-  unfolding passes_after symbols_after
+      → (out : List Pass) × (all ≡ got ++ out) × Rest e (tokens_after k bs) out
+  unfolding passes_after tokens_after
   read_forth got e k at [] all h = end_forth got e at all h
   read_forth got e (suc k) at (b ∷ bs) all h = read_forth got e k (at + 1) bs all h
   read_forth got e zero at (b ∷ bs) all h =
-      by_space (λ g. read_forth got e zero (at + 1) bs all g) (λ more next g. read_forth more next (length (symbol_in (b ∷ bs)) - 1) (at + 1) bs all g) (is_space b) h
+      by_space (λ g. read_forth got e zero (at + 1) bs all g) (λ more next g. read_forth more next (length (token_in (b ∷ bs)) - 1) (at + 1) bs all g) (is_space b) h
     where
-      After_symbol : List Pass → Expected → Type 0
-      After_symbol more next =
-          passes_after offered more next (length (symbol_in (b ∷ bs)) - 1) (at + 1) bs ≡ Ok all
-          → (out : List Pass) × (all ≡ more ++ out) × Rest next (symbols_after (length (symbol_in (b ∷ bs)) - 1) bs) out
+      After_token : List Pass → Expected → Type 0
+      After_token more next =
+          passes_after offered more next (length (token_in (b ∷ bs)) - 1) (at + 1) bs ≡ Ok all
+          → (out : List Pass) × (all ≡ more ++ out) × Rest next (tokens_after (length (token_in (b ∷ bs)) - 1) bs) out
 
-      by_step : ((more : List Pass) (next : Expected) → After_symbol more next) → (r : Result Step PipelineFail) → step_over offered e at (symbol_in (b ∷ bs)) ≡ r
-          → after got r (λ more next. passes_after offered more next (length (symbol_in (b ∷ bs)) - 1) (at + 1) bs) ≡ Ok all
-          → (out : List Pass) × (all ≡ got ++ out) × Rest e (symbol_in (b ∷ bs) ∷ symbols_after (length (symbol_in (b ∷ bs)) - 1) bs) out
+      by_step : ((more : List Pass) (next : Expected) → After_token more next) → (r : Result Step PipelineFail) → step_over offered e at (token_in (b ∷ bs)) ≡ r
+          → after got r (λ more next. passes_after offered more next (length (token_in (b ∷ bs)) - 1) (at + 1) bs) ≡ Ok all
+          → (out : List Pass) × (all ≡ got ++ out) × Rest e (token_in (b ∷ bs) ∷ tokens_after (length (token_in (b ∷ bs)) - 1) bs) out
       by_step following (Err fail) is g = cc
       by_step following (Ok s) is g =
           let (rest, same, there) = following (added got s.pass) s.next g in (
             passes_told s.pass ++ rest,
             same ∙ added_told got s.pass rest,
-            step_forth e at (symbol_in (b ∷ bs)) (symbols_after (length (symbol_in (b ∷ bs)) - 1) bs) (passes_told s.pass ++ rest)
-                (subst (After (symbols_after (length (symbol_in (b ∷ bs)) - 1) bs) (passes_told s.pass ++ rest)) (sym is) (rest, refl, there)),
+            step_forth e at (token_in (b ∷ bs)) (tokens_after (length (token_in (b ∷ bs)) - 1) bs) (passes_told s.pass ++ rest)
+                (subst (After (tokens_after (length (token_in (b ∷ bs)) - 1) bs) (passes_told s.pass ++ rest)) (sym is) (rest, refl, there)),
           )
 
-      by_space : (passes_after offered got e zero (at + 1) bs ≡ Ok all → (out : List Pass) × (all ≡ got ++ out) × Rest e (symbols_after zero bs) out)
-          → ((more : List Pass) (next : Expected) → After_symbol more next) → (x : Bool)
+      by_space : (passes_after offered got e zero (at + 1) bs ≡ Ok all → (out : List Pass) × (all ≡ got ++ out) × Rest e (tokens_after zero bs) out)
+          → ((more : List Pass) (next : Expected) → After_token more next) → (x : Bool)
           → cond x (passes_after offered got e zero (at + 1) bs)
-          (after got (step_over offered e at (symbol_in (b ∷ bs))) (λ more next. passes_after offered more next (length (symbol_in (b ∷ bs)) - 1) (at + 1) bs)) ≡ Ok all
+          (after got (step_over offered e at (token_in (b ∷ bs))) (λ more next. passes_after offered more next (length (token_in (b ∷ bs)) - 1) (at + 1) bs)) ≡ Ok all
           → (out : List Pass) × (all ≡ got ++ out)
-          × Rest e (cond x (symbols_after zero bs) (symbol_in (b ∷ bs) ∷ symbols_after (length (symbol_in (b ∷ bs)) - 1) bs)) out
+          × Rest e (cond x (tokens_after zero bs) (token_in (b ∷ bs) ∷ tokens_after (length (token_in (b ∷ bs)) - 1) bs)) out
       by_space past following true g = past g
-      by_space past following false g = by_step following (step_over offered e at (symbol_in (b ∷ bs))) refl g
+      by_space past following false g = by_step following (step_over offered e at (token_in (b ∷ bs))) refl g
 
   end_back : (got : List Pass) (e : Expected) (at : ℕ) (out : List Pass) → Rest e [] out → ended got e at ≡ Ok (got ++ out)
   end_back got expected.Root at out (is, spelled, out_is, stand) = cc
@@ -470,47 +470,47 @@ module _ (offered : List Pass) where
   end_back got (expected.Separator HwModule) at out (p ∷ ps, is, spelled, out_is, run, stand) = cc
   end_back got expected.End at out (none, nothing) = ap Ok (none_added got ∙ ap (λ z. got ++ z) (sym nothing))
 
-  read_back : (got : List Pass) (e : Expected) (k at : ℕ) (bs : List ℕ) (out : List Pass) → Rest e (symbols_after k bs) out
+  read_back : (got : List Pass) (e : Expected) (k at : ℕ) (bs : List ℕ) (out : List Pass) → Rest e (tokens_after k bs) out
       → passes_after offered got e k at bs ≡ Ok (got ++ out)
-  unfolding passes_after symbols_after
+  unfolding passes_after tokens_after
   read_back got e k at [] out h = end_back got e at out h
   read_back got e (suc k) at (b ∷ bs) out h = read_back got e k (at + 1) bs out h
   read_back got e zero at (b ∷ bs) out h =
-      by_space (λ g. read_back got e zero (at + 1) bs out g) (λ more next rest g. read_back more next (length (symbol_in (b ∷ bs)) - 1) (at + 1) bs rest g) (is_space b) h
+      by_space (λ g. read_back got e zero (at + 1) bs out g) (λ more next rest g. read_back more next (length (token_in (b ∷ bs)) - 1) (at + 1) bs rest g) (is_space b) h
     where
       Read_after : List Pass → Expected → List Pass → Type 0
       Read_after more next rest =
-          Rest next (symbols_after (length (symbol_in (b ∷ bs)) - 1) bs) rest
-          → passes_after offered more next (length (symbol_in (b ∷ bs)) - 1) (at + 1) bs ≡ Ok (more ++ rest)
+          Rest next (tokens_after (length (token_in (b ∷ bs)) - 1) bs) rest
+          → passes_after offered more next (length (token_in (b ∷ bs)) - 1) (at + 1) bs ≡ Ok (more ++ rest)
 
       by_step : ((more : List Pass) (next : Expected) (rest : List Pass) → Read_after more next rest) → (r : Result Step PipelineFail)
-          → After (symbols_after (length (symbol_in (b ∷ bs)) - 1) bs) out r
-          → after got r (λ more next. passes_after offered more next (length (symbol_in (b ∷ bs)) - 1) (at + 1) bs) ≡ Ok (got ++ out)
+          → After (tokens_after (length (token_in (b ∷ bs)) - 1) bs) out r
+          → after got r (λ more next. passes_after offered more next (length (token_in (b ∷ bs)) - 1) (at + 1) bs) ≡ Ok (got ++ out)
       by_step following (Err fail) never = absurd never
       by_step following (Ok s) (rest, told, there) =
           following (added got s.pass) s.next rest there ∙ ap Ok (added_told got s.pass rest ∙ ap (λ z. got ++ z) (sym told))
 
-      by_space : (Rest e (symbols_after zero bs) out → passes_after offered got e zero (at + 1) bs ≡ Ok (got ++ out))
+      by_space : (Rest e (tokens_after zero bs) out → passes_after offered got e zero (at + 1) bs ≡ Ok (got ++ out))
           → ((more : List Pass) (next : Expected) (rest : List Pass) → Read_after more next rest) → (x : Bool)
-          → Rest e (cond x (symbols_after zero bs) (symbol_in (b ∷ bs) ∷ symbols_after (length (symbol_in (b ∷ bs)) - 1) bs)) out
+          → Rest e (cond x (tokens_after zero bs) (token_in (b ∷ bs) ∷ tokens_after (length (token_in (b ∷ bs)) - 1) bs)) out
           → cond x (passes_after offered got e zero (at + 1) bs)
-          (after got (step_over offered e at (symbol_in (b ∷ bs))) (λ more next. passes_after offered more next (length (symbol_in (b ∷ bs)) - 1) (at + 1) bs)) ≡ Ok (got ++ out)
+          (after got (step_over offered e at (token_in (b ∷ bs))) (λ more next. passes_after offered more next (length (token_in (b ∷ bs)) - 1) (at + 1) bs)) ≡ Ok (got ++ out)
       by_space past following true g = past g
       by_space past following false g =
-          by_step following (step_over offered e at (symbol_in (b ∷ bs)))
-          (step_back e at (symbol_in (b ∷ bs)) (symbols_after (length (symbol_in (b ∷ bs)) - 1) bs) out g)
+          by_step following (step_over offered e at (token_in (b ∷ bs)))
+          (step_back e at (token_in (b ∷ bs)) (tokens_after (length (token_in (b ∷ bs)) - 1) bs) out g)
 
 -- ---- whole texts
 
 -- a text that reads spells a pipeline of those passes
 pub read_is_spelled : (offered : List Pass) (text : List ℕ) (ps : List Pass) → passes offered text ≡ Ok ps
-    → (is : List Item) × (symbols text ≡ pipeline_spelled is) × (ps ≡ passes_in is) × AllMayStand offered is
+    → (is : List Item) × (tokens text ≡ pipeline_spelled is) × (ps ≡ passes_in is) × AllMayStand offered is
 unfolding passes
 read_is_spelled offered text ps h =
     let (out, same, (is, spelled, out_is, stand)) = read_forth offered [] expected.Root 0 0 text ps h in (is, spelled, same ∙ out_is, stand)
 
 -- a text that spells a pipeline reads as its passes
-pub spelled_is_read : (offered : List Pass) (text : List ℕ) (is : List Item) → symbols text ≡ pipeline_spelled is → AllMayStand offered is
+pub spelled_is_read : (offered : List Pass) (text : List ℕ) (is : List Item) → tokens text ≡ pipeline_spelled is → AllMayStand offered is
     → passes offered text ≡ Ok (passes_in is)
 unfolding passes
 spelled_is_read offered text is spelled stand = read_back offered [] expected.Root 0 0 text (passes_in is) (is, spelled, refl, stand)

@@ -1,22 +1,22 @@
--- Whole pipelines, as the symbols of a text (MLIR documentation, "Pass infrastructure": textual pass pipeline specification).
+-- Whole pipelines, as the tokens of a text (MLIR documentation, "Pass infrastructure": textual pass pipeline specification).
 use Rattle.std.specs.Prelude.{◌≡◌, ℕ, zero, suc, ◌-◌, true, cond, List, [], ◌∷◌, ◌++◌, length, Some, codes}
 use Rattle.pass_pipeline.specs.Passes.{pass_name, runs_on, pass_named}
-use Rattle.pass_pipeline.specs.Symbols.{is_space, symbol_in}
+use Rattle.pass_pipeline.specs.Tokens.{is_space, token_in}
 use Rattle.pass_pipeline.specs.declared.pass.Pass.{Pass}
 use Rattle.pass_pipeline.specs.declared.pass.Anchor.TheVariants.{HwModule}
 
 -- ---- texts
 
--- the symbols of bytes of which the first `skipped` ones are of a symbol before them: names and single bytes, without spaces
-unfoldable pub symbols_after : ℕ → List ℕ → List (List ℕ)
-symbols_after skipped [] = []
-symbols_after (suc skipped) (b ∷ bs) = symbols_after skipped bs
-symbols_after zero (b ∷ bs) =
-    cond (is_space b) (symbols_after zero bs) (symbol_in (b ∷ bs) ∷ symbols_after (length (symbol_in (b ∷ bs)) - 1) bs)
+-- the tokens of bytes of which the first `skipped` ones are of a token before them: names and single bytes, without spaces
+unfoldable pub tokens_after : ℕ → List ℕ → List (List ℕ)
+tokens_after skipped [] = []
+tokens_after (suc skipped) (b ∷ bs) = tokens_after skipped bs
+tokens_after zero (b ∷ bs) =
+    cond (is_space b) (tokens_after zero bs) (token_in (b ∷ bs) ∷ tokens_after (length (token_in (b ∷ bs)) - 1) bs)
 
--- the symbols of a text
-abbrev pub symbols : List ℕ → List (List ℕ)
-symbols text = symbols_after 0 text
+-- the tokens of a text
+abbrev pub tokens : List ℕ → List (List ℕ)
+tokens text = tokens_after 0 text
 
 -- ---- pipelines
 

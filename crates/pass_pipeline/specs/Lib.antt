@@ -1,6 +1,6 @@
 -- The words of this crate's contracts.
 pub mod Passes
-pub mod Symbols
+pub mod Tokens
 pub mod Steps
 pub mod Pipelines
 pub mod Grammar

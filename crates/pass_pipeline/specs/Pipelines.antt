@@ -1,6 +1,6 @@
 -- The passes of a pipeline, read from left to right (MLIR documentation, "Pass infrastructure": textual pass pipeline specification).
 use Rattle.std.specs.Prelude.{◌≡◌, ℕ, zero, suc, ◌+◌, ◌-◌, cond, List, [], ◌∷◌, ◌++◌, length, Option, Some, None, Result, Ok, Err, ⊤}
-use Rattle.pass_pipeline.specs.Symbols.{is_space, symbol_in}
+use Rattle.pass_pipeline.specs.Tokens.{is_space, token_in}
 use Rattle.pass_pipeline.specs.Steps.{step_over}
 use Rattle.pass_pipeline.specs.declared.pass.Pass.{Pass}
 use Rattle.pass_pipeline.specs.declared.step.Expected.{Expected}
@@ -25,18 +25,18 @@ ended got (Item anchor) at = Err (BadText at)
 ended got (Separator anchor) at = Err (BadText at)
 ended got End at = Ok got
 
--- what is read after a symbol
+-- what is read after a token
 abbrev pub after : List Pass → Result Step PipelineFail → (List Pass → Expected → Result (List Pass) PipelineFail) → Result (List Pass) PipelineFail
 after got (Err fail) later = Err fail
 after got (Ok s) later = later (added got s.pass) s.next
 
--- the passes got before and those of the bytes from this offset on, of which the first `skipped` ones are still of the last symbol
+-- the passes got before and those of the bytes from this offset on, of which the first `skipped` ones are still of the last token
 unfoldable pub passes_after : List Pass → List Pass → Expected → ℕ → ℕ → List ℕ → Result (List Pass) PipelineFail
 passes_after offered got expected skipped at [] = ended got expected at
 passes_after offered got expected (suc skipped) at (b ∷ bs) = passes_after offered got expected skipped (at + 1) bs
 passes_after offered got expected zero at (b ∷ bs) =
     cond (is_space b) (passes_after offered got expected zero (at + 1) bs)
-    (after got (step_over offered expected at (symbol_in (b ∷ bs))) (λ more next. passes_after offered more next (length (symbol_in (b ∷ bs)) - 1) (at + 1) bs))
+    (after got (step_over offered expected at (token_in (b ∷ bs))) (λ more next. passes_after offered more next (length (token_in (b ∷ bs)) - 1) (at + 1) bs))
 
 -- the passes of a text, where these are on offer
 unfoldable pub passes : List Pass → List ℕ → Result (List Pass) PipelineFail

@@ -2,7 +2,7 @@
 -- `builtin.module(ITEMS)`, where an item is a pass or `hw.module(PASSES)`.
 use Rattle.std.specs.Prelude.{ℕ, cond, not, List, Option, Some, None, Result, Ok, Err, codes}
 use Rattle.pass_pipeline.specs.Passes.{same_bytes, runs_on, pass_named}
-use Rattle.pass_pipeline.specs.Symbols.{is_name}
+use Rattle.pass_pipeline.specs.Tokens.{is_name}
 use Rattle.pass_pipeline.specs.declared.pass.Pass.{Pass}
 use Rattle.pass_pipeline.specs.declared.pass.Anchor.{Anchor}
 use Rattle.pass_pipeline.specs.declared.pass.Anchor.TheVariants.{BuiltinModule, HwModule}
@@ -12,7 +12,7 @@ use Rattle.pass_pipeline.specs.declared.step.Step.{Step}
 use Rattle.pass_pipeline.specs.declared.pipeline.PipelineFail.{PipelineFail}
 use Rattle.pass_pipeline.specs.declared.pipeline.PipelineFail.TheVariants.{UnknownPass, WrongPlace, BadText}
 
--- a symbol that names no pass
+-- a token that names no pass
 abbrev pub mark : Expected → Result Step PipelineFail
 mark next = Ok (record { pass = None; next = next })
 
@@ -28,13 +28,13 @@ misplaced at None = Err (UnknownPass at)
 
 -- at the start: `builtin.module`
 unfoldable pub root : List Pass → ℕ → List ℕ → Result Step PipelineFail
-root offered at symbol =
-    cond (same_bytes symbol (codes "builtin.module")) (mark (Opening BuiltinModule))
-    (cond (not (is_name symbol)) (Err (BadText at)) (misplaced at (pass_named offered symbol)))
+root offered at token =
+    cond (same_bytes token (codes "builtin.module")) (mark (Opening BuiltinModule))
+    (cond (not (is_name token)) (Err (BadText at)) (misplaced at (pass_named offered token)))
 
 -- after the name of an operation: `(`
 unfoldable pub opening : Anchor → ℕ → List ℕ → Result Step PipelineFail
-opening anchor at symbol = cond (same_bytes symbol (codes "(")) (mark (FirstItem anchor)) (Err (BadText at))
+opening anchor at token = cond (same_bytes token (codes "(")) (mark (FirstItem anchor)) (Err (BadText at))
 
 -- a pass, within the parentheses of an operation
 unfoldable pub pass_item : Pass → Anchor → ℕ → Result Step PipelineFail
@@ -42,32 +42,32 @@ pass_item pass anchor at = cond (runs_on anchor pass) (Ok (record { pass = Some 
 
 -- a name that is no pass: `hw.module`, within `builtin.module`
 unfoldable pub nested : Anchor → ℕ → List ℕ → Result Step PipelineFail
-nested BuiltinModule at symbol = cond (same_bytes symbol (codes "hw.module")) (mark (Opening HwModule)) (Err (UnknownPass at))
-nested HwModule at symbol = Err (UnknownPass at)
+nested BuiltinModule at token = cond (same_bytes token (codes "hw.module")) (mark (Opening HwModule)) (Err (UnknownPass at))
+nested HwModule at token = Err (UnknownPass at)
 
 -- an item by its name: a pass where it is one
 abbrev pub named_item : Anchor → ℕ → List ℕ → Option Pass → Result Step PipelineFail
-named_item anchor at symbol (Some pass) = pass_item pass anchor at
-named_item anchor at symbol None = nested anchor at symbol
+named_item anchor at token (Some pass) = pass_item pass anchor at
+named_item anchor at token None = nested anchor at token
 
 -- an item
 unfoldable pub item : List Pass → Anchor → ℕ → List ℕ → Result Step PipelineFail
-item offered anchor at symbol = cond (not (is_name symbol)) (Err (BadText at)) (named_item anchor at symbol (pass_named offered symbol))
+item offered anchor at token = cond (not (is_name token)) (Err (BadText at)) (named_item anchor at token (pass_named offered token))
 
 -- after `(`: `)` or an item
 unfoldable pub first_item : List Pass → Anchor → ℕ → List ℕ → Result Step PipelineFail
-first_item offered anchor at symbol = cond (same_bytes symbol (codes ")")) (Ok (closed anchor)) (item offered anchor at symbol)
+first_item offered anchor at token = cond (same_bytes token (codes ")")) (Ok (closed anchor)) (item offered anchor at token)
 
 -- after an item: `,` or `)`
 unfoldable pub separator : Anchor → ℕ → List ℕ → Result Step PipelineFail
-separator anchor at symbol =
-    cond (same_bytes symbol (codes ",")) (mark (Item anchor)) (cond (same_bytes symbol (codes ")")) (Ok (closed anchor)) (Err (BadText at)))
+separator anchor at token =
+    cond (same_bytes token (codes ",")) (mark (Item anchor)) (cond (same_bytes token (codes ")")) (Ok (closed anchor)) (Err (BadText at)))
 
--- a symbol with this offset, where this is expected
+-- a token with this offset, where this is expected
 unfoldable pub step_over : List Pass → Expected → ℕ → List ℕ → Result Step PipelineFail
-step_over offered Root at symbol = root offered at symbol
-step_over offered (Opening anchor) at symbol = opening anchor at symbol
-step_over offered (FirstItem anchor) at symbol = first_item offered anchor at symbol
-step_over offered (Item anchor) at symbol = item offered anchor at symbol
-step_over offered (Separator anchor) at symbol = separator anchor at symbol
-step_over offered End at symbol = Err (BadText at)
+step_over offered Root at token = root offered at token
+step_over offered (Opening anchor) at token = opening anchor at token
+step_over offered (FirstItem anchor) at token = first_item offered anchor at token
+step_over offered (Item anchor) at token = item offered anchor at token
+step_over offered (Separator anchor) at token = separator anchor at token
+step_over offered End at token = Err (BadText at)

@@ -5,4 +5,4 @@ pub mod laws;
 pub mod pass;
 pub mod pipeline;
 mod step;
-mod symbol;
+mod token;

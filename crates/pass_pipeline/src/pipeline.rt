@@ -4,7 +4,7 @@ ghost use Rattle.pass_pipeline.specs.Pipelines.{passes, added, ended, Reads};
 
 use crate::pass::Pass;
 use crate::step::{Expected, step_over};
-use crate::symbol::symbol_in;
+use crate::token::token_in;
 use std::alloc::{AllocError, Global};
 use std::marker::Model;
 
@@ -89,7 +89,7 @@ pub fn read_pipeline(
 {
     let mut passes = Vec::new(alloc);
     let mut expected = Expected::Root;
-    // bytes of the last symbol that are still to pass
+    // bytes of the last token that are still to pass
     let mut following: usize = 0;
     for (at, byte) in text.iter().enumerate() {
         if following > 0 {
@@ -99,12 +99,12 @@ pub fn read_pipeline(
         if *byte == b' ' {
             continue;
         }
-        let symbol = symbol_in(&text[at..]);
-        match step_over(offered, expected, at as u64, symbol) {
+        let token = token_in(&text[at..]);
+        match step_over(offered, expected, at as u64, token) {
             Ok(step) => {
                 push_named(&mut passes, step.pass)?;
                 expected = step.next;
-                following = symbol.len().saturating_sub(1);
+                following = token.len().saturating_sub(1);
             }
             Err(fail) => return Err(PipelineError::Bad(fail)),
         }
@@ -112,7 +112,7 @@ pub fn read_pipeline(
     finish(passes, expected, text.len() as u64)
 }
 
-// Adds the pass that a symbol names, if it names one.
+// Adds the pass that a token names, if it names one.
 fn push_named(passes: &mut Vec<Pass>, pass: Option<Pass>) -> Result<(), AllocError>
     ensures { OnOk result (passes.new.items ≡ added passes.old.items pass) }
 {

@@ -1,10 +1,10 @@
-//! What may stand next in a pipeline, symbol by symbol.
+//! What may stand next in a pipeline, token by token.
 ghost use Rattle.std.specs.Prelude.{◌≡◌};
 ghost use Rattle.pass_pipeline.specs.Steps.{step_over, root, opening, first_item, item, pass_item, nested, separator, closed};
 
 use crate::pass::{Anchor, Pass, pass_named};
 use crate::pipeline::PipelineFail;
-use crate::symbol::is_name;
+use crate::token::is_name;
 
 /// What may stand next.
 #[derive(Clone, Copy)]
@@ -23,7 +23,7 @@ pub(crate) enum Expected {
     End,
 }
 
-/// A symbol that may stand in its place.
+/// A token that may stand in its place.
 #[derive(Clone, Copy)]
 pub(crate) struct Step {
     /// The pass that it names.
@@ -32,41 +32,41 @@ pub(crate) struct Step {
     pub(crate) next: Expected,
 }
 
-/// The step over a symbol with this offset. Fails as [`crate::pipeline::read_pipeline`] does.
+/// The step over a token with this offset. Fails as [`crate::pipeline::read_pipeline`] does.
 #[tactic(auto, unfolding(crate::specs::Steps::step_over))]
 pub(crate) fn step_over(
     offered: &[Pass],
     expected: Expected,
     at: u64,
-    symbol: &[u8],
+    token: &[u8],
 ) -> Result<Step, PipelineFail>
-    ensures { result ≡ step_over offered.now expected at symbol.now }
+    ensures { result ≡ step_over offered.now expected at token.now }
 {
     match expected {
-        Expected::Root => root(offered, at, symbol),
-        Expected::Opening(anchor) => opening_parenthesis(anchor, at, symbol),
-        Expected::FirstItem(anchor) => first_item(offered, anchor, at, symbol),
-        Expected::Item(anchor) => item(offered, anchor, at, symbol),
-        Expected::Separator(anchor) => separator(anchor, at, symbol),
+        Expected::Root => root(offered, at, token),
+        Expected::Opening(anchor) => opening_parenthesis(anchor, at, token),
+        Expected::FirstItem(anchor) => first_item(offered, anchor, at, token),
+        Expected::Item(anchor) => item(offered, anchor, at, token),
+        Expected::Separator(anchor) => separator(anchor, at, token),
         Expected::End => Err(PipelineFail::BadText(at)),
     }
 }
 
 // `builtin.module`.
 #[tactic(auto, unfolding(crate::specs::Steps::root))]
-fn root(offered: &[Pass], at: u64, symbol: &[u8]) -> Result<Step, PipelineFail>
-    ensures { result ≡ root offered.now at symbol.now }
+fn root(offered: &[Pass], at: u64, token: &[u8]) -> Result<Step, PipelineFail>
+    ensures { result ≡ root offered.now at token.now }
 {
-    if symbol == b"builtin.module".as_slice() {
+    if token == b"builtin.module".as_slice() {
         return Ok(Step {
             pass: None,
             next: Expected::Opening(Anchor::BuiltinModule),
         });
     }
-    if !is_name(symbol) {
+    if !is_name(token) {
         return Err(PipelineFail::BadText(at));
     }
-    match pass_named(offered, symbol) {
+    match pass_named(offered, token) {
         Some(_) => Err(PipelineFail::WrongPlace(at)),
         None => Err(PipelineFail::UnknownPass(at)),
     }
@@ -74,10 +74,10 @@ fn root(offered: &[Pass], at: u64, symbol: &[u8]) -> Result<Step, PipelineFail>
 
 // `(`.
 #[tactic(auto, unfolding(crate::specs::Steps::opening))]
-fn opening_parenthesis(anchor: Anchor, at: u64, symbol: &[u8]) -> Result<Step, PipelineFail>
-    ensures { result ≡ opening anchor at symbol.now }
+fn opening_parenthesis(anchor: Anchor, at: u64, token: &[u8]) -> Result<Step, PipelineFail>
+    ensures { result ≡ opening anchor at token.now }
 {
-    if symbol == b"(".as_slice() {
+    if token == b"(".as_slice() {
         Ok(Step {
             pass: None,
             next: Expected::FirstItem(anchor),
@@ -89,32 +89,27 @@ fn opening_parenthesis(anchor: Anchor, at: u64, symbol: &[u8]) -> Result<Step, P
 
 // `)` or an item.
 #[tactic(auto, unfolding(crate::specs::Steps::first_item))]
-fn first_item(
-    offered: &[Pass],
-    anchor: Anchor,
-    at: u64,
-    symbol: &[u8],
-) -> Result<Step, PipelineFail>
-    ensures { result ≡ first_item offered.now anchor at symbol.now }
+fn first_item(offered: &[Pass], anchor: Anchor, at: u64, token: &[u8]) -> Result<Step, PipelineFail>
+    ensures { result ≡ first_item offered.now anchor at token.now }
 {
-    if symbol == b")".as_slice() {
+    if token == b")".as_slice() {
         Ok(closing_parenthesis(anchor))
     } else {
-        item(offered, anchor, at, symbol)
+        item(offered, anchor, at, token)
     }
 }
 
 // The name of a pass or of an anchor.
 #[tactic(auto, unfolding(crate::specs::Steps::item))]
-fn item(offered: &[Pass], anchor: Anchor, at: u64, symbol: &[u8]) -> Result<Step, PipelineFail>
-    ensures { result ≡ item offered.now anchor at symbol.now }
+fn item(offered: &[Pass], anchor: Anchor, at: u64, token: &[u8]) -> Result<Step, PipelineFail>
+    ensures { result ≡ item offered.now anchor at token.now }
 {
-    if !is_name(symbol) {
+    if !is_name(token) {
         return Err(PipelineFail::BadText(at));
     }
-    match pass_named(offered, symbol) {
+    match pass_named(offered, token) {
         Some(pass) => pass_item(pass, anchor, at),
-        None => nested_anchor(anchor, at, symbol),
+        None => nested_anchor(anchor, at, token),
     }
 }
 
@@ -135,11 +130,11 @@ fn pass_item(pass: Pass, anchor: Anchor, at: u64) -> Result<Step, PipelineFail>
 
 // A name that is no pass: `hw.module`, in `builtin.module` alone.
 #[tactic(auto, unfolding(crate::specs::Steps::nested))]
-fn nested_anchor(anchor: Anchor, at: u64, symbol: &[u8]) -> Result<Step, PipelineFail>
-    ensures { result ≡ nested anchor at symbol.now }
+fn nested_anchor(anchor: Anchor, at: u64, token: &[u8]) -> Result<Step, PipelineFail>
+    ensures { result ≡ nested anchor at token.now }
 {
     match anchor {
-        Anchor::BuiltinModule if symbol == b"hw.module".as_slice() => Ok(Step {
+        Anchor::BuiltinModule if token == b"hw.module".as_slice() => Ok(Step {
             pass: None,
             next: Expected::Opening(Anchor::HwModule),
         }),
@@ -149,16 +144,16 @@ fn nested_anchor(anchor: Anchor, at: u64, symbol: &[u8]) -> Result<Step, Pipelin
 
 // `,` or `)`.
 #[tactic(auto, unfolding(crate::specs::Steps::separator))]
-fn separator(anchor: Anchor, at: u64, symbol: &[u8]) -> Result<Step, PipelineFail>
-    ensures { result ≡ separator anchor at symbol.now }
+fn separator(anchor: Anchor, at: u64, token: &[u8]) -> Result<Step, PipelineFail>
+    ensures { result ≡ separator anchor at token.now }
 {
-    if symbol == b",".as_slice() {
+    if token == b",".as_slice() {
         return Ok(Step {
             pass: None,
             next: Expected::Item(anchor),
         });
     }
-    if symbol == b")".as_slice() {
+    if token == b")".as_slice() {
         return Ok(closing_parenthesis(anchor));
     }
     Err(PipelineFail::BadText(at))

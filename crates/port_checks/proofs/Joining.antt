@@ -1,9 +1,8 @@
 -- Which pairs the instances of a design join, and which ports its registers name.
-use Rattle.std.proofs.Common.{◌≡◌, ◌⊎◌, ◌<◌, ℕ, zero, suc, ◌+◌, Bool, true, false, cond, List, [], length, map, slice_get, Option, Some, None, is_some, refl, sym, ap, subst, ◌∙◌, inl, inr, arith}
-use Rattle.wiring.specs.Options.{bind, omap}
+use Rattle.std.proofs.Common.{◌≡◌, ◌⊎◌, ◌<◌, ℕ, zero, suc, ◌+◌, Bool, true, false, cond, List, [], length, map, slice_get, Option, Some, None, is_some, refl, sym, ap, subst, ◌∙◌, inl, inr, arith, option_and_then, option_map}
 use Rattle.wiring.specs.Wiring.{In}
 use Rattle.wiring.proofs.Members.{In-append_left, In-append_right, In-append_cases, In-flat_map, from_In-flat_map}
-use Rattle.wiring.proofs.Options.{bind_some, omap_some}
+use Rattle.wiring.proofs.Options.{and_then_some, option_map_some}
 use Rattle.hw_model.specs.Kinds.{Instance}
 use Rattle.hw_model.specs.Design.{Ref, Port, Op, Module, Design, find_module, instance_in}
 use Rattle.hw_model.specs.Design.Ref.{port, result, undefined}
@@ -60,14 +59,14 @@ named_some d p here =
     let found = made_some named_in 0 d p here in
     let op = from_In-flat_map (λ (o : Op). place_of (0 + found.0) (named_port found.1.ports o)) p found.1.body found.3 in
     let place = in_place (0 + found.0) (named_port found.1.ports op.0) p op.2 in
-    let bit = bit_port_some found.1 (omap (λ (r : ResetBy). r.signal) (async_reset_in op.0)) p.port place.0 in
+    let bit = bit_port_some found.1 (option_map (λ (r : ResetBy). r.signal) (async_reset_in op.0)) p.port place.0 in
     let number : p.owner ≡ found.0 = place.1 ∙ (let e : 0 + found.0 ≡ found.0 = omega arith in e) in
     record {
       owner = found.1;
       op = op.0;
       there = ap (slice_get d) number ∙ found.2;
       member = op.1;
-      names = omap_some (λ (r : ResetBy). r.signal) (async_reset_in op.0) bit.0;
+      names = option_map_some (λ (r : ResetBy). r.signal) (async_reset_in op.0) bit.0;
       is_bit = bit.1;
     }
 
@@ -79,8 +78,8 @@ some_named d i j is =
   where
     port_is : named_port is.owner.ports is.op ≡ Some j
     port_is =
-        some_bit_port is.owner (omap (λ (r : ResetBy). r.signal) (async_reset_in is.op)) j
-        (ap (omap (λ (r : ResetBy). r.signal)) is.names.1 ∙ ap Some is.names.2) is.is_bit
+        some_bit_port is.owner (option_map (λ (r : ResetBy). r.signal) (async_reset_in is.op)) j
+        (ap (option_map (λ (r : ResetBy). r.signal)) is.names.1 ∙ ap Some is.names.2) is.is_bit
 
 -- ---- what instances join
 
@@ -101,8 +100,8 @@ pub record IsJoined (d : Design) (i j c k : ℕ) : Type 0 where
 
 pub joins_by : (d : Design) (i j c k : ℕ) (is : IsJoined d i j c k) → Joins d j is.op is.called k
 joins_by d i j c k is = (
-  ap (λ x. bind x (λ (y : Instance). find_module d y.symbol)) is.is_instance
-      ∙ sym (module_place is.named.symbol d) ∙ ap (λ x. bind x (slice_get d)) is.place ∙ is.called_there,
+  ap (λ x. option_and_then (λ (y : Instance). find_module d y.symbol) x) is.is_instance
+      ∙ sym (module_place is.named.symbol d) ∙ ap (λ x. option_and_then (slice_get d) x) is.place ∙ is.called_there,
   is.allowed,
   is.is_port,
 )
@@ -124,21 +123,21 @@ module _ (d : Design) (starts : List ℕ) where
   operands_some called ports i m operands zero p here = absurd here
   operands_some called ports i m operands (suc n) p here =
       go (In-append_cases p (operand_pairs starts called ports i m.ports operands n)
-      (pair_of (port_number starts called n) (bind (bit_port m.ports (port_ref ports operands n)) (port_number starts i))) here) (operands_some called ports i m operands n p)
+      (pair_of (port_number starts called n) (option_and_then (port_number starts i) (bit_port m.ports (port_ref ports operands n)))) here) (operands_some called ports i m operands n p)
     where
       go : In p (operand_pairs starts called ports i m.ports operands n)
-          ⊎ In p (pair_of (port_number starts called n) (bind (bit_port m.ports (port_ref ports operands n)) (port_number starts i)))
+          ⊎ In p (pair_of (port_number starts called n) (option_and_then (port_number starts i) (bit_port m.ports (port_ref ports operands n))))
           → (In p (operand_pairs starts called ports i m.ports operands n)
           → (k j : ℕ) × (port_number starts called k ≡ Some p.to) × (bit_port m.ports (port_ref ports operands k) ≡ Some j) × (port_number starts i j ≡ Some p.port))
           → (k j : ℕ) × (port_number starts called k ≡ Some p.to) × (bit_port m.ports (port_ref ports operands k) ≡ Some j) × (port_number starts i j ≡ Some p.port)
       go (inl before) rest = rest before
       go (inr last) rest =
-          let both = pair_some (port_number starts called n) (bind (bit_port m.ports (port_ref ports operands n)) (port_number starts i)) p last in
-          let found = bind_some (bit_port m.ports (port_ref ports operands n)) (port_number starts i) both.1 in
+          let both = pair_some (port_number starts called n) (option_and_then (port_number starts i) (bit_port m.ports (port_ref ports operands n))) p last in
+          let found = and_then_some (bit_port m.ports (port_ref ports operands n)) (port_number starts i) both.1 in
           (n, found.0, both.0, found.1, found.2)
 
   some_operands : (called : ℕ) (ports : List Port) (i : ℕ) (m : Module) (operands : List Ref) (n k : ℕ) (p : Pair) → k < n
-      → In p (pair_of (port_number starts called k) (bind (bit_port m.ports (port_ref ports operands k)) (port_number starts i)))
+      → In p (pair_of (port_number starts called k) (option_and_then (port_number starts i) (bit_port m.ports (port_ref ports operands k))))
       → In p (operand_pairs starts called ports i m.ports operands n)
   some_operands called ports i m operands zero k p below here = absurd (omega arith)
   some_operands called ports i m operands (suc n) k p below here = go (grind arith) (λ less. some_operands called ports i m operands n k p less here)
@@ -146,11 +145,11 @@ module _ (d : Design) (starts : List ℕ) where
       go : (k ≡ n) ⊎ (k < n) → (k < n → In p (operand_pairs starts called ports i m.ports operands n)) → In p (operand_pairs starts called ports i m.ports operands (suc n))
       go (inl same) rest =
           In-append_right p (operand_pairs starts called ports i m.ports operands n)
-          (pair_of (port_number starts called n) (bind (bit_port m.ports (port_ref ports operands n)) (port_number starts i)))
-          (subst (λ x. In p (pair_of (port_number starts called x) (bind (bit_port m.ports (port_ref ports operands x)) (port_number starts i)))) same here)
+          (pair_of (port_number starts called n) (option_and_then (port_number starts i) (bit_port m.ports (port_ref ports operands n))))
+          (subst (λ x. In p (pair_of (port_number starts called x) (option_and_then (port_number starts i) (bit_port m.ports (port_ref ports operands x))))) same here)
       go (inr less) rest =
           In-append_left p (operand_pairs starts called ports i m.ports operands n)
-          (pair_of (port_number starts called n) (bind (bit_port m.ports (port_ref ports operands n)) (port_number starts i))) (rest less)
+          (pair_of (port_number starts called n) (option_and_then (port_number starts i) (bit_port m.ports (port_ref ports operands n)))) (rest less)
 
   -- one of the pairs of an operation
   instance_some : (i : ℕ) (m : Module) (o : Op) (p : Pair) → slice_get d i ≡ Some m → In o m.body → In p (instance_pairs d starts i m.ports o) → IsPairOf d starts p
@@ -210,10 +209,10 @@ module _ (d : Design) (starts : List ℕ) where
       bit : bit_port is.owner.ports (port_ref is.called.ports is.op.operands k) ≡ Some j
       bit = some_bit_port is.owner (port_ref is.called.ports is.op.operands k) j is.is_port is.is_bit
 
-      pair : In p (pair_of (port_number starts c k) (bind (bit_port is.owner.ports (port_ref is.called.ports is.op.operands k)) (port_number starts i)))
+      pair : In p (pair_of (port_number starts c k) (option_and_then (port_number starts i) (bit_port is.owner.ports (port_ref is.called.ports is.op.operands k))))
       pair =
-          some_pair (port_number starts c k) (bind (bit_port is.owner.ports (port_ref is.called.ports is.op.operands k)) (port_number starts i)) p.to p.port to_is
-          (ap (λ x. bind x (port_number starts i)) bit ∙ port_is)
+          some_pair (port_number starts c k) (option_and_then (port_number starts i) (bit_port is.owner.ports (port_ref is.called.ports is.op.operands k))) p.to p.port to_is
+          (ap (λ x. option_and_then (port_number starts i) x) bit ∙ port_is)
 
       inside : In p (found_pairs d starts i is.owner.ports is.op.operands (Some c))
       inside =

@@ -3,7 +3,7 @@
 use Rattle.std.proofs.Common.{◌≡◌, ◌⊎◌, ◌<◌, ◌≤◌, ◌+◌, ℕ, zero, suc, Bool, true, false, cond, List, [], ◌∷◌, length, slice_get, Some, refl, sym, ap, subst, ◌∙◌, inl, inr, arith}
 use Rattle.std.specs.List.{list_any}
 use Rattle.wiring.specs.Wiring.{In}
-use Rattle.wiring.proofs.Options.{bind_some}
+use Rattle.wiring.proofs.Options.{and_then_some}
 use Rattle.hw_model.specs.Types.{Name}
 use Rattle.hw_model.specs.Kinds.{Instance}
 use Rattle.hw_model.specs.Design.{Op, Module, Design, same_name, find_module, instance_in, callee}
@@ -25,7 +25,7 @@ found_module (x ∷ d) s m is = go (same_name x.symbol s) is (found_module d s m
 
 pub called_module : (d : Design) (o : Op) (c : Module) → callee d o ≡ Some c → In c d
 called_module d o c is =
-    let named = bind_some (instance_in o.kind) (λ (i : Instance). find_module d i.symbol) is in
+    let named = and_then_some (instance_in o.kind) (λ (i : Instance). find_module d i.symbol) is in
     found_module d named.0.symbol c named.2
 
 -- ---- a chain of a length

@@ -6,7 +6,7 @@ pub mod Making
 pub mod Numbering
 pub mod Operands
 pub mod Pairs
-pub mod Placeless
+pub mod Unlocated
 pub mod Reaching
 pub mod ResetTests
 pub mod Seeing

@@ -1,10 +1,10 @@
 -- The numbers of ports: each port of a design has one, and no two have the same.
-use Rattle.std.proofs.Common.{◌≡◌, ◌⊎◌, inl, inr, ℕ, zero, suc, ◌+◌, ◌-◌, ◌<◌, Bool, true, false, cond, nat_lt, List, [], ◌∷◌, ◌++◌, length, take, slice_get, Some, None, refl, sym, ap, ◌∙◌, arith, get_or, option_to_list, lt-ltb, ltb-true, length-append, append_assoc}
+use Rattle.std.proofs.Common.{◌≡◌, ◌⊎◌, inl, inr, ℕ, zero, suc, ◌+◌, ◌-◌, ◌<◌, Bool, true, false, cond, nat_lt, List, [], ◌∷◌, ◌++◌, length, take, slice_get, Some, None, refl, sym, ap, ◌∙◌, arith}
+use Rattle.std.proofs.Common.{get_or, option_to_list, lt-ltb, ltb-true, length-append, append_assoc, option_and_then}
 use Rattle.std.proofs.lemmas.List.{append-nil}
 use Rattle.std.proofs.lemmas.Option.{slice_get_within}
-use Rattle.wiring.specs.Options.{bind}
 use Rattle.wiring.proofs.Lists.{slice_get_some, slice_get-append_left, slice_get-append_at}
-use Rattle.wiring.proofs.Options.{bind_some}
+use Rattle.wiring.proofs.Options.{and_then_some}
 use Rattle.hw_model.specs.Design.{Module, Design}
 use Rattle.port_checks.specs.ResetPorts.{port_count}
 use Rattle.port_checks.specs.Numbers.{AreStarts, port_number, numbers_of}
@@ -98,15 +98,15 @@ module _ (d : Design) (starts : List ℕ) (are : AreStarts d starts) where
 
   pub number_some : (i j : ℕ) (m : Module) → slice_get d i ≡ Some m → j < length m.ports → port_number starts i j ≡ Some (port_count (take i d) + j)
   number_some i j m is below =
-      ap (λ x. bind x (λ start. bind (slice_get starts (i + 1)) (λ end. cond (nat_lt j (end - start)) (Some (start + j)) None))) (start_at i m is)
-      ∙ ap (λ x. bind x (λ end. cond (nat_lt j (end - port_count (take i d))) (Some (port_count (take i d) + j)) None)) (end_at i m is)
+      ap (λ x. option_and_then (λ start. option_and_then (λ end. cond (nat_lt j (end - start)) (Some (start + j)) None) (slice_get starts (i + 1))) x) (start_at i m is)
+      ∙ ap (λ x. option_and_then (λ end. cond (nat_lt j (end - port_count (take i d))) (Some (port_count (take i d) + j)) None) x) (end_at i m is)
       ∙ ap (λ b. cond b (Some (port_count (take i d) + j)) None) (lt-ltb j ((port_count (take i d) + length m.ports) - port_count (take i d)) (omega arith))
 
   -- what has a number is a port
   pub some_number : (i j v : ℕ) → port_number starts i j ≡ Some v → (m : Module) × (slice_get d i ≡ Some m) × (j < length m.ports) × (v ≡ port_count (take i d) + j)
   some_number i j v is =
-      let first = bind_some (slice_get starts i) (λ start. bind (slice_get starts (i + 1)) (λ end. cond (nat_lt j (end - start)) (Some (start + j)) None)) is in
-      let second = bind_some (slice_get starts (i + 1)) (λ end. cond (nat_lt j (end - first.0)) (Some (first.0 + j)) None) first.2 in
+      let first = and_then_some (slice_get starts i) (λ start. option_and_then (λ end. cond (nat_lt j (end - start)) (Some (start + j)) None) (slice_get starts (i + 1))) is in
+      let second = and_then_some (slice_get starts (i + 1)) (λ end. cond (nat_lt j (end - first.0)) (Some (first.0 + j)) None) first.2 in
       let bound : i + 1 < length starts = slice_get_within starts (i + 1) second.0 second.1 in
       let count : length starts ≡ suc (length d) = are.count in
       let there = slice_get_some d i (omega arith) in

@@ -1,7 +1,6 @@
 -- The ports of a module and the operands for them, one after another, and the module that an instance calls.
-use Rattle.std.proofs.Common.{◌≡◌, ℕ, zero, suc, ◌+◌, ◌<◌, ◌≤◌, Bool, true, false, cond, List, [], ◌∷◌, map, length, take, get_or, slice_get, Option, Some, None, refl, sym, ap, ap₂, subst, ◌∙◌, arith}
+use Rattle.std.proofs.Common.{◌≡◌, ℕ, zero, suc, ◌+◌, ◌<◌, ◌≤◌, Bool, true, false, cond, List, [], ◌∷◌, map, length, take, get_or, slice_get, Option, Some, None, refl, sym, ap, ap₂, subst, ◌∙◌, arith, option_and_then}
 use Rattle.std.proofs.lemmas.List.{length-map}
-use Rattle.wiring.specs.Options.{bind}
 use Rattle.hw_model.specs.Types.{Name}
 use Rattle.hw_model.specs.Design as hw
 use Rattle.hw_model.specs.Design.{Ref}
@@ -55,16 +54,16 @@ pub port_here : (ports : List Port) (n : ℕ) (x : Port) → n < length ports �
 port_here ports n x below is = sym (read_get port_of ports n x below is)
 
 pub operands_more : (starts : List ℕ) (called : ℕ) (ports : List hw.Port) (caller : ℕ) (outer : List hw.Port) (operands : List Ref) (n : ℕ) (first old new : List (List ℕ)) (to bit port : Option ℕ)
-    → to ≡ port_number starts called n → bit ≡ bit_port outer (port_ref ports operands n) → port ≡ bind bit (port_number starts caller)
+    → to ≡ port_number starts called n → bit ≡ bit_port outer (port_ref ports operands n) → port ≡ option_and_then (port_number starts caller) bit
     → AddsPairs (operand_pairs starts called ports caller outer operands n) first old → AddsPairs (pair_of to port) old new
     → AddsPairs (operand_pairs starts called ports caller outer operands (n + 1)) first new
 operands_more starts called ports caller outer operands n first old new to bit port to_is bit_is port_is before adds =
     let next : suc n ≡ n + 1 = omega arith in
-    let pairs : pair_of to port ≡ pair_of (port_number starts called n) (bind (bit_port outer (port_ref ports operands n)) (port_number starts caller)) =
-    ap₂ pair_of to_is (port_is ∙ ap (λ x. bind x (port_number starts caller)) bit_is) in
+    let pairs : pair_of to port ≡ pair_of (port_number starts called n) (option_and_then (port_number starts caller) (bit_port outer (port_ref ports operands n))) =
+    ap₂ pair_of to_is (port_is ∙ ap (λ x. option_and_then (port_number starts caller) x) bit_is) in
     subst (λ k. AddsPairs (operand_pairs starts called ports caller outer operands k) first new) next
     (adds_both (operand_pairs starts called ports caller outer operands n)
-    (pair_of (port_number starts called n) (bind (bit_port outer (port_ref ports operands n)) (port_number starts caller))) first old new before
+    (pair_of (port_number starts called n) (option_and_then (port_number starts caller) (bit_port outer (port_ref ports operands n)))) first old new before
     (subst (λ ps. AddsPairs ps old new) pairs adds))
 
 -- ---- the module that is called

@@ -3,7 +3,7 @@ use Rattle.std.proofs.Common.{◌≡◌, ◌⊎◌, ◌<◌, ℕ, zero, suc, ◌
 use Rattle.std.proofs.lemmas.List.{length-replicate}
 use Rattle.wiring.specs.Wiring.{In, Chain}
 use Rattle.wiring.proofs.Members.{In-append_left, In-append_right, In-append_cases}
-use Rattle.wiring.proofs.Options.{bind_some}
+use Rattle.wiring.proofs.Options.{and_then_some}
 use Rattle.wiring.proofs.Chains.{Chain-append}
 use Rattle.hw_model.specs.Kinds.{Instance}
 use Rattle.hw_model.specs.Design.{Module, Design, find_module, instance_in}
@@ -124,7 +124,7 @@ module _ (d : Design) (starts : List ℕ) (are : AreStarts d starts) (fresh list
   reset_marked m j (named _ _ o r is here reset signal) i there v number =
       named_marked i j (record { owner = m; op = o; there = there; member = here; names = (r, reset, signal); is_bit = is }) v number
   reset_marked m j (joined _ _ o c k is here found allowed has ref) i there v number =
-      let by = bind_some (instance_in o.kind) (λ (x : Instance). find_module d x.symbol) found in
+      let by = and_then_some (instance_in o.kind) (λ (x : Instance). find_module d x.symbol) found in
       let place = found_place d by.0.symbol c by.2 in
       let within : k < length c.ports = reset_within c k has in
       let to = number_some d starts are place.0 k c place.2 within in
@@ -183,7 +183,7 @@ none_reset d none i j = go (slice_get d i) refl
         subst (λ ps. In (place_at n k) ps) (sym none)
         (some_named d n k (record { owner = m; op = o; there = there; member = here; names = (r, reset, signal); is_bit = is }))
     no_port m k (joined _ _ o c l is here found allowed has ref) n there =
-        let by = bind_some (instance_in o.kind) (λ (x : Instance). find_module d x.symbol) found in
+        let by = and_then_some (instance_in o.kind) (λ (x : Instance). find_module d x.symbol) found in
         let place = found_place d by.0.symbol c by.2 in
         no_port c l has place.0 place.2
 

@@ -1,8 +1,7 @@
 -- What the tests of reset ports say.
-use Rattle.std.proofs.Common.{◌≡◌, ◌⊎◌, ◌<◌, ℕ, zero, suc, Bool, true, not, ◌&&◌, List, length, take, slice_get, Option, Some, None, is_some, refl, sym, ap, ◌∙◌, inl, inr, arith, eqb-true, eq-eqb}
+use Rattle.std.proofs.Common.{◌≡◌, ◌⊎◌, ◌<◌, ℕ, zero, suc, Bool, true, not, ◌&&◌, List, length, take, slice_get, Option, Some, None, is_some, refl, sym, ap, ◌∙◌, inl, inr, arith, eqb-true, eq-eqb, option_map}
 use Rattle.std.proofs.lemmas.Option.{slice_get_within}
-use Rattle.wiring.specs.Options.{omap}
-use Rattle.wiring.proofs.Options.{omap_some}
+use Rattle.wiring.proofs.Options.{option_map_some}
 use Rattle.hw_model.specs.Types.{HwType}
 use Rattle.hw_model.specs.Types.HwType.{int, clock, array, struct}
 use Rattle.hw_model.specs.Design.{Ref, Port, Op, Module, Design, instance_in, callee}
@@ -71,11 +70,11 @@ Joins d j o c k =
 
 names_some : (j : ℕ) (o : Op) → names_port j o ≡ true → Names j o
 names_some j o h =
-    omap_some (λ (r : ResetBy). r.signal) (async_reset_in o) (is_port_some j (omap (λ (r : ResetBy). r.signal) (async_reset_in o)) h)
+    option_map_some (λ (r : ResetBy). r.signal) (async_reset_in o) (is_port_some j (option_map (λ (r : ResetBy). r.signal) (async_reset_in o)) h)
 
 some_names : (j : ℕ) (o : Op) → Names j o → names_port j o ≡ true
 some_names j o (r, is, signal) =
-    some_is_port j (omap (λ (x : ResetBy). x.signal) (async_reset_in o)) (ap (omap (λ (x : ResetBy). x.signal)) is ∙ ap Some signal)
+    some_is_port j (option_map (λ (x : ResetBy). x.signal) (async_reset_in o)) (ap (option_map (λ (x : ResetBy). x.signal)) is ∙ ap Some signal)
 
 module _ (marked : ℕ → Bool) (ports : List Port) (operands : List Ref) (j : ℕ) where
   below_some : (n : ℕ) → joins_below marked ports operands j n ≡ true → (k : ℕ) × (marked k ≡ true) × (port_ref ports operands k ≡ Some (port j))

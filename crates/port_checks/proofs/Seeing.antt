@@ -1,8 +1,7 @@
 -- What an operation joins and names is told by its operands that are ports: the positions that stand for ids are of no
 -- account.
-use Rattle.std.proofs.Common.{◌≡◌, ℕ, zero, suc, Bool, true, false, cond, List, [], ◌∷◌, ◌++◌, map, length, take, slice_get, Option, Some, None, option_map, is_some, refl, sym, ap, ap₂, ◌∙◌}
+use Rattle.std.proofs.Common.{◌≡◌, ℕ, zero, suc, Bool, true, false, cond, List, [], ◌∷◌, ◌++◌, map, length, take, slice_get, Option, Some, None, option_map, is_some, refl, sym, ap, ap₂, ◌∙◌, option_and_then}
 use Rattle.std.proofs.lemmas.Option.{slice_get-map}
-use Rattle.wiring.specs.Options.{bind, omap}
 use Rattle.hw_model.specs.Kinds.{Instance}
 use Rattle.hw_model.specs.Design.{Port, Module, Design, instance_in}
 use Rattle.hw_model.specs.Flat.{ResetBy, has_async_reset, async_parts, operand_for, port_ref, input_count}
@@ -25,7 +24,7 @@ bit_port_seen ports position (Some (Result id k)) = refl
 bit_port_seen ports position (Some Undefined) = refl
 
 parts_seen : (ports : List Port) (position : ℕ → ℕ) (xs : List Value)
-    → bit_port ports (omap (λ (r : ResetBy). r.signal) (async_parts (map (ref_by position) xs))) ≡ bit_port ports (omap (λ (r : ResetBy). r.signal) (async_parts (map ref_seen xs)))
+    → bit_port ports (option_map (λ (r : ResetBy). r.signal) (async_parts (map (ref_by position) xs))) ≡ bit_port ports (option_map (λ (r : ResetBy). r.signal) (async_parts (map ref_seen xs)))
 parts_seen ports position [] = refl
 parts_seen ports position (d ∷ []) = refl
 parts_seen ports position (d ∷ c ∷ []) = refl
@@ -36,8 +35,8 @@ parts_seen ports position (d ∷ c ∷ r ∷ v ∷ x ∷ xs) = refl
 pub named_seen : (ports : List Port) (position : ℕ → ℕ) (o : BodyOp) → named_port ports (op_by position o) ≡ named_port ports (body_op_seen o)
 named_seen ports position o = go (has_async_reset o.parts.kind)
   where
-    go : (b : Bool) → bit_port ports (omap (λ (r : ResetBy). r.signal) (cond b (async_parts (map (ref_by position) o.operands)) None))
-        ≡ bit_port ports (omap (λ (r : ResetBy). r.signal) (cond b (async_parts (map ref_seen o.operands)) None))
+    go : (b : Bool) → bit_port ports (option_map (λ (r : ResetBy). r.signal) (cond b (async_parts (map (ref_by position) o.operands)) None))
+        ≡ bit_port ports (option_map (λ (r : ResetBy). r.signal) (cond b (async_parts (map ref_seen o.operands)) None))
     go true = parts_seen ports position o.operands
     go false = refl
 
@@ -60,7 +59,7 @@ operands_seen : (starts : List ℕ) (called : ℕ) (ports : List Port) (caller :
     → operand_pairs starts called ports caller outer (map (ref_by position) xs) n ≡ operand_pairs starts called ports caller outer (map ref_seen xs) n
 operands_seen starts called ports caller outer position xs zero = refl
 operands_seen starts called ports caller outer position xs (suc n) =
-    ap₂ (λ ps r. ps ++ pair_of (port_number starts called n) (bind r (port_number starts caller))) (operands_seen starts called ports caller outer position xs n)
+    ap₂ (λ ps r. ps ++ pair_of (port_number starts called n) (option_and_then (port_number starts caller) r)) (operands_seen starts called ports caller outer position xs n)
     (ref_joined outer ports position xs n)
 
 pub pairs_seen : (d : Design) (starts : List ℕ) (caller : ℕ) (outer : List Port) (position : ℕ → ℕ) (o : BodyOp)

@@ -1,6 +1,5 @@
 -- The ports that registers name as their asynchronous resets, and the ports that instances join to others.
-use Rattle.std.specs.Prelude.{ℕ, zero, suc, cond, List, [], ◌∷◌, ◌++◌, map, length, flat_map, Option, Some, None, is_some, slice_get}
-use Rattle.wiring.specs.Options.{bind, omap}
+use Rattle.std.specs.Prelude.{ℕ, zero, suc, cond, List, [], ◌∷◌, ◌++◌, map, length, flat_map, Option, Some, None, is_some, slice_get, option_and_then, option_map}
 use Rattle.hw_model.specs.Types.{Name}
 use Rattle.hw_model.specs.Kinds.{Instance}
 use Rattle.hw_model.specs.Design.{Ref, Port, Op, Module, Design, instance_in}
@@ -28,7 +27,7 @@ made_from f i (m ∷ ms) = f i m ++ made_from f (suc i) ms
 
 -- the i1 input that an operation names as its asynchronous reset
 abbrev pub named_port : List Port → Op → Option ℕ
-named_port ports o = bit_port ports (omap (λ (r : ResetBy). r.signal) (async_reset_in o))
+named_port ports o = bit_port ports (option_map (λ (r : ResetBy). r.signal) (async_reset_in o))
 
 -- port j of module i
 abbrev pub place_at : ℕ → ℕ → PortPlace
@@ -50,7 +49,7 @@ abbrev pub operand_pairs : List ℕ → ℕ → List Port → ℕ → List Port 
 operand_pairs starts called ports caller outer operands zero = []
 operand_pairs starts called ports caller outer operands (suc n) =
     operand_pairs starts called ports caller outer operands n
-    ++ pair_of (port_number starts called n) (bind (bit_port outer (port_ref ports operands n)) (port_number starts caller))
+    ++ pair_of (port_number starts called n) (option_and_then (port_number starts caller) (bit_port outer (port_ref ports operands n)))
 
 -- so with the module of a number, where there is one
 abbrev pub found_pairs : Design → List ℕ → ℕ → List Port → List Ref → Option ℕ → List Pair

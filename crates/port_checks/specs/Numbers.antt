@@ -1,6 +1,5 @@
 -- The numbers of ports among those of all modules of a design.
-use Rattle.std.specs.Prelude.{◌≡◌, ℕ, suc, ◌+◌, ◌-◌, ◌<◌, cond, nat_lt, List, [], ◌∷◌, ◌++◌, length, take, Option, Some, None, slice_get, option_to_list}
-use Rattle.wiring.specs.Options.{bind}
+use Rattle.std.specs.Prelude.{◌≡◌, ℕ, suc, ◌+◌, ◌-◌, ◌<◌, cond, nat_lt, List, [], ◌∷◌, ◌++◌, length, take, Option, Some, None, slice_get, option_to_list, option_and_then}
 use Rattle.hw_model.specs.Design.{Design}
 use Rattle.port_checks.specs.declared.named.PortPlace.{PortPlace}
 use Rattle.port_checks.specs.ResetPorts.{port_count}
@@ -13,7 +12,7 @@ pub record AreStarts (d : Design) (starts : List ℕ) : Type 0 where
 -- the number of port j of module i, where there is such a port
 abbrev pub port_number : List ℕ → ℕ → ℕ → Option ℕ
 port_number starts i j =
-    bind (slice_get starts i) (λ start. bind (slice_get starts (i + 1)) (λ end. cond (nat_lt j (end - start)) (Some (start + j)) None))
+    option_and_then (λ start. option_and_then (λ end. cond (nat_lt j (end - start)) (Some (start + j)) None) (slice_get starts (i + 1))) (slice_get starts i)
 
 -- the numbers of ports
 abbrev pub numbers_of : List ℕ → List PortPlace → List ℕ

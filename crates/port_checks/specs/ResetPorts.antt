@@ -1,10 +1,9 @@
 -- Reset ports: the input ports from which registers of a design are reset without their clocks, whether a register names
 -- the port itself or an instance hands it on (CIRCT: Seq dialect, `seq.firreg` with an asynchronous reset; HW dialect,
 -- `hw.instance`).
-use Rattle.std.specs.Prelude.{◌≡◌, ℕ, zero, suc, Bool, false, not, ◌&&◌, ◌||◌, nat_eq, List, map, length, Option, Some, None, is_some, slice_get}
+use Rattle.std.specs.Prelude.{◌≡◌, ℕ, zero, suc, Bool, false, not, ◌&&◌, ◌||◌, nat_eq, List, map, length, Option, Some, None, is_some, slice_get, option_map}
 use Rattle.std.specs.List.{list_any}
 use Rattle.wiring.specs.Lists.{total}
-use Rattle.wiring.specs.Options.{omap}
 use Rattle.wiring.specs.Wiring.{In}
 use Rattle.hw_model.specs.Types.{HwType}
 use Rattle.hw_model.specs.Types.HwType.{int}
@@ -50,7 +49,7 @@ is_port j _ = false
 
 -- whether an operation is a register that port j resets without its clock
 abbrev pub names_port : ℕ → Op → Bool
-names_port j o = is_port j (omap (λ (r : ResetBy). r.signal) (async_reset_in o))
+names_port j o = is_port j (option_map (λ (r : ResetBy). r.signal) (async_reset_in o))
 
 -- whether one of the first n ports of a module has a mark and is joined to port j by these operands
 abbrev pub joins_below : (ℕ → Bool) → List Port → List Ref → ℕ → ℕ → Bool

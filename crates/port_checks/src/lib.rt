@@ -12,5 +12,5 @@ mod ports;
 mod reset_ports;
 
 pub use instances::{are_types, instance_cause};
-pub use laws::{places_decide_no_reset_port, reset_ports_are_least};
+pub use laws::{locations_decide_no_reset_port, reset_ports_are_least};
 pub use reset_ports::ResetPorts;

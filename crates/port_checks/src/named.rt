@@ -1,6 +1,5 @@
 //! The ports that registers name as their asynchronous resets.
 ghost use Rattle.std.specs.Prelude.{◌≡◌, ◌++◌, map, option_map, IfOk, OnOk};
-ghost use Rattle.wiring.specs.Options.{omap};
 ghost use Rattle.hw_model.specs.Flat.{ResetBy, async_parts};
 ghost use Rattle.ir_store.specs.Designs.{port_of, module_of, numbered_module, design_of};
 ghost use Rattle.port_checks.specs.Joins.{named_port, place_of, named_in, made_from};
@@ -69,7 +68,7 @@ fn named_port(ports: &[Port], op: &Op<'_>) -> Option<u32>
 
 /// The reset among the operands of a register with an asynchronous reset: data, clock, reset, value.
 fn reset_operand(operands: &[Value]) -> Option<Value>
-    ensures { option_map ref_seen result ≡ omap (λ (r : ResetBy). r.signal) (async_parts (map ref_seen operands.now)) }
+    ensures { option_map ref_seen result ≡ option_map (λ (r : ResetBy). r.signal) (async_parts (map ref_seen operands.now)) }
 {
     match operands {
         [_, _, reset, _] => Some(*reset),

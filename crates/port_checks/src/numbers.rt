@@ -1,6 +1,5 @@
 //! The numbers of ports among those of all modules of a design.
-ghost use Rattle.std.specs.Prelude.{◌≡◌, ◌++◌, [], length, replicate, option_to_list, IfOk, OnOk};
-ghost use Rattle.wiring.specs.Options.{bind};
+ghost use Rattle.std.specs.Prelude.{◌≡◌, ◌++◌, [], length, replicate, option_to_list, IfOk, OnOk, option_and_then};
 ghost use Rattle.ir_store.specs.Designs.{design_of};
 ghost use Rattle.graphs.specs.Graphs.{lists_of};
 ghost use Rattle.port_checks.specs.Numbers.{port_number, numbers_of, AreStarts};
@@ -73,7 +72,7 @@ pub(crate) fn port_number(starts: &[u32], owner: usize, port: usize) -> Option<u
 
 /// The number of a port, where there is one.
 pub(crate) fn optional_number(starts: &[u32], owner: usize, port: Option<u32>) -> Option<u32>
-    ensures { result ≡ bind port (port_number starts.now owner) }
+    ensures { result ≡ option_and_then (port_number starts.now owner) port }
 {
     match port {
         Some(port) => port_number(starts, owner, port as usize),

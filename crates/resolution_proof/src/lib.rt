@@ -4,6 +4,7 @@
 pub mod assignment;
 pub mod clause;
 pub mod cnf;
+pub mod items;
 pub mod literal;
 pub mod log;
 pub mod replay;

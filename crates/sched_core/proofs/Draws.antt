@@ -162,11 +162,11 @@ split-sound s sound may = record {
   workers = ap suc_of sound.workers;
   few = let count : s.workers ≡ s.splits + 1 = sound.workers in let room : s.splits < 63 = may.1 in omega arith;
   past =
-      let front : sum_below s.workers (λ v. one_if (put s.workers new_worker s.worker v).passed) ≡ passed_workers s =
+      let prefix : sum_below s.workers (λ v. one_if (put s.workers new_worker s.worker v).passed) ≡ passed_workers s =
       sum_below-same s.workers (λ v. one_if (put s.workers new_worker s.worker v).passed) (λ v. one_if (s.worker v).passed)
       (λ v below. ap (λ x. one_if x.passed) (put-other s.workers new_worker s.worker v (λ same. apart v below same))) in
       let end : one_if (put s.workers new_worker s.worker s.workers).passed ≡ 0 = ap (λ x. one_if x.passed) (put-here s.workers new_worker s.worker) in
-      sum_below-last s.workers (λ v. one_if (put s.workers new_worker s.worker v).passed) end ∙ front ∙ sound.past;
+      sum_below-last s.workers (λ v. one_if (put s.workers new_worker s.worker v).passed) end ∙ prefix ∙ sound.past;
 }
   where
     suc_of : ℕ → ℕ
@@ -190,7 +190,7 @@ split-sound s sound may = record {
 -- as many edges are not reported as there are
 all_unreported : (n : ℕ) → sum_below n (λ i. 1) ≡ n
 all_unreported zero = refl
-all_unreported (suc n) = let front : sum_below n (λ i. 1) ≡ n = all_unreported n in omega arith
+all_unreported (suc n) = let prefix : sum_below n (λ i. 1) ≡ n = all_unreported n in omega arith
 
 pub first-sound : (callees : List (List ℕ)) → Sound (first callees)
 first-sound callees = record {

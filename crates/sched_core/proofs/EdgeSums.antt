@@ -51,7 +51,7 @@ module _ (callees : List (List ℕ)) where
 pub sum_below-le_each : (n b : ℕ) (f : ℕ → ℕ) → ((k : ℕ) → k < n → f k ≤ b) → sum_below n f ≤ n * b
 sum_below-le_each zero b f bound = omega arith
 sum_below-le_each (suc n) b f bound =
-    let front : sum_below n f ≤ n * b = sum_below-le_each n b f (λ k below. bound k (omega arith)) in
+    let prefix : sum_below n f ≤ n * b = sum_below-le_each n b f (λ k below. bound k (omega arith)) in
     let end : f n ≤ b = bound n (omega arith) in
     let more : suc n * b ≡ n * b + b = suc-mul n b in
     omega arith

@@ -15,12 +15,12 @@ sum_below-changed (suc n) f g i within others = go (cases_eq i n) (λ below. sum
   where
     go : (i ≡ n) ⊎ (i ≢ n) → (i < n → sum_below n g + f i ≡ sum_below n f + g i) → sum_below (suc n) g + f i ≡ sum_below (suc n) f + g i
     go (inl last) rest =
-        let front : sum_below n g ≡ sum_below n f = sum_below-same n g f (λ k below. others k (λ same. absurd (omega arith))) in
+        let prefix : sum_below n g ≡ sum_below n f = sum_below-same n g f (λ k below. others k (λ same. absurd (omega arith))) in
         let old : f i ≡ f n = ap f last in
         let new : g i ≡ g n = ap g last in
         omega arith
     go (inr earlier) rest =
-        let front : sum_below n g + f i ≡ sum_below n f + g i = rest (omega arith) in
+        let prefix : sum_below n g + f i ≡ sum_below n f + g i = rest (omega arith) in
         let end : g n ≡ f n = others n (λ same. earlier (sym same)) in
         omega arith
 
@@ -31,12 +31,12 @@ le-sum_below (suc n) f k within = go (cases_eq k n) (λ below. le-sum_below n f 
   where
     go : (k ≡ n) ⊎ (k ≢ n) → (k < n → f k ≤ sum_below n f) → f k ≤ sum_below (suc n) f
     go (inl last) rest = let same : f k ≡ f n = ap f last in omega arith
-    go (inr earlier) rest = let front : f k ≤ sum_below n f = rest (omega arith) in omega arith
+    go (inr earlier) rest = let prefix : f k ≤ sum_below n f = rest (omega arith) in omega arith
 
 pub sum_below-none : (n : ℕ) (f : ℕ → ℕ) → ((k : ℕ) → k < n → f k ≡ 0) → sum_below n f ≡ 0
 sum_below-none zero f none = refl
 sum_below-none (suc n) f none =
-    let front : sum_below n f ≡ 0 = sum_below-none n f (λ k below. none k (omega arith)) in
+    let prefix : sum_below n f ≡ 0 = sum_below-none n f (λ k below. none k (omega arith)) in
     let end : f n ≡ 0 = none n (omega arith) in
     omega arith
 
@@ -47,13 +47,13 @@ none_of_sum n f zero_sum k within = let bound : f k ≤ sum_below n f = le-sum_b
 pub sum_below-add : (n : ℕ) (f g : ℕ → ℕ) → sum_below n (λ k. f k + g k) ≡ sum_below n f + sum_below n g
 sum_below-add zero f g = refl
 sum_below-add (suc n) f g =
-    let front : sum_below n (λ k. f k + g k) ≡ sum_below n f + sum_below n g = sum_below-add n f g in omega arith
+    let prefix : sum_below n (λ k. f k + g k) ≡ sum_below n f + sum_below n g = sum_below-add n f g in omega arith
 
 -- terms of at most 1 have a sum of at most their number
 pub sum_below-le : (n : ℕ) (f : ℕ → ℕ) → ((k : ℕ) → f k ≤ 1) → sum_below n f ≤ n
 sum_below-le zero f small = omega arith
 sum_below-le (suc n) f small =
-    let front : sum_below n f ≤ n = sum_below-le n f small in
+    let prefix : sum_below n f ≤ n = sum_below-le n f small in
     let end : f n ≤ 1 = small n in
     omega arith
 

@@ -17,6 +17,6 @@ mod sched;
 
 pub use event::Event;
 pub use laws::{each_event_keeps_soundness, every_run_is_sound};
-pub use making::{clone_callees, leaf_modules};
+pub use making::{clone_callees, leaf_modules, push_if};
 pub use parts::{Edge, Fill, Stage, Worker};
 pub use sched::Sched;

@@ -46,8 +46,8 @@ pub(crate) fn lengths(alloc: Global, callees: &[Vec<u32>]) -> Result<Vec<usize>,
     Ok(counts)
 }
 
-// one more number, where the test passed
-fn push_if(numbers: &mut Vec<u32>, number: u32, passes: bool) -> Result<(), AllocError>
+/// One more number, where a test passed.
+pub fn push_if(numbers: &mut Vec<u32>, number: u32, passes: bool) -> Result<(), AllocError>
     ensures { OnOk result (numbers.new.items ≡ numbers.old.items ++ cond passes (number ∷ []) []) }
 {
     if passes {

@@ -1,7 +1,7 @@
 -- What designs keep to whose operations lowered registers lead.
 use Rattle.std.proofs.Common.{◌≡◌, ℕ, List, Some, slice_get, sym, subst}
 use Rattle.hw_model.specs.Design.{Op, Module, Design}
-use Rattle.accepted_edits.specs.Keeps.{IsFit}
+use Rattle.acceptance_laws.specs.Keeps.{IsFit}
 use Rattle.ir_store.specs.declared.body.Body.{Body}
 use Rattle.body_edits.specs.FitBodies.{IsOfFit}
 use Rattle.body_edits.specs.Views.{body_ops}

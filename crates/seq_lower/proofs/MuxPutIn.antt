@@ -1,9 +1,8 @@
 -- A mux of the type of a register of a fit design may be put in.
-use Rattle.std.proofs.Common.{◌≡◌, ℕ, zero, suc, Bool, true, false, cond, not, ◌||◌, List, [], ◌∷◌, length, map, Option, Some, None, slice_get, refl, sym, ap, subst, ◌∙◌, arith}
+use Rattle.std.proofs.Common.{◌≡◌, ℕ, zero, suc, Bool, true, false, cond, not, ◌||◌, List, [], ◌∷◌, length, map, Option, Some, None, slice_get, refl, sym, ap, subst, ◌∙◌, arith, option_map}
 use Rattle.std.specs.Prelude.{is_some}
 use Rattle.std.specs.List.{list_any}
 use Rattle.std.proofs.lemmas.Option.{slice_get_within}
-use Rattle.wiring.specs.Options.{omap}
 use Rattle.wiring.proofs.Members.{map_same}
 use Rattle.hw_model.specs.SameType.{type_self}
 use Rattle.hw_model.specs.Types.{HwType}
@@ -26,14 +25,14 @@ use Rattle.diag.specs.declared.cause.Cause.TheVariants as cause
 use Rattle.op_verifier.specs.Answers.{when, or_else}
 use Rattle.op_verifier.specs.OpChecks.{settled_type, divides_by_constant, has_again, has_undefined, alone_cause}
 use Rattle.op_verifier.proofs.NoCauseAlone.{types_of}
-use Rattle.printable_designs.specs.Printable.{IsPrintableOp, settled_result}
-use Rattle.printable_designs.proofs.VerifiedDesigns.{all_defined}
-use Rattle.hw_edits.specs.Laws.{insert_op, with_body, Inserted}
-use Rattle.hw_edits.proofs.Inserted.{insert_op_preserves}
-use Rattle.accepted_edits.specs.Forms.{InsertedFits}
-use Rattle.accepted_edits.specs.Keeps.{IsFit}
-use Rattle.accepted_edits.proofs.FitBodies.{settled_here}
-use Rattle.accepted_edits.proofs.PutIn.{fit_inserted}
+use Rattle.printing_laws.specs.Printable.{IsPrintableOp, settled_result}
+use Rattle.printing_laws.proofs.VerifiedDesigns.{all_defined}
+use Rattle.edit_laws.specs.Laws.{insert_op, with_body, Inserted}
+use Rattle.edit_laws.proofs.Inserted.{insert_op_preserves}
+use Rattle.acceptance_laws.specs.Forms.{InsertedFits}
+use Rattle.acceptance_laws.specs.Keeps.{IsFit}
+use Rattle.acceptance_laws.proofs.FitBodies.{settled_here}
+use Rattle.acceptance_laws.proofs.PutIn.{fit_inserted}
 use Rattle.fold_laws.proofs.NewOps.{own_none}
 use Rattle.pass_laws.specs.Steady.{IsSteady}
 use Rattle.pass_laws.proofs.Shapes.{shape_insert}
@@ -97,10 +96,10 @@ pub defined_more : (ports : List Port) (os : List Op) (r : Ref) (rs : List Ref) 
 defined_more ports os r rs u typed rest = ap (λ (x : Option HwType). cond (is_some x) (has_undefined ports os rs) true) typed ∙ rest
 
 -- an operation with one result of type t has no result of another type
-pub only_result : (t : HwType) (rs : List OpResult) → rs ≡ record { type = t; again = false } ∷ [] → (n : ℕ) (u : HwType) → omap (λ (x : OpResult). x.type) (slice_get rs n) ≡ Some u → t ≡ u
-only_result t rs is n u typed = go n (ap (λ (zs : List OpResult). omap (λ (x : OpResult). x.type) (slice_get zs n)) (sym is) ∙ typed)
+pub only_result : (t : HwType) (rs : List OpResult) → rs ≡ record { type = t; again = false } ∷ [] → (n : ℕ) (u : HwType) → option_map (λ (x : OpResult). x.type) (slice_get rs n) ≡ Some u → t ≡ u
+only_result t rs is n u typed = go n (ap (λ (zs : List OpResult). option_map (λ (x : OpResult). x.type) (slice_get zs n)) (sym is) ∙ typed)
   where
-    go : (n : ℕ) → omap (λ (x : OpResult). x.type) (slice_get (record { type = t; again = false } ∷ []) n) ≡ Some u → t ≡ u
+    go : (n : ℕ) → option_map (λ (x : OpResult). x.type) (slice_get (record { type = t; again = false } ∷ []) n) ≡ Some u → t ≡ u
     go zero h = cc
     go (suc n) h = cc
 

@@ -1,8 +1,7 @@
 -- A mux put in before a register of a fit design: what is then known of the register, of values and of the mux.
-use Rattle.std.proofs.Common.{◌≡◌, ℕ, zero, suc, ◌≤◌, false, cond, List, [], ◌∷◌, length, map, Some, slice_get, refl, sym, ap, subst, ◌∙◌, arith}
+use Rattle.std.proofs.Common.{◌≡◌, ℕ, zero, suc, ◌≤◌, false, cond, List, [], ◌∷◌, length, map, Some, slice_get, refl, sym, ap, subst, ◌∙◌, arith, option_and_then, option_map}
 use Rattle.std.proofs.lemmas.List.{length-map}
 use Rattle.std.proofs.lemmas.Option.{slice_get-map, slice_get_within}
-use Rattle.wiring.specs.Options.{bind, omap}
 use Rattle.wiring.proofs.Edits.{slice_get-insert_at}
 use Rattle.bits_core.specs.Word.{Word}
 use Rattle.hw_model.specs.Types.{HwType}
@@ -12,11 +11,11 @@ use Rattle.hw_model.specs.Design.Ref.{port, result, undefined}
 use Rattle.hw_model.specs.Flat.{Register}
 use Rattle.hw_model.specs.Sound.{type_in}
 use Rattle.hw_model.specs.Value.{is_high}
-use Rattle.hw_edits.specs.Edit.{retarget, result_word, word_of, Holds}
-use Rattle.hw_edits.specs.Laws.{up, up_ref, insert_op, with_body}
-use Rattle.hw_edits.proofs.Inserted.{retarget_type}
-use Rattle.hw_edits.proofs.Positions.{get_put}
-use Rattle.accepted_edits.specs.Keeps.{IsFit}
+use Rattle.edit_laws.specs.Edit.{retarget, result_word, word_of, Holds}
+use Rattle.edit_laws.specs.Laws.{up, up_ref, insert_op, with_body}
+use Rattle.edit_laws.proofs.Inserted.{retarget_type}
+use Rattle.edit_laws.proofs.Positions.{get_put}
+use Rattle.acceptance_laws.specs.Keeps.{IsFit}
 use Rattle.pass_laws.proofs.Steps.{module_there}
 use Rattle.pass_laws.specs.Steady.{IsSteady}
 use Rattle.seq_lower.specs.Lowered.{clocked_register, mux_for}
@@ -40,14 +39,14 @@ module _ (os : List Op) (i : ℕ) (c : Op) (within : i ≤ length os) where
   mapped : i ≤ length (map (retarget (up_ref i)) os)
   mapped = subst (λ n. i ≤ n) (sym (length-map os (retarget (up_ref i)))) within
 
-  pub old_after : (j : ℕ) → slice_get (insert_op i c os) (up i j) ≡ omap (retarget (up_ref i)) (slice_get os j)
+  pub old_after : (j : ℕ) → slice_get (insert_op i c os) (up i j) ≡ option_map (retarget (up_ref i)) (slice_get os j)
   old_after j = get_put (map (retarget (up_ref i)) os) i j (retarget (up_ref i) c) mapped ∙ slice_get-map (retarget (up_ref i)) os j
 
   pub new_there : slice_get (insert_op i c os) i ≡ Some (retarget (up_ref i) c)
   new_there = slice_get-insert_at (map (retarget (up_ref i)) os) i (retarget (up_ref i) c) mapped
 
   pub next_there : (o : Op) → slice_get os i ≡ Some o → slice_get (insert_op i c os) (suc i) ≡ Some (retarget (up_ref i) o)
-  next_there o there = ap (slice_get (insert_op i c os)) (sym (up_here i)) ∙ old_after i ∙ ap (omap (retarget (up_ref i))) there
+  next_there o there = ap (slice_get (insert_op i c os)) (sym (up_here i)) ∙ old_after i ∙ ap (option_map (retarget (up_ref i))) there
 
 -- ---- words
 
@@ -56,7 +55,7 @@ pub mux_word : (os : List Op) (τ : Ref → Word) → Holds os τ → (j : ℕ) 
     → o.results ≡ record { type = t; again = false } ∷ [] → τ (result j 0) ≡ cond (is_high (τ c)) (τ h) (τ l)
 mux_word os τ holds j o c h l t there is =
     holds.result_is j 0 (cond (is_high (τ c)) (τ h) (τ l)) (λ left. left)
-    (ap (word_of τ 0) there ∙ ap (λ (rs : List OpResult). Some (result_word τ (mux_for o c h l) 0 (omap (λ (x : OpResult). x.type) (slice_get rs 0)))) is)
+    (ap (word_of τ 0) there ∙ ap (λ (rs : List OpResult). Some (result_word τ (mux_for o c h l) 0 (option_map (λ (x : OpResult). x.type) (slice_get rs 0)))) is)
 
 -- ---- the step
 
@@ -86,7 +85,7 @@ module _ (d : Design) (fit : IsFit d) (k : ℕ) (md : Module) (at : slice_get d 
   there_then = next_there md.body i (mux_for o c h l) within o is.there
 
   clocked_then : clocked_register (retarget (up_ref i) o) ≡ Some (register_to (up_ref i) r)
-  clocked_then = register_retarget (up_ref i) o ∙ ap (omap (register_to (up_ref i))) is.is
+  clocked_then = register_retarget (up_ref i) o ∙ ap (option_map (register_to (up_ref i))) is.is
 
   at_then : slice_get (with_body d k md body) k ≡ Some (record md { body = body })
   at_then = module_there d k md body at
@@ -95,7 +94,7 @@ module _ (d : Design) (fit : IsFit d) (k : ℕ) (md : Module) (at : slice_get d 
   typed_then (port j) = refl
   typed_then undefined = refl
   typed_then (result j n) =
-      ap (λ x. bind x (λ (y : Op). result_type y n)) (old_after md.body i (mux_for o c h l) within j) ∙ retarget_type (up_ref i) (slice_get md.body j) n
+      ap (λ x. option_and_then (λ (y : Op). result_type y n) x) (old_after md.body i (mux_for o c h l) within j) ∙ retarget_type (up_ref i) (slice_get md.body j) n
 
   register_then : IsRegister (record md { body = body }) (suc i) (retarget (up_ref i) o) (register_to (up_ref i) r) t
   register_then =
@@ -112,7 +111,7 @@ module _ (d : Design) (fit : IsFit d) (k : ℕ) (md : Module) (at : slice_get d 
     is = register_then;
     form = form_of (retarget (up_ref i) o) (register_to (up_ref i) r) clocked_then;
     typed = typed_then;
-    mux_typed = ap (λ x. bind x (λ (y : Op). result_type y 0)) (new_there md.body i (mux_for o c h l) within)
-        ∙ ap (λ (rs : List OpResult). omap (λ (x : OpResult). x.type) (slice_get rs 0)) is.results;
+    mux_typed = ap (λ x. option_and_then (λ (y : Op). result_type y 0) x) (new_there md.body i (mux_for o c h l) within)
+        ∙ ap (λ (rs : List OpResult). option_map (λ (x : OpResult). x.type) (slice_get rs 0)) is.results;
     mux_there = new_there md.body i (mux_for o c h l) within;
   }

@@ -1,7 +1,6 @@
 -- One register of a fit design is lowered: the design with it follows, and is no heavier.
-use Rattle.std.proofs.Common.{◌≡◌, ℕ, suc, ◌+◌, ◌*◌, ◌≤◌, cond, List, length, set, Option, Some, None, slice_get, refl, sym, ap, ap₂, subst, ◌∙◌, arith, set-set}
+use Rattle.std.proofs.Common.{◌≡◌, ℕ, suc, ◌+◌, ◌*◌, ◌≤◌, cond, List, length, set, Option, Some, None, slice_get, refl, sym, ap, ap₂, subst, ◌∙◌, arith, set-set, option_and_then, option_map}
 use Rattle.std.proofs.lemmas.Option.{slice_get_within}
-use Rattle.wiring.specs.Options.{bind, omap}
 use Rattle.bits_core.specs.Word.{Word}
 use Rattle.hw_model.specs.Types.{Name, HwType}
 use Rattle.hw_model.specs.Types.HwType.{int}
@@ -15,10 +14,10 @@ use Rattle.hw_model.specs.Meaning.{reset, value_if_enabled}
 use Rattle.hw_model.specs.Sound.{type_in}
 use Rattle.hw_model.specs.Value.{is_high}
 use Rattle.hw_model.specs.Weight.{leaf_count, kind_weight, body_weight}
-use Rattle.hw_edits.specs.Edit.{retarget, Holds}
-use Rattle.hw_edits.specs.Laws.{up, up_ref, insert_op, with_body}
-use Rattle.hw_edits.proofs.Weights.{weight_with_body, weight-set}
-use Rattle.accepted_edits.specs.Keeps.{IsFit}
+use Rattle.edit_laws.specs.Edit.{retarget, Holds}
+use Rattle.edit_laws.specs.Laws.{up, up_ref, insert_op, with_body}
+use Rattle.edit_laws.proofs.Weights.{weight_with_body, weight-set}
+use Rattle.acceptance_laws.specs.Keeps.{IsFit}
 use Rattle.fold_laws.proofs.PutIn.{weight_put}
 use Rattle.pass_laws.specs.Steady.{IsSteady}
 use Rattle.pass_laws.proofs.Steady.{steady_then}
@@ -46,7 +45,7 @@ two_steps d k m os os' first second =
 
 -- ---- weights
 
-same_weight : (f : Ref → Ref) (e : Option Ref) (b : Option ResetBy) → mux_weight (omap f e) (omap (reset_to f) b) ≡ mux_weight e b
+same_weight : (f : Ref → Ref) (e : Option Ref) (b : Option ResetBy) → mux_weight (option_map f e) (option_map (reset_to f) b) ≡ mux_weight e b
 same_weight f None None = refl
 same_weight f (Some e) None = refl
 same_weight f None (Some b) = refl
@@ -75,7 +74,7 @@ module _ (d : Design) (fit : IsFit d) (k : ℕ) (md : Module) (at : slice_get d 
   module _ (c h l : Ref) (c_typed : type_in md.ports md.body c ≡ Some (int 1)) (h_typed : type_in md.ports md.body h ≡ Some t)
       (l_typed : type_in md.ports md.body l ≡ Some t) (four : mux_weight r.enable r.reset ≡ 4)
       (chooses : (τ : Ref → Word) → cond (is_high (τ (up_ref i c))) (τ (up_ref i h)) (τ (up_ref i l))
-      ≡ reset (omap (reset_to (up_ref i)) r.reset) τ (value_if_enabled (omap (up_ref i) r.enable) τ (τ (result (suc i) 0)) (τ (up_ref i r.next)))) where
+      ≡ reset (option_map (reset_to (up_ref i)) r.reset) τ (value_if_enabled (option_map (up_ref i) r.enable) τ (τ (result (suc i) 0)) (τ (up_ref i r.next)))) where
     abbrev with_one : List Op
     with_one = insert_op i (mux_for o c h l) md.body
 
@@ -95,10 +94,10 @@ module _ (d : Design) (fit : IsFit d) (k : ℕ) (md : Module) (at : slice_get d 
         ≡ kind_weight inner (plain_kind o.kind) o.types 2 + body_weight inner with_one =
         weight-set inner with_one (suc i) (retarget (up_ref i) o) (plain_register o (result i 0) (up_ref i r.clock)) step.is.there in
         let put : body_weight inner with_one ≡ 4 * leaf_count o.types + body_weight inner md.body = weight_put md.body i (mux_for o c h l) within inner in
-        let old : kind_weight inner o.kind o.types (length (retarget (up_ref i) o).operands) ≡ (3 + mux_weight (omap (up_ref i) r.enable) (omap (reset_to (up_ref i)) r.reset)) * leaf_count o.types =
+        let old : kind_weight inner o.kind o.types (length (retarget (up_ref i) o).operands) ≡ (3 + mux_weight (option_map (up_ref i) r.enable) (option_map (reset_to (up_ref i)) r.reset)) * leaf_count o.types =
         register_is inner (retarget (up_ref i) o) (register_to (up_ref i) r) step.form in
         let new : kind_weight inner (plain_kind o.kind) o.types 2 ≡ 3 * leaf_count o.types = plain_is inner o r f (result i 0) (up_ref i r.clock) in
-        let more : (3 + mux_weight (omap (up_ref i) r.enable) (omap (reset_to (up_ref i)) r.reset)) * leaf_count o.types ≡ 7 * leaf_count o.types =
+        let more : (3 + mux_weight (option_map (up_ref i) r.enable) (option_map (reset_to (up_ref i)) r.reset)) * leaf_count o.types ≡ 7 * leaf_count o.types =
         ap (λ n. (3 + n) * leaf_count o.types) (same_weight (up_ref i) r.enable r.reset ∙ four) in
         omega (arith, sum, put, old, new, more)
 
@@ -118,7 +117,7 @@ module _ (d : Design) (fit : IsFit d) (k : ℕ) (md : Module) (at : slice_get d 
     lowered_body = set with_both (suc (suc i)) (plain_register o (result (suc i) 0) (up_ref (suc i) (up_ref i r.clock)))
 
     held_typed : type_in md.ports md.body (result i 0) ≡ Some t
-    held_typed = ap (λ x. bind x (λ (y : Op). result_type y 0)) is.there ∙ ap (λ (rs : List OpResult). omap (λ (x : OpResult). x.type) (slice_get rs 0)) is.results
+    held_typed = ap (λ x. option_and_then (λ (y : Op). result_type y 0) x) is.there ∙ ap (λ (rs : List OpResult). option_map (λ (x : OpResult). x.type) (slice_get rs 0)) is.results
 
     first : IsAfterMux d k md i o r t e r.next (result i 0)
     first = mux_step d fit k md at i o r t is f e r.next (result i 0) (is.parts.enable e enable).0 is.parts.next_typed held_typed
@@ -140,19 +139,19 @@ module _ (d : Design) (fit : IsFit d) (k : ℕ) (md : Module) (at : slice_get d 
     first_there =
         let inside : suc i ≤ length with_first = (let below = slice_get_within with_first (suc i) (retarget (up_ref i) o) first.is.there in omega (arith, below)) in
         ap (slice_get with_both) (sym (up_below i)) ∙ old_after with_first (suc i) (mux_for o (up_ref i b.signal) (up_ref i b.value) (result i 0)) inside i
-        ∙ ap (omap (retarget (up_ref (suc i)))) first.mux_there
+        ∙ ap (option_map (retarget (up_ref (suc i)))) first.mux_there
 
     chooses : (τ : Ref → Word) → Holds with_both τ → τ (result (suc i) 0)
-        ≡ reset (omap (reset_to (up_ref (suc i))) (omap (reset_to (up_ref i)) r.reset)) τ
-        (value_if_enabled (omap (up_ref (suc i)) (omap (up_ref i) r.enable)) τ (τ (result (suc (suc i)) 0)) (τ (up_ref (suc i) (up_ref i r.next))))
+        ≡ reset (option_map (reset_to (up_ref (suc i))) (option_map (reset_to (up_ref i)) r.reset)) τ
+        (value_if_enabled (option_map (up_ref (suc i)) (option_map (up_ref i) r.enable)) τ (τ (result (suc (suc i)) 0)) (τ (up_ref (suc i) (up_ref i r.next))))
     chooses τ holds =
         mux_word with_both τ holds (suc i) o (up_ref (suc i) (up_ref i b.signal)) (up_ref (suc i) (up_ref i b.value)) (up_ref (suc i) (result i 0)) t second.mux_there is.results
         ∙ ap (cond (is_high (τ (up_ref (suc i) (up_ref i b.signal)))) (τ (up_ref (suc i) (up_ref i b.value))))
         (ap (λ n. τ (result n 0)) (up_below i)
         ∙ mux_word with_both τ holds i o (up_ref (suc i) (up_ref i e)) (up_ref (suc i) (up_ref i r.next)) (up_ref (suc i) (up_ref i (result i 0))) t first_there is.results
         ∙ ap (λ n. cond (is_high (τ (up_ref (suc i) (up_ref i e)))) (τ (up_ref (suc i) (up_ref i r.next))) (τ (result n 0))) (ap (up (suc i)) (up_here i) ∙ up_here (suc i)))
-        ∙ sym (ap₂ (λ x y. reset (omap (reset_to (up_ref (suc i))) (omap (reset_to (up_ref i)) x)) τ
-        (value_if_enabled (omap (up_ref (suc i)) (omap (up_ref i) y)) τ (τ (result (suc (suc i)) 0)) (τ (up_ref (suc i) (up_ref i r.next))))) reset_by enable)
+        ∙ sym (ap₂ (λ x y. reset (option_map (reset_to (up_ref (suc i))) (option_map (reset_to (up_ref i)) x)) τ
+        (value_if_enabled (option_map (up_ref (suc i)) (option_map (up_ref i) y)) τ (τ (result (suc (suc i)) 0)) (τ (up_ref (suc i) (up_ref i r.next))))) reset_by enable)
 
     both_steady : IsSteady d (with_body d k md lowered_body)
     both_steady =
@@ -170,12 +169,12 @@ module _ (d : Design) (fit : IsFit d) (k : ℕ) (md : Module) (at : slice_get d 
         let again : body_weight inner with_both ≡ 4 * leaf_count o.types + body_weight inner with_first =
         weight_put with_first (suc i) (mux_for o (up_ref i b.signal) (up_ref i b.value) (result i 0)) inside inner in
         let old : kind_weight inner o.kind o.types (length (retarget (up_ref (suc i)) (retarget (up_ref i) o)).operands)
-        ≡ (3 + mux_weight (omap (up_ref (suc i)) (omap (up_ref i) r.enable)) (omap (reset_to (up_ref (suc i))) (omap (reset_to (up_ref i)) r.reset))) * leaf_count o.types =
+        ≡ (3 + mux_weight (option_map (up_ref (suc i)) (option_map (up_ref i) r.enable)) (option_map (reset_to (up_ref (suc i))) (option_map (reset_to (up_ref i)) r.reset))) * leaf_count o.types =
         register_is inner (retarget (up_ref (suc i)) (retarget (up_ref i) o)) (register_to (up_ref (suc i)) (register_to (up_ref i) r)) second.form in
         let new : kind_weight inner (plain_kind o.kind) o.types 2 ≡ 3 * leaf_count o.types = plain_is inner o r f (result i 0) (up_ref i r.clock) in
-        let more : (3 + mux_weight (omap (up_ref (suc i)) (omap (up_ref i) r.enable)) (omap (reset_to (up_ref (suc i))) (omap (reset_to (up_ref i)) r.reset))) * leaf_count o.types ≡ 11 * leaf_count o.types =
+        let more : (3 + mux_weight (option_map (up_ref (suc i)) (option_map (up_ref i) r.enable)) (option_map (reset_to (up_ref (suc i))) (option_map (reset_to (up_ref i)) r.reset))) * leaf_count o.types ≡ 11 * leaf_count o.types =
         ap (λ n. (3 + n) * leaf_count o.types)
-        (same_weight (up_ref (suc i)) (omap (up_ref i) r.enable) (omap (reset_to (up_ref i)) r.reset) ∙ same_weight (up_ref i) r.enable r.reset ∙ ap₂ mux_weight enable reset_by) in
+        (same_weight (up_ref (suc i)) (option_map (up_ref i) r.enable) (option_map (reset_to (up_ref i)) r.reset) ∙ same_weight (up_ref i) r.enable r.reset ∙ ap₂ mux_weight enable reset_by) in
         omega (arith, sum, put, again, old, new, more)
 
     pub both_followed : Followed d k md lowered_body
@@ -187,14 +186,14 @@ module _ (d : Design) (fit : IsFit d) (k : ℕ) (md : Module) (at : slice_get d 
   by_operands None None no_enable none = followed_self d k md fit at
   by_operands (Some e) None some none =
       one_followed e r.next (result i 0) (is.parts.enable e some).0 is.parts.next_typed
-      (ap (λ x. bind x (λ (y : Op). result_type y 0)) is.there ∙ ap (λ (rs : List OpResult). omap (λ (x : OpResult). x.type) (slice_get rs 0)) is.results)
+      (ap (λ x. option_and_then (λ (y : Op). result_type y 0) x) is.there ∙ ap (λ (rs : List OpResult). option_map (λ (x : OpResult). x.type) (slice_get rs 0)) is.results)
       (ap₂ mux_weight some none)
       (λ τ. ap (λ n. cond (is_high (τ (up_ref i e))) (τ (up_ref i r.next)) (τ (result n 0))) (up_here i)
-      ∙ sym (ap₂ (λ x y. reset (omap (reset_to (up_ref i)) x) τ (value_if_enabled (omap (up_ref i) y) τ (τ (result (suc i) 0)) (τ (up_ref i r.next)))) none some))
+      ∙ sym (ap₂ (λ x y. reset (option_map (reset_to (up_ref i)) x) τ (value_if_enabled (option_map (up_ref i) y) τ (τ (result (suc i) 0)) (τ (up_ref i r.next)))) none some))
   by_operands None (Some b) none some =
       one_followed b.signal b.value r.next (is.parts.reset b some).0 (is.parts.reset b some).1 is.parts.next_typed
       (ap₂ mux_weight none some)
-      (λ τ. sym (ap₂ (λ x y. reset (omap (reset_to (up_ref i)) x) τ (value_if_enabled (omap (up_ref i) y) τ (τ (result (suc i) 0)) (τ (up_ref i r.next)))) some none))
+      (λ τ. sym (ap₂ (λ x y. reset (option_map (reset_to (up_ref i)) x) τ (value_if_enabled (option_map (up_ref i) y) τ (τ (result (suc i) 0)) (τ (up_ref i r.next)))) some none))
   by_operands (Some e) (Some b) some more = both_followed e b some more
 
   pub register_followed : Followed d k md (lowered_register i o (Some r) md.body)

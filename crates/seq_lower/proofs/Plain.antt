@@ -1,12 +1,11 @@
 -- Lowered registers have neither enable nor synchronous reset, and single changes lead to them.
-use Rattle.std.proofs.Common.{◌≡◌, ℕ, zero, suc, ◌+◌, ◌<◌, ◌≤◌, Bool, true, false, cond, nat_lt, List, [], ◌∷◌, length, map, set, Option, Some, None, slice_get, refl, sym, ap, subst, ◌∙◌, arith, length-set}
+use Rattle.std.proofs.Common.{◌≡◌, ℕ, zero, suc, ◌+◌, ◌<◌, ◌≤◌, Bool, true, false, cond, nat_lt, List, [], ◌∷◌, length, map, set, Option, Some, None, slice_get, refl, sym, ap, subst, ◌∙◌, arith, length-set, option_and_then, option_map}
 use Rattle.std.proofs.lemmas.Bool.{ltb-true, ltb-false}
 use Rattle.std.proofs.lemmas.List.{length-map}
 use Rattle.std.proofs.lemmas.Option.{slice_get-map, slice_get_within}
-use Rattle.wiring.specs.Options.{bind, omap}
 use Rattle.wiring.proofs.Edits.{slice_get-insert_below, slice_get-insert_at, length-insert_suc}
 use Rattle.wiring.proofs.Lists.{slice_get-set_same, slice_get-set_other}
-use Rattle.wiring.proofs.Options.{omap_some}
+use Rattle.wiring.proofs.Options.{option_map_some}
 use Rattle.hw_model.specs.Kinds.{Kind, Reset, RegisterOp}
 use Rattle.hw_model.specs.Kinds.RegisterOp.{compreg, compreg_ce, firreg}
 use Rattle.hw_model.specs.Kinds.Reset.{no_reset, sync_reset}
@@ -14,9 +13,10 @@ use Rattle.hw_model.specs.Kinds.Kind.{register, async_firreg}
 use Rattle.hw_model.specs.Design.{Ref, Op, RegisterForm, register_form}
 use Rattle.hw_model.specs.Design.Ref.{result}
 use Rattle.hw_model.specs.Flat.{Register, ResetBy, register_parts, has_async_reset}
-use Rattle.hw_edits.specs.Edit.{retarget}
-use Rattle.hw_edits.specs.Laws.{up_ref, insert_op}
-use Rattle.seq_lower.specs.Lowered.{clocked_register, plain_register, mux_for, lowered_by, lowered_register, lowered_op, lowered_at, after_muxes, after_register, next_position, lower_from, lowered, HasNoEnables, IsLowering, LowersBy, Lowers}
+use Rattle.edit_laws.specs.Edit.{retarget}
+use Rattle.edit_laws.specs.Laws.{up_ref, insert_op}
+use Rattle.seq_lower.specs.Lowered.{clocked_register, plain_register, mux_for, lowered_by, lowered_register, lowered_op, lowered_at, after_muxes, after_register, next_position, lower_from, lowered}
+use Rattle.seq_lower.specs.Lowered.{HasNoEnables, IsLowering, LowersBy, Lowers}
 
 -- ---- single changes
 
@@ -43,9 +43,9 @@ abbrev pub reset_to : (Ref → Ref) → ResetBy → ResetBy
 reset_to f b = record { signal = f b.signal; value = f b.value }
 
 abbrev pub register_to : (Ref → Ref) → Register → Register
-register_to f r = record { next = f r.next; clock = f r.clock; enable = omap f r.enable; reset = omap (reset_to f) r.reset }
+register_to f r = record { next = f r.next; clock = f r.clock; enable = option_map f r.enable; reset = option_map (reset_to f) r.reset }
 
-parts_to : (f : Ref → Ref) (e : Bool) (s : Reset) (rs : List Ref) → register_parts e s (map f rs) ≡ omap (register_to f) (register_parts e s rs)
+parts_to : (f : Ref → Ref) (e : Bool) (s : Reset) (rs : List Ref) → register_parts e s (map f rs) ≡ option_map (register_to f) (register_parts e s rs)
 parts_to f false no_reset [] = refl
 parts_to f false no_reset (a ∷ []) = refl
 parts_to f false no_reset (a ∷ b ∷ []) = refl
@@ -69,21 +69,21 @@ parts_to f true sync_reset (a ∷ b ∷ c ∷ d ∷ []) = refl
 parts_to f true sync_reset (a ∷ b ∷ c ∷ d ∷ e ∷ []) = refl
 parts_to f true sync_reset (a ∷ b ∷ c ∷ d ∷ e ∷ g ∷ rs) = refl
 
-pub register_retarget : (f : Ref → Ref) (o : Op) → clocked_register (retarget f o) ≡ omap (register_to f) (clocked_register o)
+pub register_retarget : (f : Ref → Ref) (o : Op) → clocked_register (retarget f o) ≡ option_map (register_to f) (clocked_register o)
 register_retarget f o = go (has_async_reset o.kind) (register_form o.kind)
   where
     go : (b : Bool) (x : Option RegisterForm)
-        → cond b None (bind x (λ (g : RegisterForm). register_parts g.has_enable g.reset (map f o.operands)))
-        ≡ omap (register_to f) (cond b None (bind x (λ (g : RegisterForm). register_parts g.has_enable g.reset o.operands)))
+        → cond b None (option_and_then (λ (g : RegisterForm). register_parts g.has_enable g.reset (map f o.operands)) x)
+        ≡ option_map (register_to f) (cond b None (option_and_then (λ (g : RegisterForm). register_parts g.has_enable g.reset o.operands) x))
     go true x = refl
     go false None = refl
     go false (Some g) = parts_to f g.has_enable g.reset o.operands
 
 plain_retarget : (f : Ref → Ref) (o : Op) → IsPlain o → IsPlain (retarget f o)
 plain_retarget f o plain r is =
-    let from = omap_some (register_to f) (clocked_register o) (sym (register_retarget f o) ∙ is) in
+    let from = option_map_some (register_to f) (clocked_register o) (sym (register_retarget f o) ∙ is) in
     let none = plain from.0 from.1 in
-    subst (λ (z : Register). (z.enable ≡ None) × (z.reset ≡ None)) from.2 (ap (omap f) none.0, ap (omap (reset_to f)) none.1)
+    subst (λ (z : Register). (z.enable ≡ None) × (z.reset ≡ None)) from.2 (ap (option_map f) none.0, ap (option_map (reset_to f)) none.1)
 
 -- a lowered register
 plain_is_plain : (o : Op) (s : Register) (next clock : Ref) → clocked_register o ≡ Some s → IsPlain (plain_register o next clock)
@@ -119,7 +119,7 @@ below_put : (i : ℕ) (os : List Op) (c : Op) → i ≤ length os → PlainBelow
 below_put i os c within below plain =
     below_one_more i (insert_op i c os)
     (λ j o less is.
-    let from = omap_some (retarget (up_ref i)) (slice_get os j)
+    let from = option_map_some (retarget (up_ref i)) (slice_get os j)
     (sym (slice_get-map (retarget (up_ref i)) os j) ∙ sym (slice_get-insert_below (map (retarget (up_ref i)) os) i (retarget (up_ref i) c) j less mapped) ∙ is) in
     subst IsPlain from.2 (plain_retarget (up_ref i) from.0 (below j from.0 less from.1)))
     (λ o is.
@@ -207,7 +207,7 @@ swept_op n i os o there swept (Some s) clocked = go s.enable refl s.reset refl
 swept_once : (n i : ℕ) (os : List Op) → IsSweptTo (suc n) i os → IsSweptTo n (next_position i os) (lowered_at i os)
 swept_once n i os swept = go (slice_get os i) refl
   where
-    go : (x : Option Op) → slice_get os i ≡ x → IsSweptTo n (after_register (suc i) (bind x clocked_register)) (lowered_op i x os)
+    go : (x : Option Op) → slice_get os i ≡ x → IsSweptTo n (after_register (suc i) (option_and_then clocked_register x)) (lowered_op i x os)
     go None none = record {
       below = below_one_more i os swept.below (λ p is. let clash : None ≡ Some p = sym none ∙ is in cc);
       most = omega (arith, swept.most);

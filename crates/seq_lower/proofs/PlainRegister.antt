@@ -17,8 +17,8 @@ use Rattle.hw_model.specs.Meaning.{next_value, reset, value_if_enabled}
 use Rattle.hw_model.specs.Sound.{type_in, register_types, Fits}
 use Rattle.hw_model.specs.Value.{is_high}
 use Rattle.ir_store.specs.ResultTypes.{result_types, result_type as type_of_result, result_count}
-use Rattle.canonical_form.specs.Dictionaries.{has_name, takes_bin, string_keys, IsKeptDictionary}
-use Rattle.canonical_form.specs.Kinds.{KeepsConstants, IsWritten}
+use Rattle.stored_form.specs.Dictionaries.{has_name, takes_bin, string_keys, IsKeptDictionary}
+use Rattle.stored_form.specs.Kinds.{KeepsConstants, IsWritten}
 use Rattle.op_checks.specs.CountChecks.{operands_written, operand_count, type_count, has_miscounted_parts}
 use Rattle.op_checks.specs.LimitChecks.{value_types, has_constant_outside, has_extract_outside, has_broken_copy, has_wide_concat, has_unknown_divisor, has_wrong_index, has_unequal_widths, has_clock_operand}
 use Rattle.op_checks.specs.OperandChecks.{has_other_form, has_other_operand}
@@ -27,15 +27,15 @@ use Rattle.op_checks.specs.TypeChecks.{is_clock}
 use Rattle.op_checks.proofs.NoOwnCause.{NoOwnCause}
 use Rattle.op_verifier.specs.OpChecks.{settled_type, divides_by_constant, has_undefined, alone_cause}
 use Rattle.op_verifier.proofs.NoCauseAlone.{types_of}
-use Rattle.printable_designs.specs.NameHints.{is_pack}
-use Rattle.printable_designs.specs.Printable.{IsPrintableOp, settled_result}
-use Rattle.printable_designs.proofs.VerifiedDesigns.{all_defined}
-use Rattle.hw_edits.specs.Edit.{Holds}
-use Rattle.hw_edits.specs.Laws.{with_body}
-use Rattle.hw_edits.specs.Registers.{Reloaded}
-use Rattle.hw_edits.proofs.ReloadFollows.{replace_register_preserves}
-use Rattle.accepted_edits.specs.Keeps.{IsFitting, IsFit}
-use Rattle.accepted_edits.proofs.ChangedInPlace.{fit_reloaded}
+use Rattle.printing_laws.specs.NameHints.{is_pack}
+use Rattle.printing_laws.specs.Printable.{IsPrintableOp, settled_result}
+use Rattle.printing_laws.proofs.VerifiedDesigns.{all_defined}
+use Rattle.edit_laws.specs.Edit.{Holds}
+use Rattle.edit_laws.specs.Laws.{with_body}
+use Rattle.edit_laws.specs.Registers.{Reloaded}
+use Rattle.edit_laws.proofs.ReloadFollows.{replace_register_preserves}
+use Rattle.acceptance_laws.specs.Keeps.{IsFitting, IsFit}
+use Rattle.acceptance_laws.proofs.ChangedInPlace.{fit_reloaded}
 use Rattle.fold_laws.proofs.NewOps.{own_none}
 use Rattle.pass_laws.specs.Steady.{IsSteady}
 use Rattle.pass_laws.proofs.Shapes.{shape_register}

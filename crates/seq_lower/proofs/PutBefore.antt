@@ -7,9 +7,9 @@ use Rattle.wiring.proofs.Edits.{In-insert_cases, length-insert_suc}
 use Rattle.wiring.proofs.Members.{from_In-map, All-member}
 use Rattle.hw_model.specs.Design.{Ref, Op}
 use Rattle.hw_model.specs.Design.Ref.{port, result, undefined}
-use Rattle.hw_edits.specs.Edit.{retarget}
-use Rattle.hw_edits.specs.Laws.{up, down, up_ref, insert_op}
-use Rattle.hw_edits.proofs.Positions.{down-up}
+use Rattle.edit_laws.specs.Edit.{retarget}
+use Rattle.edit_laws.specs.Laws.{up, down, up_ref, insert_op}
+use Rattle.edit_laws.proofs.Positions.{down-up}
 use Rattle.ir_store.specs.declared.body.Body.{Body}
 use Rattle.ir_store.specs.declared.operation.NewOp.{NewOp}
 use Rattle.ir_store.specs.declared.operation.OpId.{OpId}

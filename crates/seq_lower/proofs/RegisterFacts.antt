@@ -1,6 +1,5 @@
 -- What is known of a register of a fit design, and of its operands.
-use Rattle.std.proofs.Common.{◌≡◌, ℕ, ◌+◌, Bool, true, false, List, [], ◌∷◌, length, map, Option, Some, None, slice_get, refl, ap, subst, ◌∙◌, inl, inr}
-use Rattle.wiring.specs.Options.{omap}
+use Rattle.std.proofs.Common.{◌≡◌, ℕ, ◌+◌, Bool, true, false, List, [], ◌∷◌, length, map, Option, Some, None, slice_get, refl, ap, subst, ◌∙◌, inl, inr, option_map}
 use Rattle.wiring.specs.Wiring.{In}
 use Rattle.hw_model.specs.Types.{HwType}
 use Rattle.hw_model.specs.Types.HwType.{int, clock}
@@ -15,10 +14,10 @@ use Rattle.hw_model.specs.Weight.{register_weight, reset_weight}
 use Rattle.ir_store.specs.ResultTypes.{result_types, result_type as type_of_result}
 use Rattle.op_checks.specs.CountChecks.{type_count}
 use Rattle.op_verifier.proofs.NoCauseAlone.{NoCauseAlone, no_cause_alone}
-use Rattle.printable_designs.specs.Printable.{IsPrintableOp, settled_result}
-use Rattle.accepted_edits.specs.Keeps.{IsPrintableBody, IsFit}
-use Rattle.accepted_edits.proofs.Accepted.{each_at, fit_found}
-use Rattle.accepted_edits.proofs.FitBodies.{own_cause_none}
+use Rattle.printing_laws.specs.Printable.{IsPrintableOp, settled_result}
+use Rattle.acceptance_laws.specs.Keeps.{IsPrintableBody, IsFit}
+use Rattle.acceptance_laws.proofs.Accepted.{each_at, fit_found}
+use Rattle.acceptance_laws.proofs.FitBodies.{own_cause_none}
 use Rattle.seq_lower.specs.Lowered.{clocked_register}
 
 -- ---- operands
@@ -184,7 +183,7 @@ module _ (d : Design) (fit : IsFit d) (k : ℕ) (md : Module) (at : slice_get d 
       ∙ ap (λ ts. map settled_result (result_types (register f.form f.with_reset) ts (length o.operands))) only_type.1
 
   pub result_typed : result_type o 0 ≡ Some only_type.0
-  result_typed = ap (λ (rs : List OpResult). omap (λ (x : OpResult). x.type) (slice_get rs 0)) only_result
+  result_typed = ap (λ (rs : List OpResult). option_map (λ (x : OpResult). x.type) (slice_get rs 0)) only_result
 
   operand_types : map (type_in md.ports md.body) o.operands ≡ register_types (takes_enable f.form) f.with_reset only_type.0
   operand_types =

@@ -1,7 +1,6 @@
 -- The operands of a register of a body of a fit design may be those of new operations, and what lowering makes of it.
-use Rattle.std.proofs.Common.{◌≡◌, ℕ, suc, true, false, ◌&&◌, List, [], ◌∷◌, drop, set, Option, Some, None, slice_get, refl, sym, ap, ap₂, subst, ◌∙◌}
+use Rattle.std.proofs.Common.{◌≡◌, ℕ, suc, true, false, ◌&&◌, List, [], ◌∷◌, drop, set, Option, Some, None, slice_get, refl, sym, ap, ap₂, subst, ◌∙◌, option_and_then}
 use Rattle.std.specs.Prelude.{is_some, is_none, option_map}
-use Rattle.wiring.specs.Options.{bind, omap}
 use Rattle.wiring.specs.Wiring.{In}
 use Rattle.wiring.proofs.Members.{In-slice_get, position_of_In}
 use Rattle.hw_model.specs.Design.{OpResult, Op, Module, Design, result_type}
@@ -11,7 +10,7 @@ use Rattle.hw_model.specs.RegisterViews.{reset_by_of, register_of}
 use Rattle.hw_model.specs.Sound.{type_in}
 use Rattle.hw_model.specs.declared.registers.Register.{Register as CodeRegister}
 use Rattle.hw_model.specs.declared.registers.ResetBy.{ResetBy as CodeReset}
-use Rattle.hw_edits.specs.Laws.{up_ref, insert_op}
+use Rattle.edit_laws.specs.Laws.{up_ref, insert_op}
 use Rattle.ir_store.specs.declared.body.Body.{Body}
 use Rattle.ir_store.specs.declared.body.Op.{Op as ReadOp}
 use Rattle.ir_store.specs.declared.operation.OpId.{OpId}
@@ -22,8 +21,8 @@ use Rattle.ir_store.specs.BodyOps.{ids_in, op_at}
 use Rattle.ir_store.specs.Live.{IsLive}
 use Rattle.ir_store.specs.Numbered.{position_of, ref_by, ops_by_position}
 use Rattle.ir_store.proofs.Living.{all_none, all_with}
-use Rattle.accepted_edits.specs.Keeps.{IsFit}
-use Rattle.accepted_edits.proofs.FitBodies.{operand_there}
+use Rattle.acceptance_laws.specs.Keeps.{IsFit}
+use Rattle.acceptance_laws.proofs.FitBodies.{operand_there}
 use Rattle.body_edits.specs.FitBodies.{IsOfFit}
 use Rattle.body_edits.specs.Replaceable.{HaveNoFurther}
 use Rattle.body_edits.specs.Replaced.{IsNamed}
@@ -46,8 +45,8 @@ register_alone d fit k md at i o there r clocked y in_body q here n is =
     let place = position_of_In y md.body in_body in
     let some : is_some (type_in md.ports md.body (result i (suc n))) ≡ true = ap (λ x. is_some (type_in md.ports md.body x)) (sym is) ∙ operand_there d fit k md at place.0 y q place.1 here in
     let none : type_in md.ports md.body (result i (suc n)) ≡ None =
-    ap (λ x. bind x (λ (z : Op). result_type z (suc n))) there
-    ∙ ap (λ (rs : List OpResult). omap (λ (x : OpResult). x.type) (slice_get rs (suc n))) (is_register_of d fit k md at i o there r clocked).results in
+    ap (λ x. option_and_then (λ (z : Op). result_type z (suc n)) x) there
+    ∙ ap (λ (rs : List OpResult). option_map (λ (x : OpResult). x.type) (slice_get rs (suc n))) (is_register_of d fit k md at i o there r clocked).results in
     let clash : false ≡ true = ap is_some (sym none) ∙ some in
     cc
 
@@ -128,7 +127,7 @@ module _ (b : Body) (op : OpId) (r : CodeRegister Value) (has : HasRegister b op
 
   next_is : next_position (position_in b op) (body_ops b) ≡ after_muxes (suc (position_in b op)) (option_map (value_ref b) e) (option_map (reset_by_of (value_ref b)) x)
   next_is =
-      ap (λ z. after_register (suc (position_in b op)) (bind z clocked_register)) has.there
+      ap (λ z. after_register (suc (position_in b op)) (option_and_then clocked_register z)) has.there
       ∙ ap (after_register (suc (position_in b op))) has.clocked
       ∙ ap₂ (λ y z. after_muxes (suc (position_in b op)) (option_map (value_ref b) y) (option_map (reset_by_of (value_ref b)) z)) enable reset
 
@@ -174,7 +173,7 @@ none_of_both b op r has none = go r.enable refl r.reset refl none
 pub other_lowered : (b : Body) (op : OpId) (o : Op) → slice_get (body_ops b) (position_in b op) ≡ Some o → clocked_register o ≡ None → IsLoweredIn b b op
 other_lowered b op o there none = record {
   ops = sym (ap (λ z. lowered_op (position_in b op) z (body_ops b)) there ∙ ap (λ z. lowered_register (position_in b op) o z (body_ops b)) none);
-  rest = ap (λ n. drop n (ids_of b)) (ap (λ z. after_register (suc (position_in b op)) (bind z clocked_register)) there ∙ ap (after_register (suc (position_in b op))) none);
+  rest = ap (λ n. drop n (ids_of b)) (ap (λ z. after_register (suc (position_in b op)) (option_and_then clocked_register z)) there ∙ ap (after_register (suc (position_in b op))) none);
 }
 
 -- ---- the same operations

@@ -1,7 +1,6 @@
 -- Registers without enables and synchronous resets, muxes deciding what they load (CIRCT, Seq dialect: `seq.compreg`,
 -- `seq.compreg.ce`, `seq.firreg`; Comb dialect: `comb.mux`).
-use Rattle.std.specs.Prelude.{◌≡◌, ℕ, zero, suc, cond, false, List, [], ◌∷◌, length, set, Option, Some, None, slice_get}
-use Rattle.wiring.specs.Options.{bind}
+use Rattle.std.specs.Prelude.{◌≡◌, ℕ, zero, suc, cond, false, List, [], ◌∷◌, length, set, Option, Some, None, slice_get, option_and_then}
 use Rattle.hw_model.specs.Kinds.{Kind, RegisterOp}
 use Rattle.hw_model.specs.Kinds.RegisterOp.{compreg, compreg_ce, firreg}
 use Rattle.hw_model.specs.Kinds.Reset.{no_reset}
@@ -9,7 +8,7 @@ use Rattle.hw_model.specs.Kinds.Kind.{mux, register}
 use Rattle.hw_model.specs.Design.{Ref, Op}
 use Rattle.hw_model.specs.Design.Ref.{result}
 use Rattle.hw_model.specs.Flat.{Register, ResetBy, register_in, has_async_reset}
-use Rattle.hw_edits.specs.Laws.{up_ref, insert_op}
+use Rattle.edit_laws.specs.Laws.{up_ref, insert_op}
 use Rattle.pass_laws.specs.Steps.{StepsBy}
 
 -- ---- registers
@@ -44,7 +43,7 @@ mux_for o condition high low = record {
   name = [];
   dictionary = [];
   bin = false;
-  place = o.place;
+  location = o.location;
 }
 
 -- ---- one register
@@ -88,7 +87,7 @@ after_register i (Some r) = after_muxes i r.enable r.reset
 
 -- the position after the operation at position i, once that is lowered
 abbrev pub next_position : ℕ → List Op → ℕ
-next_position i os = after_register (suc i) (bind (slice_get os i) clocked_register)
+next_position i os = after_register (suc i) (option_and_then clocked_register (slice_get os i))
 
 -- so many operations from position i on lowered, in text order
 abbrev pub lower_from : ℕ → ℕ → List Op → List Op

@@ -5,7 +5,7 @@ use Rattle.hw_model.specs.Design.Ref.{result}
 use Rattle.hw_model.specs.RegisterViews.{register_of}
 use Rattle.hw_model.specs.declared.registers.Register.{Register as CodeRegister}
 use Rattle.hw_model.specs.declared.registers.ResetBy.{ResetBy as CodeReset}
-use Rattle.hw_edits.specs.Laws.{up_ref, insert_op}
+use Rattle.edit_laws.specs.Laws.{up_ref, insert_op}
 use Rattle.ir_store.specs.declared.body.Body.{Body}
 use Rattle.ir_store.specs.declared.operation.OpId.{OpId}
 use Rattle.ir_store.specs.declared.operation.Value.{Value}

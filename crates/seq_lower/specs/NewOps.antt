@@ -22,7 +22,7 @@ mux_parts p = record {
   name = [];
   dictionary = [];
   bin = false;
-  place = p.place;
+  location = p.location;
 }
 
 -- a register without enable and reset, but for its operands

@@ -4,8 +4,8 @@ ghost use Rattle.std.specs.Prelude.{◌≡◌, ◌≤◌, ℕ, List, Some, slice
 ghost use Rattle.hw_model.specs.Types.{Name};
 ghost use Rattle.hw_model.specs.Design.{Op, Module, Design};
 ghost use Rattle.hw_model.specs.Weight.{weight};
-ghost use Rattle.hw_edits.specs.Laws.{with_body};
-ghost use Rattle.accepted_edits.specs.Keeps.{IsFit};
+ghost use Rattle.edit_laws.specs.Laws.{with_body};
+ghost use Rattle.acceptance_laws.specs.Keeps.{IsFit};
 ghost use Rattle.pass_laws.specs.Steady.{IsSteady};
 ghost use Rattle.seq_lower.specs.Lowered.{lowered, HasNoEnables, Lowers};
 

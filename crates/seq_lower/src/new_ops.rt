@@ -56,7 +56,7 @@ pub fn new_mux(alloc: Global, register: &Op<'_>) -> Result<NewOp, AllocError>
         name: Text::new(alloc),
         dictionary: Dictionary::new(alloc),
         bin: false,
-        place: register.place,
+        location: register.location,
     })
 }
 
@@ -74,7 +74,7 @@ pub fn new_register(alloc: Global, register: &Op<'_>) -> Result<NewOp, AllocErro
         name: register.name.try_clone(alloc)?,
         dictionary: register.dictionary.try_clone(alloc)?,
         bin: register.bin,
-        place: register.place,
+        location: register.location,
     })
 }
 

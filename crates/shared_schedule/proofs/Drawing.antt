@@ -17,7 +17,7 @@ use Rattle.sched_core.proofs.Shapes.{leaves_from-le}
 use Rattle.sched_core.proofs.Draws.{claim-sound, next_leaf-waits, is_Waiting}
 use Rattle.shared_schedule.specs.declared.plan.Plan.{Plan}
 use Rattle.shared_schedule.specs.declared.slot.Slot.{Slot}
-use Rattle.shared_schedule.specs.declared.view.Place.TheVariants.{Nowhere, Body, Edge}
+use Rattle.shared_schedule.specs.declared.view.TableSlot.TheVariants.{Nowhere, Body, Edge}
 use Rattle.shared_schedule.specs.declared.view.View.{View}
 use Rattle.shared_schedule.specs.Views.{callees_in, hold_of, Tells}
 use Rattle.shared_schedule.specs.Rule.{BodyFits, Shows, Rule}

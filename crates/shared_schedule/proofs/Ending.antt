@@ -15,7 +15,7 @@ use Rattle.sched_core.proofs.RunLemmas.{complete}
 use Rattle.shared_schedule.specs.declared.plan.Plan.{Plan}
 use Rattle.shared_schedule.specs.declared.slot.Slot.{Slot}
 use Rattle.shared_schedule.specs.declared.slot.Slot.TheVariants.{Made}
-use Rattle.shared_schedule.specs.declared.view.Place.TheVariants.{Nowhere, Body}
+use Rattle.shared_schedule.specs.declared.view.TableSlot.TheVariants.{Nowhere, Body}
 use Rattle.shared_schedule.specs.declared.view.View.{View}
 use Rattle.shared_schedule.specs.Views.{callees_in, last_move, hold_of, is_over, done_times, Tells, ToldBy}
 use Rattle.shared_schedule.specs.Rule.{handles_body, Lies, home, out, BodyFits, Rule}
@@ -126,7 +126,8 @@ module _ {P B : Type 0} (first finished : P → ℕ → B → Type 0) (copied : 
       over : is_done (s.stage m) ≡ true
       over = complete s shows.sound shows.lists drawn (record { free = λ u k. free u k; reported = reported }) m within
 
-      at-home : Lies (BodyFits first finished copied plan.pieces m (s.stage m)) (handles_body s m) (Body m) t.homes m t.views → (y : Slot B) × (get_elem? t.homes m ≡ some (some y)) × BodyFits first finished copied plan.pieces m (s.stage m) y
+      at-home : Lies (BodyFits first finished copied plan.pieces m (s.stage m)) (handles_body s m) (Body m) t.homes m t.views → (y : Slot B) × (get_elem? t.homes m ≡ some (some y))
+          × BodyFits first finished copied plan.pieces m (s.stage m) y
       at-home (home y here fit) = (y, here, fit)
       at-home (out here u x there is may) = by_worker (cases_eq u 0)
         where

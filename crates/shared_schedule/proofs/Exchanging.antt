@@ -5,9 +5,9 @@ use Rattle.atomic_table.specs.Table.{Me, rest}
 use Rattle.shared_schedule.specs.declared.slot.Slot.TheVariants.{Stored, Copied}
 
 -- the value of the slot that was taken last
-abbrev front : {S : Type 0} → S → List (ℕ × S) → S
-front d [] = d
-front d (x ∷ xs) = x.1
+abbrev prefix : {S : Type 0} → S → List (ℕ × S) → S
+prefix d [] = d
+prefix d (x ∷ xs) = x.1
 
 module _ {S V : Type 0} where
   -- the slot that was lent can be exchanged
@@ -20,7 +20,7 @@ module _ {S V : Type 0} where
 
   -- what came out of it is what was there
   pub came-out : (one : Me S V) (w : V) (k : ℕ) (y z : S) (carried : List (ℕ × S)) → one ≡ (w, (k, y) ∷ carried) → one.1 ≡ (k, z) ∷ rest one.1 → z ≡ y
-  came-out one w k y z carried is out = sym (ap (front y) out) ∙ ap (λ p. front y p.1) is
+  came-out one w k y z carried is out = sym (ap (prefix y) out) ∙ ap (λ p. prefix y p.1) is
 
 -- one content, one body
 pub copied-same : {B : Type 0} {o p : Option B} → Copied o ≡ Copied p → o ≡ p

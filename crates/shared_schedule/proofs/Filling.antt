@@ -9,7 +9,7 @@ use Rattle.sched_core.proofs.Edges.{put_edge, put_edge_cases, put_edge_keeps}
 use Rattle.shared_schedule.specs.declared.view.View.{View}
 use Rattle.shared_schedule.specs.Views.{hold_of, is_held, is_over, has_edge, Tells}
 use Rattle.shared_schedule.specs.Plays.{cleared}
-use Rattle.shared_schedule.specs.declared.view.Place.TheVariants.{Nowhere}
+use Rattle.shared_schedule.specs.declared.view.TableSlot.TheVariants.{Nowhere}
 use Rattle.shared_schedule.proofs.Lookups.{edge-here, edge-other}
 use Rattle.shared_schedule.proofs.Staying.{Quiet}
 use Rattle.shared_schedule.proofs.Places.{edge-cases, put_edge-here, put_edge-other}

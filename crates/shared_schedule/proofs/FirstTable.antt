@@ -78,10 +78,12 @@ module _ {A : Type 0} where
 pub first-slots : {P B : Type 0} (first : P → ℕ → B → Type 0) (callees : List (List ℕ)) (p : P) (bodies : List B) (slots : List (Slot B)) (edges : ℕ) → slots ≡ map Stored bodies ++ replicate edges Bare
     → length bodies ≡ length callees → length callees + edges ≡ slots_of callees → ((m : ℕ) (b : B) → slice_get bodies m ≡ Some b → first p m b) → AreFirstSlots first callees p slots
 first-slots {B = B} first callees p bodies slots edges is as_many all each = record {
-  long = ap length is ∙ length-append (map Stored bodies) (replicate edges Bare) ∙ (let one : length (map Stored bodies) ≡ length bodies = length-map bodies Stored in let two : length (replicate {A = Slot B} edges Bare) ≡ edges = length-replicate edges Bare in omega arith);
+  long = ap length is ∙ length-append (map Stored bodies) (replicate edges Bare) ∙ (let one : length (map Stored bodies)
+      ≡ length bodies = length-map bodies Stored in let two : length (replicate {A = Slot B} edges Bare) ≡ edges = length-replicate edges Bare in omega arith);
   stored = λ m within. let body = has-place bodies m (omega arith) in
       (body.0, ap (λ s. get_elem? s m) is ∙ at_longer (map Stored bodies) (replicate edges Bare) m (Stored body.0) (at_map Stored bodies m body.0 body.2), each m body.0 body.1);
-  bare = λ k past below. ap (λ s. get_elem? s k) is ∙ bare-at (map Stored bodies) edges Bare k (let one : length (map Stored bodies) ≡ length bodies = length-map bodies Stored in omega arith) (let one : length (map Stored bodies) ≡ length bodies = length-map bodies Stored in omega arith);
+  bare = λ k past below. ap (λ s. get_elem? s k) is ∙ bare-at (map Stored bodies) edges Bare k (let one : length (map Stored bodies) ≡ length bodies = length-map bodies Stored in omega arith)
+      (let one : length (map Stored bodies) ≡ length bodies = length-map bodies Stored in omega arith);
 }
 
 -- what holds of every value of a result

@@ -17,8 +17,8 @@ use Rattle.sched_core.proofs.Puts.{put-here, put-other}
 use Rattle.sched_core.proofs.Draws.{split-sound}
 use Rattle.shared_schedule.specs.declared.plan.Plan.{Plan}
 use Rattle.shared_schedule.specs.declared.view.Hold.TheVariants.{Due, Begun, Over}
-use Rattle.shared_schedule.specs.declared.view.Place.{Place}
-use Rattle.shared_schedule.specs.declared.view.Place.TheVariants.{Nowhere}
+use Rattle.shared_schedule.specs.declared.view.TableSlot.{TableSlot}
+use Rattle.shared_schedule.specs.declared.view.TableSlot.TheVariants.{Nowhere}
 use Rattle.shared_schedule.specs.declared.view.View.{View}
 use Rattle.shared_schedule.specs.Views.{hold_of, is_held, is_over, Tells, ToldBy, new_view}
 use Rattle.shared_schedule.specs.Rule.{handles_edge, handles_body, Lies, home, out, BodyFits, EdgeFits, Rule}
@@ -39,7 +39,7 @@ at-end {A = A} (z ∷ zs) x y (suc k) at = further (at-end zs x y k at)
     further (inr (is, last)) = inr (is, ap suc last)
 
 -- a slot lies where it lay, where a worker comes
-lies_longer : {S P : Type 0} {fits : S → Type 0} {handles : ℕ → Bool} {place : Place} {homes : List (mathlib.Core.Option.Option S)} {k : ℕ} {views : List (View P)} (x : View P)
+lies_longer : {S P : Type 0} {fits : S → Type 0} {handles : ℕ → Bool} {place : TableSlot} {homes : List (mathlib.Core.Option.Option S)} {k : ℕ} {views : List (View P)} (x : View P)
     → Lies fits handles place homes k views → Lies fits handles place homes k (views ++ x ∷ [])
 lies_longer x (home y at fit) = home y at fit
 lies_longer {views = views} x (out at u v there is may) = out at u v (at_longer views (x ∷ []) u v there) is may
@@ -78,8 +78,10 @@ module _ {P B : Type 0} (first finished : P → ℕ → B → Type 0) (copied : 
           omega arith;
       told = λ u x here. by_place u x (at-end (set t.views 0 (split_view v)) (new_view v.plan) x u here);
       homes = shows.homes;
-      bodies = λ m within. lies_longer (new_view v.plan) (lies_still (BodyFits first finished copied plan.pieces m (s.stage m)) (handles_body s m) t.homes 0 v (split_view v) (shows.bodies m within) at (nowhere-body v m idle) (λ y fit. fit) refl (λ u ne may. may));
-      edges = λ c i edge. lies_longer (new_view v.plan) (lies_still (EdgeFits first finished copied plan.pieces (callee s.callees c i) (s.edge c i).fill) (handles_edge s c i) t.homes 0 v (split_view v) (shows.edges c i edge) at (nowhere-edge v c i idle) (λ y fit. fit) refl (λ u ne may. may));
+      bodies = λ m within. lies_longer (new_view v.plan) (lies_still (BodyFits first finished copied plan.pieces m (s.stage m)) (handles_body s m) t.homes 0 v (split_view v)
+          (shows.bodies m within) at (nowhere-body v m idle) (λ y fit. fit) refl (λ u ne may. may));
+      edges = λ c i edge. lies_longer (new_view v.plan) (lies_still (EdgeFits first finished copied plan.pieces (callee s.callees c i) (s.edge c i).fill) (handles_edge s c i) t.homes 0 v
+          (split_view v) (shows.edges c i edge) at (nowhere-edge v c i idle) (λ y fit. fit) refl (λ u ne may. may));
     },
   )
     where
@@ -95,7 +97,8 @@ module _ {P B : Type 0} (first finished : P → ℕ → B → Type 0) (copied : 
       splits-room : s.splits < 63
       splits-room = omega (arith, tells.splits refl)
 
-      by_place : (u : ℕ) (x : View P) → ((u < length (set t.views 0 (split_view v))) × (get_elem? (set t.views 0 (split_view v)) u ≡ some x)) ⊎ ((new_view v.plan ≡ x) × (u ≡ length (set t.views 0 (split_view v)))) → ToldBy plan (step s Split) u x x.plan
+      by_place : (u : ℕ) (x : View P) → ((u < length (set t.views 0 (split_view v))) × (get_elem? (set t.views 0 (split_view v)) u ≡ some x))
+          ⊎ ((new_view v.plan ≡ x) × (u ≡ length (set t.views 0 (split_view v)))) → ToldBy plan (step s Split) u x x.plan
       by_place u x (inl (below, here)) = by_worker (cases_eq u 0)
         where
           apart : u ≢ s.workers

@@ -22,7 +22,7 @@ use Rattle.shared_schedule.specs.declared.slot.Slot.{Slot}
 use Rattle.shared_schedule.specs.declared.slot.Slot.TheVariants.{Away, Made, Cleared}
 use Rattle.shared_schedule.specs.declared.view.Hold.{Hold}
 use Rattle.shared_schedule.specs.declared.view.Hold.TheVariants.{Due, Begun, Over}
-use Rattle.shared_schedule.specs.declared.view.Place.TheVariants.{Nowhere, Body, Edge}
+use Rattle.shared_schedule.specs.declared.view.TableSlot.TheVariants.{Nowhere, Body, Edge}
 use Rattle.shared_schedule.specs.declared.view.View.{View}
 use Rattle.shared_schedule.specs.Views.{callees_in, last_move, hold_of, is_held, has_edge, Tells}
 use Rattle.shared_schedule.specs.Rule.{edge_slot, slots_of, handles_edge, handles_body, Lies, home, BodyFits, EdgeFits, Shows, Rule}
@@ -193,12 +193,15 @@ module _ {P B : Type 0} (first finished : P → ℕ → B → Type 0) (copied : 
           quiet-edge s c i (record (s.edge c i) { fill = Emptied }) u (none ∙ sym (ap (λ f. is_emptied f && is_held (hold_of u (s.stage c))) full)) refl
 
       by_edge : (a b : ℕ) → IsEdge s.callees a b → ((a ≡ c) × (b ≡ i)) ⊎ (a ≡ c → b ≡ i → ⊥)
-          → Lies (EdgeFits first finished copied plan.pieces (callee s.callees a b) (put_edge c i (record (s.edge c i) { fill = Emptied }) s.edge a b).fill) (handles_edge (record s { edge = put_edge c i (record (s.edge c i) { fill = Emptied }) s.edge }) a b) (Edge a b)
+          → Lies (EdgeFits first finished copied plan.pieces (callee s.callees a b) (put_edge c i (record (s.edge c i) { fill = Emptied }) s.edge a b).fill)
+          (handles_edge (record s { edge = put_edge c i (record (s.edge c i) { fill = Emptied }) s.edge }) a b) (Edge a b)
           (set t.homes (edge_slot s.callees c i) (some Cleared)) (edge_slot s.callees a b) (set t.views w (cleared me.0 c i))
       by_edge a b there (inl (e1, e2)) =
-          subst (λ n. Lies (EdgeFits first finished copied plan.pieces (callee s.callees n b) (put_edge c i (record (s.edge c i) { fill = Emptied }) s.edge n b).fill) (handles_edge (record s { edge = put_edge c i (record (s.edge c i) { fill = Emptied }) s.edge }) n b) (Edge n b)
+          subst (λ n. Lies (EdgeFits first finished copied plan.pieces (callee s.callees n b) (put_edge c i (record (s.edge c i) { fill = Emptied }) s.edge n b).fill)
+          (handles_edge (record s { edge = put_edge c i (record (s.edge c i) { fill = Emptied }) s.edge }) n b) (Edge n b)
           (set t.homes (edge_slot s.callees c i) (some Cleared)) (edge_slot s.callees n b) (set t.views w (cleared me.0 c i))) (sym e1)
-          (subst (λ k. Lies (EdgeFits first finished copied plan.pieces (callee s.callees c k) (put_edge c i (record (s.edge c i) { fill = Emptied }) s.edge c k).fill) (handles_edge (record s { edge = put_edge c i (record (s.edge c i) { fill = Emptied }) s.edge }) c k) (Edge c k)
+          (subst (λ k. Lies (EdgeFits first finished copied plan.pieces (callee s.callees c k) (put_edge c i (record (s.edge c i) { fill = Emptied }) s.edge c k).fill)
+          (handles_edge (record s { edge = put_edge c i (record (s.edge c i) { fill = Emptied }) s.edge }) c k) (Edge c k)
           (set t.homes (edge_slot s.callees c i) (some Cleared)) (edge_slot s.callees c k) (set t.views w (cleared me.0 c i))) (sym e2)
           (home Cleared (set_here t.homes (edge_slot s.callees c i) (some Cleared) (edge-place s.callees (length t.homes) c i shows.homes here))
           (subst (λ z. EdgeFits first finished copied plan.pieces (callee s.callees c i) z.fill Cleared) (sym (put_edge-here c i (record (s.edge c i) { fill = Emptied }) s.edge)) refl)))

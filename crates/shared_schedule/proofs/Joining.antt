@@ -18,7 +18,7 @@ use Rattle.shared_schedule.specs.declared.plan.Plan.{Plan}
 use Rattle.shared_schedule.specs.declared.slot.Slot.{Slot}
 use Rattle.shared_schedule.specs.declared.view.Hold.{Hold}
 use Rattle.shared_schedule.specs.declared.view.Hold.TheVariants.{Due, Begun, Over}
-use Rattle.shared_schedule.specs.declared.view.Place.TheVariants.{Nowhere}
+use Rattle.shared_schedule.specs.declared.view.TableSlot.TheVariants.{Nowhere}
 use Rattle.shared_schedule.specs.declared.view.View.{View}
 use Rattle.shared_schedule.specs.Views.{callees_in, last_move, hold_of, is_held, is_over, done_times, has_edge, Tells, ToldBy, spent_view, both_views}
 use Rattle.shared_schedule.specs.Rule.{handles_edge, handles_body, BodyFits, EdgeFits, Rule}
@@ -183,7 +183,8 @@ module _ {P B : Type 0} (first finished : P → ℕ → B → Type 0) (copied : 
       come = length-set (set t.views kept (both_views v g)) gone spent_view ∙ length-set t.views kept (both_views v g) ∙ shows.come;
       shares =
           let one : sum_by (λ z. z.shares) (set t.views kept (both_views v g)) + v.shares ≡ sum_by (λ z. z.shares) t.views + (v.shares + g.shares) = sum-changed (λ (z : View P). z.shares) t.views kept v (both_views v g) at in
-          let two : sum_by (λ z. z.shares) (set (set t.views kept (both_views v g)) gone spent_view) + g.shares ≡ sum_by (λ z. z.shares) (set t.views kept (both_views v g)) + 0 = sum-changed (λ (z : View P). z.shares) (set t.views kept (both_views v g)) gone g spent_view at' in
+          let two : sum_by (λ z. z.shares) (set (set t.views kept (both_views v g)) gone spent_view) + g.shares
+          ≡ sum_by (λ z. z.shares) (set t.views kept (both_views v g)) + 0 = sum-changed (λ (z : View P). z.shares) (set t.views kept (both_views v g)) gone g spent_view at' in
           let old : sum_by (λ z. z.shares) t.views ≡ s.workers = shows.shares in
           omega arith;
       told = λ u x there. by_worker u x there (cases_eq u gone) (cases_eq u kept);
@@ -192,7 +193,8 @@ module _ {P B : Type 0} (first finished : P → ℕ → B → Type 0) (copied : 
           (lies_still (BodyFits first finished copied plan.pieces m (s.stage m)) (handles_body s m) t.homes kept v (both_views v g) (shows.bodies m within) at (nowhere-body v m idle) (λ y fit. fit) refl (λ u other may. may))
           at' (nowhere-body g m idle') (fits-still plan.pieces m kept gone (s.stage m)) refl (λ u other may. may-still is_held refl kept gone u (s.stage m) (how m) other may);
       edges = λ c i edge. lies_still (EdgeFits first finished copied plan.pieces (callee s.callees c i) (s.edge c i).fill) (handles_edge after c i) t.homes gone g spent_view
-          (lies_still (EdgeFits first finished copied plan.pieces (callee s.callees c i) (s.edge c i).fill) (handles_edge s c i) t.homes kept v (both_views v g) (shows.edges c i edge) at (nowhere-edge v c i idle) (λ y fit. fit) refl (λ u other may. may))
+          (lies_still (EdgeFits first finished copied plan.pieces (callee s.callees c i) (s.edge c i).fill) (handles_edge s c i) t.homes kept v (both_views v g) (shows.edges c i edge) at
+          (nowhere-edge v c i idle) (λ y fit. fit) refl (λ u other may. may))
           at' (nowhere-edge g c i idle') (λ y fit. fit) refl (λ u other may. edge-still c i u other (s.edge c i).reported may);
     },
   )
@@ -238,13 +240,15 @@ module _ {P B : Type 0} (first finished : P → ℕ → B → Type 0) (copied : 
 
       by_worker : (u : ℕ) (x : View P) → get_elem? (set (set t.views kept (both_views v g)) gone spent_view) u ≡ some x → (u ≡ gone) ⊎ (u ≢ gone) → (u ≡ kept) ⊎ (u ≢ kept) → ToldBy plan (step s (Join kept gone)) u x x.plan
       by_worker u x there (inl e) which =
-          let is : spent_view ≡ x = some-injective spent_view x (sym (set_here (set t.views kept (both_views v g)) gone spent_view (place-lt (set t.views kept (both_views v g)) gone g at')) ∙ ap (get_elem? (set (set t.views kept (both_views v g)) gone spent_view)) (sym e) ∙ there) in
+          let is : spent_view ≡ x = some-injective spent_view x (sym (set_here (set t.views kept (both_views v g)) gone spent_view (place-lt (set t.views kept (both_views v g)) gone g at'))
+          ∙ ap (get_elem? (set (set t.views kept (both_views v g)) gone spent_view)) (sym e) ∙ there) in
           subst (λ n. ToldBy plan (step s (Join kept gone)) n x x.plan) (sym e) (subst (λ (z : View P). ToldBy plan (step s (Join kept gone)) gone z z.plan) is
           (ap (λ y. y.gone) (put-here gone (record (s.worker gone) { gone = true }) s.worker), refl))
       by_worker u x there (inr other) (inl e) =
           let is : both_views v g ≡ x = some-injective (both_views v g) x (sym (set_here t.views kept (both_views v g) (place-lt t.views kept v at)) ∙ sym (set_else (set t.views kept (both_views v g)) gone kept spent_view apart)
           ∙ ap (get_elem? (set (set t.views kept (both_views v g)) gone spent_view)) (sym e) ∙ there) in
-          subst (λ n. ToldBy plan (step s (Join kept gone)) n x x.plan) (sym e) (subst (λ z. ToldBy plan (step s (Join kept gone)) kept z z.plan) is (told_by plan plan (step s (Join kept gone)) kept (both_views v g) v.plan mine refl (record {
+          subst (λ n. ToldBy plan (step s (Join kept gone)) n x x.plan) (sym e) (subst (λ z. ToldBy plan (step s (Join kept gone)) kept z z.plan) is
+          (told_by plan plan (step s (Join kept gone)) kept (both_views v g) v.plan mine refl (record {
             moves = λ m. last_move-append v.moves g.moves m ∙ (λ j. first_of (tells.moves m j) (theirs-tell.moves m j)) ∙ kept-moves kept gone (s.stage m) (how m);
             once = λ m. done_times-append v.moves g.moves m ∙ ap₂ (λ a b. a + b) (tells.once m) (theirs-tell.once m) ∙ over-apart kept gone apart (s.stage m)
                 ∙ ap one_if (kept-tests is_over refl kept gone (s.stage m) (how m));

@@ -19,8 +19,8 @@ use Rattle.shared_schedule.specs.declared.slot.Slot.{Slot}
 use Rattle.shared_schedule.specs.declared.slot.Slot.TheVariants.{Bare, Copied}
 use Rattle.shared_schedule.specs.declared.view.Hold.{Hold}
 use Rattle.shared_schedule.specs.declared.view.Hold.TheVariants.{Due, Begun, Over}
-use Rattle.shared_schedule.specs.declared.view.Place.{Place}
-use Rattle.shared_schedule.specs.declared.view.Place.TheVariants.{Nowhere, Body, Edge}
+use Rattle.shared_schedule.specs.declared.view.TableSlot.{TableSlot}
+use Rattle.shared_schedule.specs.declared.view.TableSlot.TheVariants.{Nowhere, Body, Edge}
 use Rattle.shared_schedule.specs.declared.view.View.{View}
 use Rattle.shared_schedule.specs.Views.{callees_in, last_move, hold_of, is_held, is_over, has_edge, Tells}
 use Rattle.shared_schedule.specs.Rule.{edge_slot, slots_of, handles_edge, handles_body, Lies, home, out, BodyFits, EdgeFits, Shows, Rule}
@@ -71,7 +71,7 @@ pub quiet-same : (s : State) (u : ℕ) → Quiet s s u
 quiet-same s u = record { holds = λ k. refl; emptied = λ c i at. refl; told = λ c i at. refl; worker = refl; splits = λ first. refl }
 
 -- a slot that nobody else may have is at home
-at-home : {S P : Type 0} {fits : S → Type 0} {handles : ℕ → Bool} {place : Place} {homes : List (mathlib.Core.Option.Option S)} {k : ℕ} {views : List (View P)}
+at-home : {S P : Type 0} {fits : S → Type 0} {handles : ℕ → Bool} {place : TableSlot} {homes : List (mathlib.Core.Option.Option S)} {k : ℕ} {views : List (View P)}
     (w : ℕ) (v : View P) → Lies fits handles place homes k views → get_elem? views w ≡ some v → (v.out ≡ place → ⊥) → ((u : ℕ) → handles u ≡ true → u ≡ w)
     → (y : S) × (get_elem? homes k ≡ some (some y)) × fits y
 at-home w v (home y at fit) here apart only = (y, at, fit)
@@ -175,9 +175,12 @@ module _ {P B : Type 0} (first finished : P → ℕ → B → Type 0) (copied : 
       by_edge : (a b : ℕ) → IsEdge s.callees a b → ((a ≡ c) × (b ≡ i)) ⊎ (a ≡ c → b ≡ i → ⊥)
           → Lies (EdgeFits first finished copied plan.pieces (callee s.callees a b) (s.edge a b).fill) (handles_edge s a b) (Edge a b) (set t.homes (edge_slot s.callees c i) none) (edge_slot s.callees a b) (set t.views w (lent_edge v c i))
       by_edge a b there (inl (e1, e2)) =
-          subst (λ n. Lies (EdgeFits first finished copied plan.pieces (callee s.callees n b) (s.edge n b).fill) (handles_edge s n b) (Edge n b) (set t.homes (edge_slot s.callees c i) none) (edge_slot s.callees n b) (set t.views w (lent_edge v c i))) (sym e1)
-          (subst (λ k. Lies (EdgeFits first finished copied plan.pieces (callee s.callees c k) (s.edge c k).fill) (handles_edge s c k) (Edge c k) (set t.homes (edge_slot s.callees c i) none) (edge_slot s.callees c k) (set t.views w (lent_edge v c i))) (sym e2)
-          (out (set_here t.homes (edge_slot s.callees c i) none (let below : edge_slot s.callees c i < slots_of s.callees = edge_slot-lt s.callees c i edge in omega (arith, shows.homes))) w (lent_edge v c i) (set_here t.views w (lent_edge v c i) (place-lt t.views w v at)) refl may))
+          subst (λ n. Lies (EdgeFits first finished copied plan.pieces (callee s.callees n b) (s.edge n b).fill) (handles_edge s n b) (Edge n b) (set t.homes (edge_slot s.callees c i) none)
+          (edge_slot s.callees n b) (set t.views w (lent_edge v c i))) (sym e1)
+          (subst (λ k. Lies (EdgeFits first finished copied plan.pieces (callee s.callees c k) (s.edge c k).fill) (handles_edge s c k) (Edge c k) (set t.homes (edge_slot s.callees c i) none)
+          (edge_slot s.callees c k) (set t.views w (lent_edge v c i))) (sym e2)
+          (out (set_here t.homes (edge_slot s.callees c i) none (let below : edge_slot s.callees c i < slots_of s.callees = edge_slot-lt s.callees c i edge in omega (arith, shows.homes))) w
+          (lent_edge v c i) (set_here t.views w (lent_edge v c i) (place-lt t.views w v at)) refl may))
       by_edge a b there (inr ne) =
           edge_still first finished copied plan t s s w v (lent_edge v c i) (set t.homes (edge_slot s.callees c i) none) a b shows there at (nowhere-edge v a b idle) refl
           (set_else t.homes (edge_slot s.callees c i) (edge_slot s.callees a b) none (edge_slot-apart s.callees c i a b edge there ne)) (λ u apart. quiet-same s u)
@@ -242,8 +245,10 @@ module _ {P B : Type 0} (first finished : P → ℕ → B → Type 0) (copied : 
           let same : plan ≡ plan' = (let e : Some plan ≡ Some plan' = sym mine ∙ mine' in cc) in
           let lists : s.callees ≡ callees_in plan' = shows.callees ∙ ap callees_in same in
           let same' : c ≡ c' = omega arith in
-          subst (λ k. (o : Option B) × ◌≡◌ {A = Me (Slot B) (View P)} (lent_edge me.0 c i, (edge_slot s.callees c i, slot.0) ∷ me.1) (lent_edge me.0 k i', (edge_slot (callees_in plan') k i', Copied o) ∷ me.1) × copied plan'.pieces (callee (callees_in plan') k i') o) same'
-          (subst (λ j. (o : Option B) × ◌≡◌ {A = Me (Slot B) (View P)} (lent_edge me.0 c i, (edge_slot s.callees c i, slot.0) ∷ me.1) (lent_edge me.0 c j, (edge_slot (callees_in plan') c j, Copied o) ∷ me.1) × copied plan'.pieces (callee (callees_in plan') c j) o) is'
+          subst (λ k. (o : Option B) × ◌≡◌ {A = Me (Slot B) (View P)} (lent_edge me.0 c i, (edge_slot s.callees c i, slot.0) ∷ me.1)
+          (lent_edge me.0 k i', (edge_slot (callees_in plan') k i', Copied o) ∷ me.1) × copied plan'.pieces (callee (callees_in plan') k i') o) same'
+          (subst (λ j. (o : Option B) × ◌≡◌ {A = Me (Slot B) (View P)} (lent_edge me.0 c i, (edge_slot s.callees c i, slot.0) ∷ me.1)
+          (lent_edge me.0 c j, (edge_slot (callees_in plan') c j, Copied o) ∷ me.1) × copied plan'.pieces (callee (callees_in plan') c j) o) is'
           (copy.0, (λ j. (lent_edge me.0 c i, (edge_slot (lists j) c i, copy.1 j) ∷ me.1)), subst (λ z. copied z.pieces (callee (callees_in plan') c i) copy.0) same (subst (λ cs. copied plan.pieces (callee cs c i) copy.0) lists copy.2)))
 
   -- the slot of an edge that is not reported is taken by the worker that did the callee

@@ -55,5 +55,6 @@ module _ {P B : Type 0} (first finished : P → ℕ → B → Type 0) (copied : 
       subst (λ ws. Shows first finished copied plan (record { words = ws; homes = t.homes; views = set t.views w me.0 }) s) (sym (set-read t.words 0))
           (subst (λ vs. Shows first finished copied plan (record { words = t.words; homes = t.homes; views = vs }) s) (sym (set_again t.views w me.0 at)) shows),
     ),
-    λ plan' mine'. let e : Some plan ≡ Some plan' = sym mine ∙ mine' in let same : plan ≡ plan' = cc in (refl, subst (λ cs. Agrees cs me.0) (shows.callees ∙ ap callees_in same) (agrees s w me.0 shows.sound (tells-now first finished copied plan t s w me.0 shows mine at))),
+    λ plan' mine'. let e : Some plan ≡ Some plan' = sym mine ∙ mine' in let same : plan ≡ plan' = cc in
+        (refl, subst (λ cs. Agrees cs me.0) (shows.callees ∙ ap callees_in same) (agrees s w me.0 shows.sound (tells-now first finished copied plan t s w me.0 shows mine at))),
   )

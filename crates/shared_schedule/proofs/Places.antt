@@ -15,8 +15,10 @@ pub edges_below-le : (callees : List (List ℕ)) (c d : ℕ) → c < d → edges
 edges_below-le callees c zero below = omega arith
 edges_below-le callees c (suc d) below = by_order (λ less. edges_below-le callees c d less) (cases_eq c d)
   where
-    by_order : (c < d → edges_below callees c + length (callees_of callees c) ≤ edges_below callees d) → (c ≡ d) ⊎ (c ≢ d) → edges_below callees c + length (callees_of callees c) ≤ sum_below d (λ k. length (callees_of callees k)) + length (callees_of callees d)
-    by_order before (inl e) = let same : edges_below callees c + length (callees_of callees c) ≡ sum_below d (λ k. length (callees_of callees k)) + length (callees_of callees d) = ap (λ k. edges_below callees k + length (callees_of callees k)) e in omega arith
+    by_order : (c < d → edges_below callees c + length (callees_of callees c) ≤ edges_below callees d) → (c ≡ d) ⊎ (c ≢ d)
+        → edges_below callees c + length (callees_of callees c) ≤ sum_below d (λ k. length (callees_of callees k)) + length (callees_of callees d)
+    by_order before (inl e) = let same : edges_below callees c + length (callees_of callees c)
+        ≡ sum_below d (λ k. length (callees_of callees k)) + length (callees_of callees d) = ap (λ k. edges_below callees k + length (callees_of callees k)) e in omega arith
     by_order before (inr ne) = let old : edges_below callees c + length (callees_of callees c) ≤ edges_below callees d = before (omega arith) in omega arith
 
 -- an edge is one of the slots

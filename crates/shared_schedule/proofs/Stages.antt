@@ -10,7 +10,7 @@ use Rattle.sched_core.specs.Sound.{Sound}
 use Rattle.sched_core.proofs.Puts.{put_cases, put_keeps}
 use Rattle.shared_schedule.specs.declared.view.Hold.{Hold}
 use Rattle.shared_schedule.specs.declared.view.Hold.TheVariants.{Due, Begun, Over}
-use Rattle.shared_schedule.specs.declared.view.Place.{Place}
+use Rattle.shared_schedule.specs.declared.view.TableSlot.{TableSlot}
 use Rattle.shared_schedule.specs.declared.view.View.{View}
 use Rattle.shared_schedule.specs.Views.{hold_of, is_held, is_over, Tells}
 use Rattle.shared_schedule.proofs.Lookups.{moves-put, once-put}
@@ -54,7 +54,7 @@ quiet-stage s m x u same = record {
     holds = put_keeps (hold_of u) m x s.stage same
 
 -- the worker itself, with one more move
-pub tells-stage : {P : Type 0} (s : State) (w m : ℕ) (h : Hold) (x : Stage) (v : View P) (o : Place) → Tells s w v → hold_of w x ≡ Some h → is_over (hold_of w (s.stage m)) ≡ false
+pub tells-stage : {P : Type 0} (s : State) (w m : ℕ) (h : Hold) (x : Stage) (v : View P) (o : TableSlot) → Tells s w v → hold_of w x ≡ Some h → is_over (hold_of w (s.stage m)) ≡ false
     → ((c i : ℕ) → IsEdge s.callees c i → c ≡ m → is_emptied (s.edge c i).fill ≡ true → is_held (hold_of w (s.stage c)) ≡ is_held (hold_of w x))
     → ((c i : ℕ) → IsEdge s.callees c i → callee s.callees c i ≡ m → (s.edge c i).reported ≡ true → is_over (hold_of w (s.stage (callee s.callees c i))) ≡ is_over (hold_of w x))
     → Tells (record s { stage = put m x s.stage }) w (record v { moves = (m, h) ∷ v.moves; out = o })
@@ -75,21 +75,21 @@ tells-stage s w m h x v o t is before held over = record {
 }
 
 -- a waiting module comes to be owed
-pub tells-owed : {P : Type 0} (s : State) (w m : ℕ) (v : View P) (o : Place) → Sound s → Tells s w v → s.stage m ≡ Waiting
+pub tells-owed : {P : Type 0} (s : State) (w m : ℕ) (v : View P) (o : TableSlot) → Sound s → Tells s w v → s.stage m ≡ Waiting
     → Tells (record s { stage = put m (Owed w) s.stage }) w (record v { moves = (m, Due) ∷ v.moves; out = o })
 tells-owed s w m v o sound t waits = tells-stage s w m Due (Owed w) v o t (owed-own w) (ap (λ y. is_over (hold_of w y)) waits)
     (λ c i at here emptied. absurd (false≢true (sym (ap (λ k. is_begun (s.stage k)) here ∙ ap is_begun waits) ∙ sound.emptied c i at emptied)))
     (λ c i at here reported. ap (λ k. is_over (hold_of w (s.stage k))) here ∙ ap (λ y. is_over (hold_of w y)) waits ∙ sym (ap is_over (owed-own w)))
 
 -- an owed module comes to be taken
-pub tells-taken : {P : Type 0} (s : State) (w m : ℕ) (v : View P) (o : Place) → Tells s w v → s.stage m ≡ Owed w
+pub tells-taken : {P : Type 0} (s : State) (w m : ℕ) (v : View P) (o : TableSlot) → Tells s w v → s.stage m ≡ Owed w
     → Tells (record s { stage = put m (Taken w) s.stage }) w (record v { moves = (m, Begun) ∷ v.moves; out = o })
 tells-taken s w m v o t owed = tells-stage s w m Begun (Taken w) v o t (taken-own w) (ap (λ y. is_over (hold_of w y)) owed ∙ ap is_over (owed-own w))
     (λ c i at here emptied. ap (λ k. is_held (hold_of w (s.stage k))) here ∙ ap (λ y. is_held (hold_of w y)) owed ∙ ap is_held (owed-own w) ∙ sym (ap is_held (taken-own w)))
     (λ c i at here reported. ap (λ k. is_over (hold_of w (s.stage k))) here ∙ ap (λ y. is_over (hold_of w y)) owed ∙ ap is_over (owed-own w) ∙ sym (ap is_over (taken-own w)))
 
 -- a taken module comes to be done
-pub tells-done : {P : Type 0} (s : State) (w m : ℕ) (v : View P) (o : Place) → Sound s → Tells s w v → s.stage m ≡ Taken w
+pub tells-done : {P : Type 0} (s : State) (w m : ℕ) (v : View P) (o : TableSlot) → Sound s → Tells s w v → s.stage m ≡ Taken w
     → Tells (record s { stage = put m (Done w) s.stage }) w (record v { moves = (m, Over) ∷ v.moves; out = o })
 tells-done s w m v o sound t taken = tells-stage s w m Over (Done w) v o t (done-own w) (ap (λ y. is_over (hold_of w y)) taken ∙ ap is_over (taken-own w))
     (λ c i at here emptied. ap (λ k. is_held (hold_of w (s.stage k))) here ∙ ap (λ y. is_held (hold_of w y)) taken ∙ ap is_held (taken-own w) ∙ sym (ap is_held (done-own w)))

@@ -12,8 +12,8 @@ use Rattle.sched_core.specs.Sound.{Sound}
 use Rattle.sched_core.specs.Runs.{AreCallees}
 use Rattle.shared_schedule.specs.declared.plan.Plan.{Plan}
 use Rattle.shared_schedule.specs.declared.slot.Slot.{Slot}
-use Rattle.shared_schedule.specs.declared.view.Place.{Place}
-use Rattle.shared_schedule.specs.declared.view.Place.TheVariants.{Body, Edge}
+use Rattle.shared_schedule.specs.declared.view.TableSlot.{TableSlot}
+use Rattle.shared_schedule.specs.declared.view.TableSlot.TheVariants.{Body, Edge}
 use Rattle.shared_schedule.specs.declared.view.View.{View}
 use Rattle.shared_schedule.specs.Views.{hold_of, is_held, is_over, Tells, ToldBy}
 use Rattle.shared_schedule.specs.Rule.{edge_slot, slots_of, handles_edge, handles_body, Lies, home, out, BodyFits, EdgeFits, Shows}
@@ -58,7 +58,7 @@ told_by plan mine s w v None is same tells = absurd (cc)
 told_by plan mine s w v (Some p) is same tells = (let e : p ≡ mine = cc in e ∙ same, tells)
 
 -- a slot lies where it lay, where a worker changes that has another slot out or none
-pub lies_still : {S P : Type 0} {fits : S → Type 0} {handles : ℕ → Bool} {place : Place} {homes : List (mathlib.Core.Option.Option S)} {k : ℕ} {views : List (View P)}
+pub lies_still : {S P : Type 0} {fits : S → Type 0} {handles : ℕ → Bool} {place : TableSlot} {homes : List (mathlib.Core.Option.Option S)} {k : ℕ} {views : List (View P)}
     (fits' : S → Type 0) (handles' : ℕ → Bool) (homes' : List (mathlib.Core.Option.Option S)) (w : ℕ) (v v' : View P)
     → Lies fits handles place homes k views → get_elem? views w ≡ some v → (v.out ≡ place → ⊥) → ((y : S) → fits y → fits' y) → get_elem? homes' k ≡ get_elem? homes k
     → ((u : ℕ) → u ≢ w → handles u ≡ true → handles' u ≡ true) → Lies fits' handles' place homes' k (set views w v')

@@ -1,5 +1,6 @@
 -- An edge is reported, with a copy put on it: that keeps the rule.
-use Rattle.std.proofs.Common.{◌≡◌, ◌≢◌, ℕ, zero, suc, ◌+◌, ◌-◌, ◌%◌, ◌<◌, ◌⊎◌, true, false, ◌&&◌, List, [], ◌∷◌, length, set, Option, Some, slice_index, refl, sym, ap, subst, ◌∙◌, inl, inr, length-set, get_or-set_same, get_or-set_other, mod-eq_of_lt, arith}
+use Rattle.std.proofs.Common.{◌≡◌, ◌≢◌, ℕ, zero, suc, ◌+◌, ◌-◌, ◌%◌, ◌<◌, ◌⊎◌, true, false, ◌&&◌, List, [], ◌∷◌, length, set, Option, Some, slice_index, refl, sym, ap, subst, ◌∙◌, inl, inr}
+use Rattle.std.proofs.Common.{length-set, get_or-set_same, get_or-set_other, mod-eq_of_lt, arith}
 use Rattle.std.specs.Prelude.{◌==◌}
 use Rattle.std.proofs.lemmas.Bool.{true≢false, cases_eq, eq-eqb, ne_eqb, cond-true, cond-false}
 use native.Mathlib.Nat.{add-mod_right}
@@ -26,7 +27,7 @@ use Rattle.shared_schedule.specs.declared.plan.Plan.{Plan}
 use Rattle.shared_schedule.specs.declared.slot.Slot.{Slot}
 use Rattle.shared_schedule.specs.declared.slot.Slot.TheVariants.{Copied}
 use Rattle.shared_schedule.specs.declared.view.Hold.TheVariants.{Due, Over}
-use Rattle.shared_schedule.specs.declared.view.Place.TheVariants.{Nowhere, Body, Edge}
+use Rattle.shared_schedule.specs.declared.view.TableSlot.TheVariants.{Nowhere, Body, Edge}
 use Rattle.shared_schedule.specs.declared.view.View.{View}
 use Rattle.shared_schedule.specs.Views.{callees_in, last_move, hold_of, is_held, is_over, has_edge, Tells}
 use Rattle.shared_schedule.specs.Rule.{edge_slot, handles_edge, Lies, home, BodyFits, EdgeFits, Shows, Rule}

@@ -10,7 +10,7 @@ use Rattle.shared_schedule.specs.declared.view.Hold.{Hold}
 use Rattle.shared_schedule.specs.declared.view.Hold.TheVariants.{Due, Begun, Over}
 use Rattle.shared_schedule.specs.declared.view.View.{View}
 use Rattle.shared_schedule.specs.Views.{last_move, is_held, is_over, has_edge}
-use Rattle.shared_schedule.specs.declared.view.Place.TheVariants.{Nowhere}
+use Rattle.shared_schedule.specs.declared.view.TableSlot.TheVariants.{Nowhere}
 use Rattle.shared_schedule.specs.Plays.{drawn, moved, cleared, reported}
 use Rattle.shared_schedule.specs.Seats.{IsFinished, Agrees}
 use Rattle.shared_schedule.specs.Working.{times, edge_times, is_due, goes_from, AreCallersOf, IsBetween, IsTelling, open_modules, GoesOn}
@@ -250,7 +250,8 @@ told-all callees v queue m tells = record {
     by_callee : (c i : ℕ) → IsEdge callees c i → is_over (last_move v.moves (callee callees c i)) ≡ true → (callee callees c i ≡ m) ⊎ (callee callees c i ≢ m) → has_edge v.told c i ≡ true
     by_callee c i at over (inl e) =
         let goes : goes_from callees m c i ≡ true = edge-goes callees m c i at e in
-        let both : (has_edge v.told c i && goes_from callees m c i) ≡ true = one_if-true (has_edge v.told c i && goes_from callees m c i) (let one : one_if (goes_from callees m c i) ≡ 1 = ap one_if goes in omega (arith, tells.untold c i)) in
+        let both : (has_edge v.told c i && goes_from callees m c i) ≡ true = one_if-true (has_edge v.told c i && goes_from callees m c i)
+        (let one : one_if (goes_from callees m c i) ≡ 1 = ap one_if goes in omega (arith, tells.untold c i)) in
         (both-true (has_edge v.told c i) (goes_from callees m c i) both).0
     by_callee c i at over (inr ne) = tells.told c i at over ne
 

@@ -14,8 +14,8 @@ use Rattle.sched_core.specs.Runs.{AreCallees}
 use Rattle.shared_schedule.specs.declared.plan.Plan.{Plan}
 use Rattle.shared_schedule.specs.declared.slot.Slot.{Slot}
 use Rattle.shared_schedule.specs.declared.slot.Slot.TheVariants.{Stored, Away, Made, Bare, Copied, Cleared}
-use Rattle.shared_schedule.specs.declared.view.Place.{Place}
-use Rattle.shared_schedule.specs.declared.view.Place.TheVariants.{Body, Edge}
+use Rattle.shared_schedule.specs.declared.view.TableSlot.{TableSlot}
+use Rattle.shared_schedule.specs.declared.view.TableSlot.TheVariants.{Body, Edge}
 use Rattle.shared_schedule.specs.declared.view.View.{View}
 use Rattle.shared_schedule.specs.Views.{callees_in, hold_of, is_held, is_over, ToldBy}
 
@@ -41,7 +41,7 @@ abbrev pub handles_body : State → ℕ → ℕ → Bool
 handles_body s m w = is_held (hold_of w (s.stage m))
 
 -- a slot is at home and fits, or it is out with a worker that may have it
-pub data Lies {S P : Type 0} (fits : S → Type 0) (handles : ℕ → Bool) (place : Place) (homes : List (mathlib.Core.Option.Option S)) (k : ℕ) (views : List (View P)) : Type 0 where
+pub data Lies {S P : Type 0} (fits : S → Type 0) (handles : ℕ → Bool) (place : TableSlot) (homes : List (mathlib.Core.Option.Option S)) (k : ℕ) (views : List (View P)) : Type 0 where
   home : (y : S) → get_elem? homes k ≡ some (some y) → fits y → Lies fits handles place homes k views
   out : get_elem? homes k ≡ some none → (w : ℕ) → (v : View P) → get_elem? views w ≡ some v → v.out ≡ place → handles w ≡ true → Lies fits handles place homes k views
 

@@ -8,7 +8,7 @@ use Rattle.shared_schedule.specs.declared.slot.Slot.{Slot}
 use Rattle.shared_schedule.specs.declared.slot.Slot.TheVariants.{Copied}
 use Rattle.shared_schedule.specs.declared.view.Hold.{Hold}
 use Rattle.shared_schedule.specs.declared.view.Hold.TheVariants.{Due, Over}
-use Rattle.shared_schedule.specs.declared.view.Place.TheVariants.{Nowhere, Edge}
+use Rattle.shared_schedule.specs.declared.view.TableSlot.TheVariants.{Nowhere, Edge}
 use Rattle.shared_schedule.specs.declared.view.View.{View}
 use Rattle.shared_schedule.specs.Views.{callees_in, last_move, is_held, is_over, has_edge}
 use Rattle.shared_schedule.specs.Rule.{edge_slot}

@@ -7,7 +7,7 @@ use Rattle.sched_core.specs.State.{State, callee, IsEdge, is_emptied}
 use Rattle.shared_schedule.specs.declared.plan.Plan.{Plan}
 use Rattle.shared_schedule.specs.declared.view.Hold.{Hold}
 use Rattle.shared_schedule.specs.declared.view.Hold.TheVariants.{Due, Begun, Over}
-use Rattle.shared_schedule.specs.declared.view.Place.TheVariants.{Nowhere}
+use Rattle.shared_schedule.specs.declared.view.TableSlot.TheVariants.{Nowhere}
 use Rattle.shared_schedule.specs.declared.view.View.{View}
 
 -- the lists of callees of a plan

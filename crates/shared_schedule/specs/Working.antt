@@ -4,7 +4,7 @@ use Rattle.sched_core.specs.Sums.{sum_below, one_if}
 use Rattle.sched_core.specs.State.{callees_of, callee, IsEdge}
 use Rattle.shared_schedule.specs.declared.view.Hold.{Hold}
 use Rattle.shared_schedule.specs.declared.view.Hold.TheVariants.{Due, Begun, Over}
-use Rattle.shared_schedule.specs.declared.view.Place.TheVariants.{Nowhere}
+use Rattle.shared_schedule.specs.declared.view.TableSlot.TheVariants.{Nowhere}
 use Rattle.atomic_table.specs.Seated.{TableId}
 use Rattle.atomic_table.specs.declared.shared.Seat.{Seat}
 use Rattle.shared_schedule.specs.declared.plan.Plan.{Plan}

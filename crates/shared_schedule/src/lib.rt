@@ -19,5 +19,5 @@ pub use pieces::Pieces;
 pub use plan::Plan;
 pub use shared::Shared;
 pub use slot::Slot;
-pub use view::{Hold, Place, View};
+pub use view::{Hold, TableSlot, View};
 pub use work::Work;

@@ -14,7 +14,7 @@ pub enum Hold {
 }
 
 /// Which slot is out with a worker.
-pub enum Place {
+pub enum TableSlot {
     Nowhere,
     /// The slot of a module.
     Body(u32),
@@ -39,5 +39,5 @@ pub struct View<P> {
     /// How many workers it is, those counted that it has gathered.
     pub shares: u32,
     /// The slot that is out with it.
-    pub out: Place,
+    pub out: TableSlot,
 }

@@ -14,6 +14,7 @@ use crate::slot::Slot;
 use crate::view::View;
 use crate::work::Work;
 use atomic_table::Seat;
+use sched_core::push_if;
 use std::alloc::{AllocError, Global};
 
 // takes what stands on the edges of a module that the worker has taken
@@ -62,16 +63,6 @@ where
         copies.push(work.copy(alloc, &shared.plan, m, body)?)?;
     }
     Ok(copies)
-}
-
-// one more number, where the test passed
-fn push_if(numbers: &mut Vec<u32>, number: u32, passes: bool) -> Result<(), AllocError>
-    ensures { OnOk result (numbers.new.items ≡ numbers.old.items ++ cond passes (number ∷ []) []) }
-{
-    if passes {
-        numbers.push(number)?;
-    }
-    Ok(())
 }
 
 // reports an edge whose callee the worker did; the caller goes into the queue where it was the last

@@ -45,7 +45,7 @@ enum Operand {
 }
 
 /// The operations that a text begins with, and where values are used in their body.
-struct Front {
+struct Prefix {
     text: &'static [u8],
     /// How many operations are read at most, and how many there are.
     most: usize,
@@ -56,9 +56,9 @@ struct Front {
     marks: &'static [(u32, &'static [bool])],
 }
 
-const FRONTS: [Front; 5] = [
+const PREFIXES: [Prefix; 5] = [
     // a name may be defined later
-    Front {
+    Prefix {
         text: FORWARD,
         most: 9,
         count: 6,
@@ -74,15 +74,15 @@ const FRONTS: [Front; 5] = [
         ],
         marks: &[],
     },
-    // a front is a body too
-    Front {
+    // a prefix is a body too
+    Prefix {
         text: FORWARD,
         most: 3,
         count: 3,
         uses: &[(Undefined, &[(0, 1)]), (Of(1, 0), &[(2, 0)])],
         marks: &[],
     },
-    Front {
+    Prefix {
         text: FORWARD,
         most: 0,
         count: 0,
@@ -90,7 +90,7 @@ const FRONTS: [Front; 5] = [
         marks: &[],
     },
     // a number counts within a pack
-    Front {
+    Prefix {
         text: PACKS,
         most: 9,
         count: 5,
@@ -106,7 +106,7 @@ const FRONTS: [Front; 5] = [
         marks: &[],
     },
     // each result of a pack has its mark
-    Front {
+    Prefix {
         text: PACKS_AGAIN,
         most: 9,
         count: 5,
@@ -183,26 +183,26 @@ fn are_marked(body: &Body, op: u32, marks: &[bool]) -> bool {
     left.is_empty()
 }
 
-// whether values are used and results are marked as a front says
-fn is_told(body: &Body, front: &Front) -> bool {
-    for (operand, places) in front.uses {
+// whether values are used and results are marked as a prefix says
+fn is_told(body: &Body, prefix: &Prefix) -> bool {
+    for (operand, places) in prefix.uses {
         if !is_used_at(body, *operand, places) {
             return false;
         }
     }
-    for (op, marks) in front.marks {
+    for (op, marks) in prefix.marks {
         if !are_marked(body, *op, marks) {
             return false;
         }
     }
-    body.op_count() == front.count
+    body.op_count() == prefix.count
 }
 
-// the first front of which something else is read, by its position
-fn first_other(alloc: Global, fronts: &[Front]) -> Result<Option<usize>, AllocError> {
-    for (at, front) in fronts.iter().enumerate() {
-        let body = body_of(alloc, front.text, front.most)?;
-        if !is_told(&body, front) {
+// the first prefix of which something else is read, by its position
+fn first_other(alloc: Global, prefixes: &[Prefix]) -> Result<Option<usize>, AllocError> {
+    for (at, prefix) in prefixes.iter().enumerate() {
+        let body = body_of(alloc, prefix.text, prefix.most)?;
+        if !is_told(&body, prefix) {
             return Ok(Some(at));
         }
     }
@@ -211,7 +211,7 @@ fn first_other(alloc: Global, fronts: &[Front]) -> Result<Option<usize>, AllocEr
 
 #[test]
 fn operations_are_read_one_by_one(rt: HostRuntime) -> Result<(), Fail> {
-    assert_eq!(rt; first_other(rt.alloc(), &FRONTS)?, None);
+    assert_eq!(rt; first_other(rt.alloc(), &PREFIXES)?, None);
     Ok(())
 }
 

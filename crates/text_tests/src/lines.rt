@@ -1,7 +1,7 @@
 //! Error messages.
 use diag::cause::Cause;
 use diag::line::refusal_text;
-use diag::refusal::{OpName, Place, Refusal};
+use diag::refusal::{Location, OpName, Refusal};
 use io_edge::memory_sink::MemorySink;
 use opcode::listed::Listed;
 use std::test::Fail;
@@ -12,7 +12,7 @@ const SOURCE: &[u8] = b"%0 = comb.nand";
 struct Row {
     /// The name of the file.
     name: &'static str,
-    place: Place,
+    location: Location,
     op: OpName,
     cause: Cause,
     message: &'static str,
@@ -21,21 +21,21 @@ struct Row {
 const ROWS: [Row; 5] = [
     Row {
         name: "-",
-        place: Place { line: 2, col: 8 },
+        location: Location { line: 2, col: 8 },
         op: OpName::Listed(Listed::HwConstant),
         cause: Cause::ConstantRange,
         message: "<stdin>:2:8: error: 'hw.constant' V5: constant out of range\n",
     },
     Row {
         name: "a.mlir",
-        place: Place { line: 1, col: 1 },
+        location: Location { line: 1, col: 1 },
         op: OpName::File,
         cause: Cause::TooLong,
         message: "a.mlir:1:1: error: 'builtin.module' S7: text too long\n",
     },
     Row {
         name: "b",
-        place: Place {
+        location: Location {
             line: 10,
             col: 4_294_967_295,
         },
@@ -45,14 +45,14 @@ const ROWS: [Row; 5] = [
     },
     Row {
         name: "",
-        place: Place { line: 3, col: 1 },
+        location: Location { line: 3, col: 1 },
         op: OpName::Listed(Listed::SeqCompregCe),
         cause: Cause::InstancePorts,
         message: ":3:1: error: 'seq.compreg.ce' V18: instance differs from the module's ports\n",
     },
     Row {
         name: "c",
-        place: Place { line: 1, col: 1 },
+        location: Location { line: 1, col: 1 },
         op: OpName::Listed(Listed::HwModule),
         cause: Cause::TooManyGates,
         message: "c:1:1: error: 'hw.module' L4: too many gates\n",
@@ -64,7 +64,7 @@ fn a_refusal_is_one_line(rt: HostRuntime) -> Result<(), Fail> {
     for row in &ROWS {
         let refusal = Refusal {
             file: 0,
-            place: row.place,
+            location: row.location,
             op: row.op,
             cause: row.cause,
         };

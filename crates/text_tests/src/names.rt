@@ -59,7 +59,7 @@ fn a_name_keeps_what_it_stood_for_first(rt: HostRuntime) -> Result<(), Fail> {
 }
 
 #[test]
-fn a_number_far_above_is_kept_when_its_place_comes_near(rt: HostRuntime) -> Result<(), Fail> {
+fn a_number_far_above_is_kept_when_its_location_comes_near(rt: HostRuntime) -> Result<(), Fail> {
     let mut names = Names::new(rt.alloc());
     for name in [
         "90", "0", "1", "2", "3", "4", "5", "6", "7", "8", "9", "91", "93",

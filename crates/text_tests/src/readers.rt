@@ -17,7 +17,7 @@ type Outcome = Result<u64, (u32, Cause)>;
 // the column and the cause of a refusal; column 0 for out of memory
 fn column_and_cause(fail: ReadFail) -> (u32, Cause) {
     match fail {
-        ReadFail::Refused(refusal) => (refusal.place.col, refusal.cause),
+        ReadFail::Refused(refusal) => (refusal.location.col, refusal.cause),
         ReadFail::NoMemory => (0, Cause::Unexpected),
     }
 }

@@ -46,8 +46,8 @@ fn is_next(tokens: &mut Tokens<'_>, wanted: &Expected) -> bool {
     let Expected(kind, line, col, at, text) = *wanted;
     match tokens.next() {
         Ok(Some(token)) => {
-            let place = (token.place.line, token.place.col, token.at);
-            token.kind == kind && (place == (line, col, at) && token.text == text.as_bytes())
+            let location = (token.location.line, token.location.col, token.at);
+            token.kind == kind && (location == (line, col, at) && token.text == text.as_bytes())
         }
         Ok(None) | Err(_) => false,
     }
@@ -69,7 +69,7 @@ fn a_text_is_its_tokens(rt: HostRuntime) {
     assert_eq!(rt; first_other(&mut tokens, &WANTED), None);
     assert!(rt; matches!(tokens.next(), Ok(None)));
     assert!(rt; matches!(tokens.next(), Ok(None)));
-    assert_eq!(rt; tokens.place().col, 31);
+    assert_eq!(rt; tokens.location().col, 31);
 }
 
 /// A text, how many tokens stand before a bad byte, and the line and column of that byte; none where the text ends.
@@ -112,21 +112,21 @@ fn come(tokens: &mut Tokens<'_>, count: usize) -> bool {
     true
 }
 
-// Whether the next token is refused at a place; at none, whether the text ends.
-fn is_refused(tokens: &mut Tokens<'_>, place: Option<(u32, u32)>) -> bool {
+// Whether the next token is refused at a location; at none, whether the text ends.
+fn is_refused(tokens: &mut Tokens<'_>, location: Option<(u32, u32)>) -> bool {
     match tokens.next() {
-        Err(refusal) => Some((refusal.place.line, refusal.place.col)) == place,
-        Ok(found) => found.is_none() && place.is_none(),
+        Err(refusal) => Some((refusal.location.line, refusal.location.col)) == location,
+        Ok(found) => found.is_none() && location.is_none(),
     }
 }
 
-// The first text that is not refused at its place, and again.
+// The first text that is not refused at its location, and again.
 fn first_taken(rows: &[Bad]) -> Option<&'static str> {
-    for Bad(source, before, place) in rows {
+    for Bad(source, before, location) in rows {
         let mut tokens = Tokens::new(source.as_bytes());
         let comes = come(&mut tokens, *before);
-        let is_once = is_refused(&mut tokens, *place);
-        if !(comes && (is_once && is_refused(&mut tokens, *place))) {
+        let is_once = is_refused(&mut tokens, *location);
+        if !(comes && (is_once && is_refused(&mut tokens, *location))) {
             return Some(source);
         }
     }
@@ -134,7 +134,7 @@ fn first_taken(rows: &[Bad]) -> Option<&'static str> {
 }
 
 #[test]
-fn a_bad_byte_is_refused_at_its_place_and_again(rt: HostRuntime) {
+fn a_bad_byte_is_refused_at_its_location_and_again(rt: HostRuntime) {
     assert_eq!(rt; first_taken(&BAD), None);
 }
 

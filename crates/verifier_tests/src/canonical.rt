@@ -1,9 +1,9 @@
 //! Which designs are in canonical form: for each reason one that is not, and one beside it that is.
 use crate::one_operation::{Form, Plain, Said, Value, design_of};
-use canonical_form::is_canonical;
 use hw_model::kinds::Integer;
 use std::alloc::{AllocError, Global};
 use std::test::Fail;
+use stored_form::is_canonical;
 
 /// A form that is not canonical, and one beside it that is.
 struct Row {

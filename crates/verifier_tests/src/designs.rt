@@ -1,5 +1,5 @@
 //! Designs of one module, which are built operation by operation.
-use diag::refusal::Place;
+use diag::refusal::Location;
 use hw_model::kinds::{Integer, OpKind};
 use hw_model::types::Ty;
 use io_edge::byte_text::Text;
@@ -62,7 +62,7 @@ fn operation(
         name: Text::new(alloc),
         dictionary: Dictionary::new(alloc),
         bin: false,
-        place: Place { line, col: 3 },
+        location: Location { line, col: 3 },
     })
 }
 
@@ -131,7 +131,7 @@ pub fn design(alloc: Global, ports: Vec<Port>, ops: Vec<NewOp>) -> Result<Design
         ports: PortList { ports },
         dictionary: Dictionary::new(alloc),
         body: body(alloc, ops)?,
-        place: Place { line: 1, col: 1 },
+        location: Location { line: 1, col: 1 },
     };
     let mut design = Design::new(alloc);
     let _ = design.add_module(module)?;

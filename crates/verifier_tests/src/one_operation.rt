@@ -1,6 +1,6 @@
 //! Designs of one operation, told by what of them is in canonical form or not.
 use crate::designs::design;
-use diag::refusal::Place;
+use diag::refusal::Location;
 use hw_model::kinds::{Integer, Literal, LiteralList, OpKind};
 use hw_model::types::Ty;
 use io_edge::byte_text::Text;
@@ -96,7 +96,7 @@ fn operation(alloc: Global, kind: OpKind, ty: Ty, given: Ty) -> Result<NewOp, Al
         name: Text::new(alloc),
         dictionary: Dictionary::new(alloc),
         bin: false,
-        place: Place { line: 2, col: 3 },
+        location: Location { line: 2, col: 3 },
     })
 }
 

@@ -1,12 +1,12 @@
 //! The verdicts on designs of one module.
 use crate::designs::{OUT, RESET, Row, design_of};
-use canonical_form::is_canonical;
 use diag::cause::Cause;
 use diag::refusal::Refusal;
 use ir_store::design::Design;
 use op_verifier::{VerifyFail, first_fault, verify};
 use std::alloc::{AllocError, Global};
 use std::test::Fail;
+use stored_form::is_canonical;
 
 /// Why a test has no verdict on a design.
 #[derive(Debug, Drop)]
@@ -87,7 +87,7 @@ fn same_verdict(
 // Whether a design has the refusal of a case.
 fn is_told(refusal: Option<Refusal>, case: &Case) -> bool {
     match (refusal, case.refused) {
-        (Some(refusal), Some((line, cause))) => refusal.place.line == line
+        (Some(refusal), Some((line, cause))) => refusal.location.line == line
             && refusal.cause == cause,
         (None, None) => true,
         (Some(_), None) | (None, Some(_)) => false,

@@ -1,7 +1,6 @@
 -- The expressions of a body have the widths of their values, and the values of their operations.
-use Rattle.std.proofs.Common.{◌≡◌, ℕ, ℤ, ◌<◌, ◌≤◌, ◌^◌, Bool, true, false, cond, not, ◌||◌, List, [], ◌∷◌, map, length, Option, Some, None, is_some, slice_get, refl, sym, ap, ap₂, subst, ◌∙◌, inl, inr, arith}
+use Rattle.std.proofs.Common.{◌≡◌, ℕ, ℤ, ◌<◌, ◌≤◌, ◌^◌, Bool, true, false, cond, not, ◌||◌, List, [], ◌∷◌, map, length, Option, Some, None, is_some, slice_get, refl, sym, ap, ap₂, subst, ◌∙◌, inl, inr, arith, option_and_then}
 use Rattle.std.proofs.lemmas.Bool.{true≢false, false≢true}
-use Rattle.wiring.specs.Options.{bind}
 use Rattle.wiring.specs.Wiring.{In, IsAcyclic}
 use Rattle.wiring.proofs.Members.{from_In-map}
 use Rattle.wiring.proofs.Settled.{by_needs}
@@ -18,7 +17,8 @@ use Rattle.hw_model.specs.Sound.{type_in, Fits}
 use Rattle.verilog_model.specs.Tree.{Expr}
 use Rattle.verilog_model.specs.Tree.Expr.{name}
 use Rattle.verilog_model.specs.Expression.{own_value}
-use Rattle.verilog_expr.specs.Building.{no_expr, literal_of, kind_expr}
+use Rattle.verilog_model.specs.Digits.{literal_of}
+use Rattle.verilog_expr.specs.Building.{no_expr, kind_expr}
 use Rattle.verilog_expr.specs.Expressions.{value_width, constant_number, constant_of, divisor_in, name_or, op_expr, typed_expr, result_expr, own_expr, AreExprs}
 use Rattle.verilog_expr.specs.Spilling.{is_pure, is_wire_kind, is_constant_kind, is_narrower, inner_of, inner_needs}
 use Rattle.verilog_expr.specs.Values.{HasBits, HaveBits, IsWholeName, IsBuildable, IsDividedBy, IsDivision, is_division, is_item_kind, gives_values, IsWritable, AreNamed, HoldConstants}
@@ -77,7 +77,7 @@ absent_own named ports os ex (result i k) none = go (slice_get os i) none where
   by_type o None is = refl
   by_type o (Some t) is = cc
 
-  go : (m : Option Op) → bind m (λ (o : Op). result_type o k) ≡ None → result_expr named ports os ex k m ≡ no_expr
+  go : (m : Option Op) → option_and_then (λ (o : Op). result_type o k) m ≡ None → result_expr named ports os ex k m ≡ no_expr
   go None is = refl
   go (Some o) is = by_type o (result_type o k) is
 
@@ -119,7 +119,7 @@ module _ (named : Ref → Option Name) (ports : List Port) (os : List Op) (ex : 
     all_good (r ∷ rs) good = (good r (inl refl), all_good rs (λ x here. good x (inr here)))
 
     type_of_result : (i k : ℕ) (o : Op) (t : HwType) → slice_get os i ≡ Some o → result_type o k ≡ Some t → type_in ports os (result i k) ≡ Some t
-    type_of_result i k o t there is = ap (λ m. bind m (λ (q : Op). result_type q k)) there ∙ is
+    type_of_result i k o t there is = ap (λ m. option_and_then (λ (q : Op). result_type q k) m) there ∙ is
 
     cut_name : (i k : ℕ) (o : Op) (t : HwType) → slice_get os i ≡ Some o → gives_values o ≡ true → result_type o k ≡ Some t
         → (x : Option HwType) (e : Expr) → map (type_in ports os) o.operands ≡ x ∷ [] → map ex o.operands ≡ e ∷ []
@@ -182,7 +182,7 @@ module _ (named : Ref → Option Name) (ports : List Port) (os : List Op) (ex : 
           let needs : inner_needs os (result i k) ≡ o.operands = ap (λ n. inner_needs os (result i n)) first ∙ pure_needs os i o there pure in
           op_bits i k o t there values is (λ x here. good x (subst (In x) (sym needs) here))
 
-      by_op : (t : HwType) (m : Option Op) → slice_get os i ≡ m → bind m (λ (q : Op). result_type q k) ≡ Some t → HasBits widths ρ (width t) (own_expr named ports os ex (result i k))
+      by_op : (t : HwType) (m : Option Op) → slice_get os i ≡ m → option_and_then (λ (q : Op). result_type q k) m ≡ Some t → HasBits widths ρ (width t) (own_expr named ports os ex (result i k))
       by_op t None there is = absurd (let bad : true ≡ false = cc in true≢false bad)
       by_op t (Some o) there is = subst (HasBits widths ρ (width t)) (sym (is_op i k o t there is)) (by_purity o t there is (is_pure o) refl)
 
@@ -244,7 +244,7 @@ module _ (named : Ref → Option Name) (ports : List Port) (os : List Op) (ex : 
         let exprs' : ex d.dividend ∷ ex (result d.divisor 0) ∷ [] ≡ a ∷ b ∷ [] = ap (map ex) (sym d.operands) ∙ exprs in
         let expr : b ≡ ex (result d.divisor 0) = cc in
         let type : type_in ports os (result d.divisor 0) ≡ Some t = cc in
-        let type' : result_type d.by 0 ≡ Some t = ap (λ m. bind m (λ (q : Op). result_type q 0)) (sym d.there) ∙ type in
+        let type' : result_type d.by 0 ≡ Some t = ap (λ m. option_and_then (λ (q : Op). result_type q 0) m) (sym d.there) ∙ type in
         let number_is : divisor_in os (width t) o.operands ≡ constant_number d.by.kind (width t) = ap (divisor_in os (width t)) d.operands ∙ ap (λ m. constant_of m (width t)) d.there in
         ap (own_value widths ρ) expr ∙ constant_word (hold divides) d.divisor d.by t d.there d.constant type' ∙ ap (bits (width t)) (sym number_is)
 

@@ -1,9 +1,8 @@
 -- The expressions of a body's values meet the checks of a text.
-use Rattle.std.proofs.Common.{◌≡◌, ℕ, ◌%◌, ◌<◌, ◌≤◌, ◌^◌, Bool, true, false, List, [], ◌∷◌, map, length, Option, Some, None, is_some, slice_get, refl, sym, ap, ap₂, subst, ◌∙◌, inl, inr, arith}
+use Rattle.std.proofs.Common.{◌≡◌, ℕ, ◌%◌, ◌<◌, ◌≤◌, ◌^◌, Bool, true, false, List, [], ◌∷◌, map, length, Option, Some, None, is_some, slice_get, refl, sym, ap, ap₂, subst, ◌∙◌, inl, inr, arith, option_and_then}
 use Rattle.std.proofs.Math.Nat.{mod-eq_of_lt}
 use Rattle.std.proofs.lemmas.Nat.{pow_pos}
 use Rattle.std.proofs.lemmas.Bool.{ltb-true, true≢false, false≢true}
-use Rattle.wiring.specs.Options.{bind}
 use Rattle.wiring.specs.Wiring.{In, IsAcyclic}
 use Rattle.wiring.proofs.Members.{from_In-map}
 use Rattle.wiring.proofs.Settled.{by_needs}
@@ -106,7 +105,7 @@ module _ (known : List Declared) (named : Ref → Option Name) (ports : List Por
       (writable.fits i o there k t is) (writable.integers i o there) (item_kind o values)
       (λ variadic. subst (λ n. 1 ≤ n) (sym (as_many (type_in ports os) o.operands)) (writable.filled i o there variadic))
       (writable.bits i k o t there is)
-      (subst (λ u. width_of u < 2 ^ 64) (ap (λ m. bind m (λ (q : Op). result_type q k)) there ∙ is) (writable.narrow (result i k)))
+      (subst (λ u. width_of u < 2 ^ 64) (ap (λ m. option_and_then (λ (q : Op). result_type q k) m) there ∙ is) (writable.narrow (result i k)))
       (λ x here. let found = from_In-map (type_in ports os) x o.operands here in subst (λ u. width_of u < 2 ^ 64) (sym found.2) (writable.narrow found.0))
       (all_typed o.operands good) (divided_well i k o t there values is) (cut_wide i k o t there values is))
 
@@ -131,7 +130,7 @@ module _ (known : List Declared) (named : Ref → Option Name) (ports : List Por
     by_type o there None is h = absurd (false≢true h)
     by_type o there (Some t) is h = subst (IsWell known) (sym (is_op named ports os ex no_widths no_words i k o t there is)) (by_purity o t there is (is_pure o) refl)
 
-    by_op : (m : Option Op) → slice_get os i ≡ m → is_some (bind m (λ (q : Op). result_type q k)) ≡ true → IsWell known (own_expr named ports os ex (result i k))
+    by_op : (m : Option Op) → slice_get os i ≡ m → is_some (option_and_then (λ (q : Op). result_type q k) m) ≡ true → IsWell known (own_expr named ports os ex (result i k))
     by_op None there h = absurd (false≢true h)
     by_op (Some o) there h = by_type o there (result_type o k) refl h
 

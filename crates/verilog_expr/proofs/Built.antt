@@ -24,7 +24,10 @@ use Rattle.verilog_model.specs.Grammar.{strength, primary_level}
 use Rattle.verilog_model.specs.Checks.{divides}
 use Rattle.verilog_model.specs.Expression.{context_of, arithmetic, shift_word, own_value}
 use Rattle.verilog_model.specs.Expression.Context.{both_operands, left_operand}
-use Rattle.verilog_expr.specs.Building.{literal_of, parenthesize, unsigned_at, of_one_expr, of_two_exprs, of_three_exprs, unsigned_pair, variadic_expr, unsigned_shift, signed_shift, unsigned_division, signed_division, comparison, select_bits, first_width, conditional, kind_expr, division_expr, shift_expr, variadic_operator, division_operator, shift_operator, is_signed_division, is_signed_shift}
+use Rattle.verilog_model.specs.Digits.{literal_of}
+use Rattle.verilog_expr.specs.Building.{parenthesize, unsigned_at, of_one_expr, of_two_exprs, of_three_exprs, unsigned_pair, variadic_expr, unsigned_shift, signed_shift, unsigned_division}
+use Rattle.verilog_expr.specs.Building.{signed_division, comparison, select_bits, first_width, conditional, kind_expr, division_expr, shift_expr, variadic_operator, division_operator, shift_operator}
+use Rattle.verilog_expr.specs.Building.{is_signed_division, is_signed_shift}
 use Rattle.verilog_expr.specs.Values.{HasBits, HaveBits, IsBuildable, IsDividedBy}
 use Rattle.verilog_expr.proofs.Operators.{division_context, shift_context, divides_division, division_computes, shift_computes, length-divided, length-shifted}
 use Rattle.verilog_expr.proofs.Own.{Is, Is-own, HasBits-Is, placed_own, unsigned_at_is, signed_is, literal_is, both_is, shift_is}
@@ -251,7 +254,8 @@ module _ (widths : Name → ℕ) (ρ : Name → Word) where
   built_gives replicate ts xs t k divisor es (u, n, is, positive, multiple) can =
       let operand_width : first_width (map width_of xs) ≡ width u = ap (λ ys. first_width (map width_of ys)) is in
       one_gives _ (width t) (λ a. repeated (decimal (width t / first_width (map width_of xs))) (last a)) (λ x. copies (width t / length x) x) (Some u) xs es is can.operands
-      (λ a same first. subst (λ v. Gives widths ρ (IsDividedBy widths ρ replicate (width t) divisor es) (width t) (repeated (decimal (width t / v)) (last a)) (copies (width t / length (own_value widths ρ a)) (own_value widths ρ a))) (sym operand_width)
+      (λ a same first. subst (λ v. Gives widths ρ (IsDividedBy widths ρ replicate (width t) divisor es) (width t) (repeated (decimal (width t / v)) (last a))
+      (copies (width t / length (own_value widths ρ a)) (own_value widths ρ a))) (sym operand_width)
       (repeated_gives widths ρ _ (width t) n (width u) a first positive multiple can.narrow))
   built_gives mux ts xs t k divisor es fits can =
       three_give _ (width t) conditional _ (Some (int 1)) (Some t) (Some t) xs es fits can.operands

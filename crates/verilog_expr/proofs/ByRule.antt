@@ -1,5 +1,6 @@
 -- The wires of a body are those that the rule gives.
-use Rattle.std.proofs.Common.{◌≡◌, ℕ, zero, suc, ◌<◌, ◌≤◌, Bool, true, false, cond, not, ◌&&◌, ◌||◌, ◌↔◌, nat_eq, nat_le, nat_lt, ◌⊎◌, List, [], ◌∷◌, map, Option, Some, None, is_some, slice_get, refl, sym, ap, subst, ◌∙◌, inl, inr, eq-eqb, arith}
+use Rattle.std.proofs.Common.{◌≡◌, ℕ, zero, suc, ◌<◌, ◌≤◌, Bool, true, false, cond, not, ◌&&◌, ◌||◌, ◌↔◌, nat_eq, nat_le, nat_lt, ◌⊎◌, List, [], ◌∷◌, map, Option, Some, None, is_some, slice_get, refl}
+use Rattle.std.proofs.Common.{sym, ap, subst, ◌∙◌, inl, inr, eq-eqb, arith}
 use Rattle.std.proofs.lemmas.Bool.{leb-true, leb-false, ltb-true, ltb-false, eqb-true, and_from, or_left, or_right, or_cases}
 use Rattle.wiring.specs.Wiring.{In, greatest, IsAcyclic}
 use Rattle.wiring.proofs.Members.{from_In-map, map_same}
@@ -12,7 +13,8 @@ use Rattle.hw_model.specs.Flat.{width_of}
 use Rattle.ir_store.specs.Positions.{same_ref}
 use Rattle.verilog_model.specs.Numerals.{is_nonempty}
 use Rattle.verilog_expr.specs.Expressions.{op_at, value_width}
-use Rattle.verilog_expr.specs.Spilling.{is_pure, is_wire_kind, is_constant_kind, hint_of, one_if, places_in, use_count, is_narrower, cuts, joins, some_op, is_shared, height_limit, Part, part_of_op, part_of, part, height_under, operands_of, operands_at, height_over, AreHeights, height, has_wire, spilled_op, spilled, inner_needs}
+use Rattle.verilog_expr.specs.Spilling.{is_pure, is_wire_kind, is_constant_kind, hint_of, one_if, places_in, use_count, is_narrower, cuts, joins, some_op, is_shared, height_limit, Part, part_of_op}
+use Rattle.verilog_expr.specs.Spilling.{part_of, part, height_under, operands_of, operands_at, height_over, AreHeights, height, has_wire, spilled_op, spilled, inner_needs}
 use Rattle.verilog_expr.specs.Spilling.Part.{flat, shared, nested}
 use Rattle.verilog_expr.specs.WireRules.{IsComputed, IsCut, IsJoined, WantsWire, heights_without_wire}
 use Rattle.verilog_expr.specs.WireRules.WantsWire.{used_twice, cut, joined, hinted, high}

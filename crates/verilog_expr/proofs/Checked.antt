@@ -1,6 +1,7 @@
 -- Expressions meet the checks of a text: names are known, selects are in range, divisors are literals that are not 0; and
 -- their names and numerals are words.
-use Rattle.std.proofs.Common.{◌≡◌, ℕ, suc, ◌+◌, ◌-◌, ◌*◌, ◌/◌, ◌%◌, ◌<◌, ◌≤◌, ◌^◌, Bool, true, false, cond, not, ◌&&◌, ◌||◌, ◌==◌, nat_le, nat_lt, List, [], ◌∷◌, map, length, decimal, Option, Some, is_some, refl, sym, ap, subst, ◌∙◌, inl, inr, arith, IsTrue, eq-eqb}
+use Rattle.std.proofs.Common.{◌≡◌, ℕ, suc, ◌+◌, ◌-◌, ◌*◌, ◌/◌, ◌%◌, ◌<◌, ◌≤◌, ◌^◌, Bool, true, false, cond, not, ◌&&◌, ◌||◌, ◌==◌, nat_le, nat_lt, List, [], ◌∷◌, map, length, decimal, Option, Some}
+use Rattle.std.proofs.Common.{is_some, refl, sym, ap, subst, ◌∙◌, inl, inr, arith, IsTrue, eq-eqb}
 use Rattle.std.proofs.Math.Nat.{mul-div_cancel}
 use Rattle.wiring.specs.Lists.{total}
 use Rattle.wiring.specs.Wiring.{In}
@@ -22,10 +23,12 @@ use Rattle.verilog_model.specs.Grammar.{level, strength, choice_level, primary_l
 use Rattle.verilog_model.specs.Expression.{is_signed}
 use Rattle.verilog_model.specs.Checks.{Declared, find_declared, has_bit, is_divisor, divides, expr_checks, exprs_check}
 use Rattle.verilog_model.proofs.Numerals.{and_intro, and_first, and_second, decimal_number-decimal, is_decimal-decimal, all_bytes_weaker}
-use Rattle.verilog_expr.specs.Building.{literal_of, unsigned, parenthesize, unsigned_at, of_one_expr, of_two_exprs, of_three_exprs, unsigned_pair, chain, variadic_expr, signed_pair, unsigned_shift, signed_shift, comparison, select, select_bits, exprs_of, concatenation, conditional, kind_expr, division_expr, shift_expr, variadic_operator, division_operator, shift_operator, is_signed_division, is_signed_shift}
+use Rattle.verilog_model.specs.Digits.{literal_of, hex}
+use Rattle.verilog_expr.specs.Building.{unsigned, parenthesize, unsigned_at, of_one_expr, of_two_exprs, of_three_exprs, unsigned_pair, chain, variadic_expr, signed_pair, unsigned_shift, signed_shift}
+use Rattle.verilog_expr.specs.Building.{comparison, select, select_bits, exprs_of, concatenation, conditional, kind_expr, division_expr, shift_expr, variadic_operator, division_operator}
+use Rattle.verilog_expr.specs.Building.{shift_operator, is_signed_division, is_signed_shift}
 use Rattle.verilog_expr.specs.Values.{is_aggregate_kind, is_division, is_variadic, is_item_kind}
 use Rattle.verilog_expr.specs.Spilling.{is_narrower}
-use Rattle.verilog_expr.specs.Numerals.{hex}
 use Rattle.verilog_expr.proofs.Operators.{plain_operator, plain_shift}
 use Rattle.verilog_expr.proofs.Numerals.{hex_number-hex, is_hex-hex}
 use Rattle.verilog_expr.proofs.TextRead.{IsWord, IsSpellable, AreSpellable}

@@ -1,19 +1,19 @@
 -- The literal of a constant is what is assigned to its name.
-use Rattle.std.proofs.Common.{◌≡◌, ℕ, ℤ, false, List, map, slice_get, Option, Some, sym, ◌∙◌, ap}
-use Rattle.wiring.specs.Options.{bind}
+use Rattle.std.proofs.Common.{◌≡◌, ℕ, ℤ, false, List, map, slice_get, Option, Some, sym, ◌∙◌, ap, option_and_then}
 use Rattle.hw_model.specs.Types.{Name, HwType, width}
 use Rattle.hw_model.specs.Kinds.Kind.{constant}
 use Rattle.hw_model.specs.Design.{Ref, Port, Op, result_type}
 use Rattle.hw_model.specs.Design.Ref.{result}
 use Rattle.hw_model.specs.Flat.{width_of}
 use Rattle.verilog_model.specs.Tree.{Expr}
-use Rattle.verilog_expr.specs.Building.{literal_of, kind_expr}
+use Rattle.verilog_model.specs.Digits.{literal_of}
+use Rattle.verilog_expr.specs.Building.{kind_expr}
 use Rattle.verilog_expr.specs.Expressions.{value_width, constant_number, constant_of, constant_expr, divisor_in, typed_expr, result_expr, own_expr}
 
 pub constant_own : (named : Ref → Option Name) (ports : List Port) (os : List Op) (ex : Ref → Expr) (i : ℕ) (o : Op) (z : ℤ) (t : HwType)
     → slice_get os i ≡ Some o → o.kind ≡ constant z → result_type o 0 ≡ Some t → constant_expr ports os (result i 0) ≡ own_expr named ports os ex (result i 0)
 constant_own named ports os ex i o z t there kind typed =
-    ap (λ w. literal_of w false (constant_of (slice_get os i) w)) (ap (λ x. width_of (bind x (λ (q : Op). result_type q 0))) there ∙ ap width_of typed)
+    ap (λ w. literal_of w false (constant_of (slice_get os i) w)) (ap (λ x. width_of (option_and_then (λ (q : Op). result_type q 0) x)) there ∙ ap width_of typed)
     ∙ ap (λ x. literal_of (width t) false (constant_of x (width t))) there
     ∙ ap (λ k. literal_of (width t) false (constant_number k (width t))) kind
     ∙ sym (ap (result_expr named ports os ex 0) there ∙ ap (typed_expr named ports os ex o) typed

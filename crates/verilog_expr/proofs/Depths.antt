@@ -1,7 +1,6 @@
 -- No expression is nested deeper than the limit of heights: what stands for a value does not change with the depth then.
-use Rattle.std.proofs.Common.{◌≡◌, ℕ, ℤ, zero, suc, ◌<◌, ◌≤◌, Bool, true, false, cond, not, ◌&&◌, nat_le, List, map, Option, Some, None, slice_get, refl, sym, ap, subst, ◌∙◌, arith}
+use Rattle.std.proofs.Common.{◌≡◌, ℕ, ℤ, zero, suc, ◌<◌, ◌≤◌, Bool, true, false, cond, not, ◌&&◌, nat_le, List, map, Option, Some, None, slice_get, refl, sym, ap, subst, ◌∙◌, arith, option_and_then}
 use Rattle.std.proofs.lemmas.Bool.{true≢false, leb-true, leb-false}
-use Rattle.wiring.specs.Options.{bind}
 use Rattle.wiring.specs.Wiring.{In, greatest, IsAcyclic}
 use Rattle.wiring.proofs.Members.{In-map, map_same}
 use Rattle.wiring.proofs.Heights.{le-greatest}
@@ -68,7 +67,7 @@ module _ (named : Ref → Option Name) (ports : List Port) (os : List Op) (writa
         subst (λ n. Unnamed (result i n)) (sym first)
         (unnamed_first i o t there (ap (result_type o) (sym first) ∙ is) (ap (λ n. named (result i n)) (sym first) ∙ unnamed) pure)
 
-    by_op : (m : Option Op) → slice_get os i ≡ m → bind m (λ (q : Op). result_type q k) ≡ Some t → Unnamed (result i k)
+    by_op : (m : Option Op) → slice_get os i ≡ m → option_and_then (λ (q : Op). result_type q k) m ≡ Some t → Unnamed (result i k)
     by_op None there is = absurd (let bad : true ≡ false = cc in true≢false bad)
     by_op (Some o) there is = by_purity o there is (is_pure o) refl
 
@@ -122,7 +121,7 @@ module _ (named : Ref → Option Name) (ports : List Port) (os : List Op) (writa
   is_op : (ex : Ref → Expr) (i : ℕ) (o : Op) (r : Ref) (t : HwType) → r ≡ result i 0 → slice_get os i ≡ Some o → type_in ports os r ≡ Some t
       → own_expr named ports os ex r ≡ op_expr named ports os ex o (width t)
   is_op ex i o r t same there is =
-      let type : result_type o 0 ≡ Some t = ap (λ m. bind m (λ (q : Op). result_type q 0)) (sym there) ∙ ap (type_in ports os) (sym same) ∙ is in
+      let type : result_type o 0 ≡ Some t = ap (λ m. option_and_then (λ (q : Op). result_type q 0) m) (sym there) ∙ ap (type_in ports os) (sym same) ∙ is in
       ap (own_expr named ports os ex) same ∙ ap (result_expr named ports os ex 0) there ∙ ap (typed_expr named ports os ex o) type
 
   same_constant : (f g : Ref → Expr) (o : Op) (w : ℕ) → is_constant_kind o.kind ≡ true → op_expr named ports os f o w ≡ op_expr named ports os g o w

@@ -2,19 +2,21 @@
 use Rattle.std.proofs.Common.{◌≡◌, ℕ, suc, ◌+◌, ◌-◌, Bool, true, false, cond, ◌&&◌, ◌==◌, nat_le, List, [], ◌∷◌, decimal, Option, refl, inl, inr}
 use Rattle.wiring.specs.Wiring.{In}
 use Rattle.hw_model.specs.Types.{Name}
-use Rattle.hw_model.specs.Kinds.{Kind, Predicate}
-use Rattle.hw_model.specs.Kinds.Predicate.{eq, ne, slt, sle, sgt, sge, ult, ule, ugt, uge, ceq, cne, weq, wne}
-use Rattle.hw_model.specs.Kinds.Kind.{variadic, sub, division, shift, icmp, parity, extract, concat, replicate, mux, constant, bitcast, wire}
+use Rattle.hw_model.specs.Kinds.{Kind}
 use Rattle.hw_model.specs.Design.{Ref, Port, Op}
 use Rattle.verilog_model.specs.Tree.{Operator, Expr}
-use Rattle.verilog_model.specs.Tree.Operator.{times, minus, below, at_most, above, at_least, equals, differs}
+use Rattle.verilog_model.specs.Tree.Operator.{times}
 use Rattle.verilog_model.specs.Tree.Expr.{name, bit_select, part_select, as_signed, as_unsigned, paren, odd, binary}
 use Rattle.verilog_model.specs.Grammar.{strength, choice_level, primary_level, level, fits, all_fit}
 use Rattle.verilog_model.specs.Expression.{is_signed}
 use Rattle.verilog_model.proofs.Numerals.{and_intro}
-use Rattle.verilog_expr.specs.Building.{literal_of, unsigned, parenthesize, unsigned_at, unsigned_pair, chain, variadic_expr, signed_pair, unsigned_shift, signed_shift, unsigned_division, signed_division, comparison, select, select_bits, exprs_of, concatenation, conditional, kind_expr, division_expr, shift_expr, variadic_operator, division_operator, shift_operator, is_signed_division, is_signed_shift}
+use Rattle.verilog_model.specs.Digits.{literal_of}
+use Rattle.verilog_expr.specs.Building.{unsigned, parenthesize, unsigned_at, unsigned_pair, chain, variadic_expr, signed_pair, unsigned_shift, signed_shift, unsigned_division, signed_division, select}
+use Rattle.verilog_expr.specs.Building.{select_bits, exprs_of, concatenation, conditional, kind_expr, division_expr, shift_expr, variadic_operator, division_operator, shift_operator}
+use Rattle.verilog_expr.specs.Building.{is_signed_division, is_signed_shift}
 use Rattle.verilog_expr.specs.Expressions.{own_expr, expr_to}
-use Rattle.verilog_expr.proofs.Carried.{IsCarried, one_holds, two_hold, three_hold, own_carried, depth_carried}
+use Rattle.verilog_expr.proofs.Carried.{IsCarried, own_carried, depth_carried}
+use Rattle.verilog_expr.proofs.Passing.{Passes, built_passes}
 
 abbrev AllFit : List Expr → Type 0
 AllFit es = (e : Expr) → In e es → fits e ≡ true
@@ -111,22 +113,6 @@ either_shift_fits : (s : Bool) (o : Operator) (a b : Expr) → fits a ≡ true �
 either_shift_fits false o a b fit also = unsigned_shift_fits o a b fit also
 either_shift_fits true o a b fit also = signed_shift_fits o a b fit also
 
-comparison_fits : (p : Predicate) (a b : Expr) → fits a ≡ true → fits b ≡ true → fits (comparison p a b) ≡ true
-comparison_fits eq a b fit also = unsigned_pair_fits equals a b fit also
-comparison_fits ne a b fit also = unsigned_pair_fits differs a b fit also
-comparison_fits slt a b fit also = signed_pair_fits below a b fit also
-comparison_fits sle a b fit also = signed_pair_fits at_most a b fit also
-comparison_fits sgt a b fit also = signed_pair_fits above a b fit also
-comparison_fits sge a b fit also = signed_pair_fits at_least a b fit also
-comparison_fits ult a b fit also = unsigned_pair_fits below a b fit also
-comparison_fits ule a b fit also = unsigned_pair_fits at_most a b fit also
-comparison_fits ugt a b fit also = unsigned_pair_fits above a b fit also
-comparison_fits uge a b fit also = unsigned_pair_fits at_least a b fit also
-comparison_fits ceq a b fit also = unsigned_pair_fits equals a b fit also
-comparison_fits cne a b fit also = unsigned_pair_fits differs a b fit also
-comparison_fits weq a b fit also = unsigned_pair_fits equals a b fit also
-comparison_fits wne a b fit also = unsigned_pair_fits differs a b fit also
-
 odd_fits : (a : Expr) → fits a ≡ true → fits (odd (parenthesize primary_level a)) ≡ true
 odd_fits a fit = and_intro _ _ (placed_level primary_level a refl) (placed_fits primary_level a fit)
 
@@ -158,21 +144,24 @@ conditional_fits c a b condition fit also =
 
 -- ---- each kind
 
+fits_pass : Passes fits
+fits_pass = record {
+  none = refl;
+  numeral = λ w n. refl;
+  chained = variadic_fits;
+  paired = unsigned_pair_fits;
+  signed = signed_pair_fits;
+  divided = division_fits;
+  shifted = λ s. either_shift_fits (is_signed_shift s) (shift_operator s);
+  counted = odd_fits;
+  selected = selected_fits;
+  listed = concatenation_fits;
+  copied = λ w v a fit. fit;
+  chosen = conditional_fits;
+}
+
 pub built_fits : (kind : Kind) (w : ℕ) (ws : List ℕ) (divisor : ℕ) (es : List Expr) → ((e : Expr) → In e es → fits e ≡ true) → fits (kind_expr kind w ws divisor es) ≡ true
-built_fits (variadic v) w ws divisor es all = variadic_fits (variadic_operator v) es all
-built_fits sub w ws divisor es all = two_hold fits refl _ (unsigned_pair_fits minus) es all
-built_fits (division d) w ws divisor es all = two_hold fits refl _ (λ a b fit also. division_fits (is_signed_division d) (division_operator d) w divisor a fit) es all
-built_fits (shift s) w ws divisor es all = two_hold fits refl _ (either_shift_fits (is_signed_shift s) (shift_operator s)) es all
-built_fits (icmp p) w ws divisor es all = two_hold fits refl _ (comparison_fits p) es all
-built_fits parity w ws divisor es all = one_holds fits refl _ odd_fits es all
-built_fits (extract low) w ws divisor es all = one_holds fits refl _ (λ a fit. selected_fits low _ w a fit) es all
-built_fits concat w ws divisor es all = concatenation_fits es all
-built_fits replicate w ws divisor es all = one_holds fits refl _ (λ a fit. fit) es all
-built_fits mux w ws divisor es all = three_hold fits refl _ conditional_fits es all
-built_fits (constant z) w ws divisor es all = refl
-built_fits bitcast w ws divisor es all = one_holds fits refl _ (λ a fit. fit) es all
-built_fits wire w ws divisor es all = one_holds fits refl _ (λ a fit. fit) es all
-built_fits _ w ws divisor es all = refl
+built_fits = built_passes fits fits_pass
 
 pub fits_carried : IsCarried fits
 fits_carried = record { none = refl; called = λ n. refl; each = built_fits }

@@ -10,8 +10,11 @@ use Rattle.verilog_model.specs.Tree.Exprs.{last}
 use Rattle.verilog_model.specs.Grammar.{level, strength, primary_level}
 use Rattle.verilog_model.specs.Expression.{Context, is_signed, context_of, binary_signed}
 use Rattle.verilog_model.specs.Expression.Context.{both_operands, left_operand, no_operand}
-use Rattle.verilog_expr.specs.Building.{no_expr, literal_of, parenthesize, unsigned_at, of_one_expr, of_two_exprs, of_three_exprs, unsigned_pair, chain, variadic_expr, signed_pair, unsigned_shift, unsigned_division, signed_division, comparison, select, select_bits, concatenation, conditional, first_width, kind_expr, division_expr, shift_expr, variadic_operator, division_operator, shift_operator, is_signed_division, is_signed_shift}
-use Rattle.verilog_expr.specs.Text.{expr_text}
+use Rattle.verilog_model.specs.Digits.{literal_of}
+use Rattle.verilog_expr.specs.Building.{no_expr, parenthesize, unsigned_at, of_one_expr, of_two_exprs, of_three_exprs, unsigned_pair, chain, variadic_expr, signed_pair, unsigned_shift}
+use Rattle.verilog_expr.specs.Building.{unsigned_division, signed_division, comparison, select, select_bits, concatenation, conditional, first_width, kind_expr, division_expr, shift_expr}
+use Rattle.verilog_expr.specs.Building.{variadic_operator, division_operator, shift_operator, is_signed_division, is_signed_shift}
+use Rattle.verilog_model.specs.Text.{expr_text}
 use Rattle.verilog_expr.specs.Forms.{operator_of, operator_in_code}
 use Rattle.verilog_expr.specs.Templates.{chain_template, template_of_count, division_form, shift_form, comparison_form, extract_template, template_for, template_text, template_signed, template_level}
 use Rattle.verilog_expr.specs.ExprNode.{sole_name, template_name}

@@ -6,8 +6,9 @@ use Rattle.verilog_model.specs.Tree.{Expr}
 use Rattle.verilog_model.specs.Tree.Expr.{repeated, paren, odd, binary}
 use Rattle.verilog_model.specs.Tree.Exprs.{last}
 use Rattle.verilog_model.specs.Grammar.{level, strength, primary_level}
-use Rattle.verilog_expr.specs.Building.{literal_of, unsigned, parenthesize, unsigned_at, chain, signed_pair, unsigned_shift, signed_shift, unsigned_division, signed_division, exprs_of, concatenation, conditional}
-use Rattle.verilog_expr.specs.Text.{question_text, operator_text, expr_text, exprs_text}
+use Rattle.verilog_model.specs.Digits.{literal_of}
+use Rattle.verilog_expr.specs.Building.{unsigned, parenthesize, unsigned_at, chain, signed_pair, unsigned_shift, signed_shift, unsigned_division, signed_division, exprs_of, concatenation, conditional}
+use Rattle.verilog_model.specs.Text.{question_text, operator_text, expr_text, exprs_text}
 use Rattle.verilog_expr.specs.Forms.{operator_of, before, operand_text, form_text}
 use Rattle.verilog_expr.specs.declared.form.Operator.{Operator}
 use Rattle.verilog_expr.specs.declared.form.Form.TheVariants.{Same, Chain, SignedPair, UnsignedShift, SignedShift, UnsignedDivision, SignedDivision, Parity, Braces, Copies, Choice}

@@ -1,6 +1,4 @@
 pub mod Numerals
-pub mod Digits
-pub mod Adding
 pub mod Marking
 pub mod PartsMarked
 pub mod HeightSteps
@@ -22,6 +20,7 @@ pub mod ByRule
 pub mod Depths
 pub mod Operators
 pub mod Carried
+pub mod Passing
 pub mod Fit
 pub mod Tight
 pub mod Signed

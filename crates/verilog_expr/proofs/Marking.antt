@@ -1,12 +1,12 @@
 -- Marks of values as uses are noted.
-use Rattle.std.proofs.Common.{◌≡◌, ℕ, zero, suc, ◌+◌, ◌<◌, ◌≤◌, min, Bool, true, false, cond, ◌&&◌, ◌||◌, nat_lt, List, [], ◌∷◌, ◌++◌, length, map, take, drop, set, replicate, get_or, slice_get, Some, refl, sym, ap, subst, ◌∙◌, arith}
+use Rattle.std.proofs.Common.{◌≡◌, ℕ, zero, suc, ◌+◌, ◌<◌, ◌≤◌, min, Bool, true, false, cond, ◌&&◌, ◌||◌, nat_lt, List, [], ◌∷◌, ◌++◌, length, map, take, drop, set, replicate, get_or, slice_get, Some}
+use Rattle.std.proofs.Common.{refl, sym, ap, subst, ◌∙◌, arith, option_and_then}
 use Rattle.std.proofs.lemmas.Bool.{ltb-false}
 use Rattle.std.proofs.lemmas.List.{drop_more, append-nil, take_all, drop_all}
 use Rattle.std.proofs.lemmas.Option.{slice_get_within, get_or_from_slice_get}
 use Rattle.wiring.proofs.Equal.{}
 use Rattle.hw_model.specs.Design.{Ref, Port, Op, is_instance, result_type}
 use Rattle.hw_model.specs.Design.Ref.{result}
-use Rattle.wiring.specs.Options.{bind}
 use Rattle.hw_model.specs.Flat.{width_of}
 use Rattle.ir_store.specs.Positions.{same_ref}
 use Rattle.verilog_expr.specs.Expressions.{value_width}
@@ -124,7 +124,7 @@ any_default (x ∷ xs) (suc i) d lt = any_default xs i d (omega (arith, lt))
 
 -- the width of the result of an operation that is there
 pub width_there : (ports : List Port) (os : List Op) (i : ℕ) (o : Op) → slice_get os i ≡ Some o → ((r : Ref) → value_width ports os r < 129) → width_of (result_type o 0) < 129
-width_there ports os i o at small = subst (λ m. width_of (bind m (λ (x : Op). result_type x 0)) < 129) at (small (result i 0))
+width_there ports os i o at small = subst (λ m. width_of (option_and_then (λ (x : Op). result_type x 0) m) < 129) at (small (result i 0))
 
 -- what a slice of a whole list writes back
 pub written_back : {A : Type 0} (n : ℕ) (new old : List A) → length new ≡ length old → n ≡ length old → take n (new ++ drop (length new) old) ≡ new

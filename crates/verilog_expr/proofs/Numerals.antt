@@ -5,7 +5,7 @@ use Rattle.verilog_model.specs.Tokens.{is_digit, is_between}
 use Rattle.verilog_model.specs.Numerals.{hex_digit, hex_number, decimal_number, all_bytes, is_nonempty, is_hex}
 use Rattle.verilog_model.specs.Hierarchy.{range_width}
 use Rattle.verilog_model.proofs.Numerals.{and_intro, and_second, number_from-append, all_bytes-append, is_nonempty-append, decimal_number-decimal}
-use Rattle.verilog_expr.specs.Numerals.{hex_byte, hex_digits, hex, high_of}
+use Rattle.verilog_model.specs.Digits.{hex_byte, hex_digits, hex, high_of}
 
 abbrev is_hex_byte : ℕ → Bool
 is_hex_byte b = is_digit b || (is_between 65 70 b || is_between 97 102 b)

@@ -15,7 +15,7 @@ use Rattle.hw_model.specs.Flat.{width_of}
 use Rattle.hw_model.specs.Sound.{type_in, OpFits}
 use Rattle.verilog_model.specs.Tree.Operator.{over, right_shift}
 use Rattle.verilog_model.specs.Tree.Expr.{name, literal, as_signed, as_unsigned, binary}
-use Rattle.verilog_expr.specs.Numerals.{hex}
+use Rattle.verilog_model.specs.Digits.{hex}
 use Rattle.verilog_expr.specs.Expressions.{value_width, constant_of, expr_to}
 use Rattle.verilog_expr.specs.Spilling.{is_pure, is_narrower, height_limit, height, spilled, inner_needs}
 use Rattle.verilog_expr.specs.Values.{is_aggregate_kind, is_division, is_variadic, IsDivision, IsWritable}
@@ -30,7 +30,7 @@ of_byte kind rs = record {
   name = [];
   dictionary = [];
   bin = false;
-  place = record { line = 1; col = 1 };
+  location = record { line = 1; col = 1 };
 }
 
 abbrev ports : List Port
@@ -106,7 +106,16 @@ body_writable = record {
   bits = each_result (λ i k o t. 1 ≤ width t) (omega arith) (omega arith) (omega arith);
   narrow = narrow_values;
   divisions = each_op (λ i o. is_division o.kind ≡ true → IsDivision body o) (λ d. absurd (false≢true d))
-      (λ d. record { dividend = port 0; divisor = 0; operands = refl; by = divisor; there = refl; constant = refl; not_zero = λ t is. its_result (λ k t. 0 < constant_of (Some divisor) (width t)) (division divs) (port 0 ∷ result 0 0 ∷ []) (omega arith) 0 t is })
+      (λ d. record {
+        dividend = port 0;
+        divisor = 0;
+        operands = refl;
+        by = divisor;
+        there = refl;
+        constant = refl;
+        not_zero = λ t is. its_result (λ k t. 0 < constant_of (Some divisor) (width t))
+            (division divs) (port 0 ∷ result 0 0 ∷ []) (omega arith) 0 t is;
+      })
       (λ d. absurd (false≢true d));
   inputs = input_named;
   owned = λ i k o t there is. each_result (λ i k o t. is_pure o ≡ false → is_some (named (result i k)) ≡ true) (λ p. absurd (true≢false p)) (λ p. absurd (true≢false p)) (λ p. absurd (true≢false p)) i k o t there is;

@@ -12,9 +12,9 @@ use Rattle.verilog_model.specs.Tree.Expr.{name, bit_select, part_select, repeate
 use Rattle.verilog_model.specs.Tree.Exprs.{last}
 use Rattle.verilog_model.specs.Grammar.{expr_spelled, fits}
 use Rattle.verilog_model.specs.Tokens.{tokens}
-use Rattle.verilog_expr.specs.Numerals.{hex, high_of}
+use Rattle.verilog_model.specs.Digits.{hex, high_of}
 use Rattle.verilog_expr.specs.Building.{kind_expr}
-use Rattle.verilog_expr.specs.Text.{question_text, expr_text}
+use Rattle.verilog_model.specs.Text.{question_text, expr_text}
 use Rattle.verilog_expr.specs.Parentheses.{tight, opened}
 use Rattle.verilog_expr.specs.Signs.{keeps_signs}
 

@@ -5,16 +5,20 @@ use Rattle.hw_model.specs.Kinds.{Kind, Predicate}
 use Rattle.hw_model.specs.Kinds.Predicate.{eq, ne, slt, sle, sgt, sge, ult, ule, ugt, uge, ceq, cne, weq, wne}
 use Rattle.hw_model.specs.Kinds.Kind.{variadic, sub, division, shift, icmp, parity, extract, concat, replicate, mux, constant, bitcast, wire}
 use Rattle.verilog_model.specs.Tree.{Operator, Expr}
-use Rattle.verilog_model.specs.Tree.Operator.{minus, below, at_most, above, at_least, equals, differs}
+use Rattle.verilog_model.specs.Tree.Operator.{minus}
 use Rattle.verilog_model.specs.Tree.Expr.{name, bit_select, part_select, as_signed, as_unsigned, paren, binary}
 use Rattle.verilog_model.specs.Grammar.{strength, choice_level, primary_level, level}
 use Rattle.verilog_model.specs.Expression.{Context, context_of, binary_signed, is_signed}
 use Rattle.verilog_model.specs.Expression.Context.{both_operands, left_operand, no_operand}
 use Rattle.verilog_model.proofs.Numerals.{and_intro}
-use Rattle.verilog_expr.specs.Building.{literal_of, unsigned, parenthesize, unsigned_at, of_one_expr, of_two_exprs, of_three_exprs, unsigned_pair, chain, variadic_expr, signed_pair, unsigned_division, signed_division, comparison, select, select_bits, exprs_of, concatenation, conditional, kind_expr, division_expr, shift_expr, variadic_operator, division_operator, shift_operator, is_signed_division, is_signed_shift}
+use Rattle.verilog_model.specs.Digits.{literal_of}
+use Rattle.verilog_expr.specs.Building.{unsigned, parenthesize, unsigned_at, of_one_expr, of_two_exprs, of_three_exprs, unsigned_pair, chain, variadic_expr, signed_pair, unsigned_division}
+use Rattle.verilog_expr.specs.Building.{signed_division, comparison, select, select_bits, exprs_of, concatenation, conditional, kind_expr, division_expr, shift_expr, variadic_operator}
+use Rattle.verilog_expr.specs.Building.{division_operator, shift_operator, is_signed_division, is_signed_shift}
 use Rattle.verilog_expr.specs.Signs.{alike, signs_kept, keeps_signs, all_keep_signs, is_signed_kind}
 use Rattle.verilog_expr.proofs.Operators.{division_context, shift_context}
-use Rattle.verilog_expr.proofs.Carried.{IsCarried, one_holds, two_hold, three_hold}
+use Rattle.verilog_expr.proofs.Carried.{IsCarried}
+use Rattle.verilog_expr.proofs.Passing.{Passes, built_passes}
 
 abbrev Keep : List Expr → Type 0
 Keep es = (e : Expr) → In e es → keeps_signs e ≡ true
@@ -127,22 +131,6 @@ either_shift_keeps false o a b is first second =
     shift_keeps o (unsigned_at (strength o) a) (parenthesize (suc (strength o)) b) is (unsigned_at_keeps (strength o) a first) (placed_keeps (suc (strength o)) b second)
 either_shift_keeps true o a b is first second = shift_keeps o (as_signed a) (parenthesize (suc (strength o)) b) is first (placed_keeps (suc (strength o)) b second)
 
-comparison_keeps : (p : Predicate) (a b : Expr) → keeps_signs a ≡ true → keeps_signs b ≡ true → keeps_signs (comparison p a b) ≡ true
-comparison_keeps eq a b first second = unsigned_pair_keeps equals a b first second
-comparison_keeps ne a b first second = unsigned_pair_keeps differs a b first second
-comparison_keeps slt a b first second = signed_pair_keeps below a b first second
-comparison_keeps sle a b first second = signed_pair_keeps at_most a b first second
-comparison_keeps sgt a b first second = signed_pair_keeps above a b first second
-comparison_keeps sge a b first second = signed_pair_keeps at_least a b first second
-comparison_keeps ult a b first second = unsigned_pair_keeps below a b first second
-comparison_keeps ule a b first second = unsigned_pair_keeps at_most a b first second
-comparison_keeps ugt a b first second = unsigned_pair_keeps above a b first second
-comparison_keeps uge a b first second = unsigned_pair_keeps at_least a b first second
-comparison_keeps ceq a b first second = unsigned_pair_keeps equals a b first second
-comparison_keeps cne a b first second = unsigned_pair_keeps differs a b first second
-comparison_keeps weq a b first second = unsigned_pair_keeps equals a b first second
-comparison_keeps wne a b first second = unsigned_pair_keeps differs a b first second
-
 select_keeps : (low w : ℕ) (a : Expr) → keeps_signs (select low w a) ≡ true
 select_keeps low w (name n) = go (w == 1) where
   go : (b : Bool) → keeps_signs (cond b (bit_select n (decimal low)) (part_select n (decimal (low + w - 1)) (decimal low))) ≡ true
@@ -173,22 +161,24 @@ conditional_keeps c a b condition first second =
 
 -- ---- each kind
 
+keeps_signs_pass : Passes keeps_signs
+keeps_signs_pass = record {
+  none = refl;
+  numeral = λ w n. refl;
+  chained = variadic_keeps;
+  paired = unsigned_pair_keeps;
+  signed = signed_pair_keeps;
+  divided = division_keeps;
+  shifted = λ s a b first second. either_shift_keeps (is_signed_shift s) (shift_operator s) a b (shift_context s) first second;
+  counted = λ a h. placed_keeps primary_level a h;
+  selected = selected_keeps;
+  listed = concatenation_keeps;
+  copied = λ w v a h. h;
+  chosen = conditional_keeps;
+}
+
 pub built_keeps : (kind : Kind) (w : ℕ) (ws : List ℕ) (divisor : ℕ) (es : List Expr) → ((e : Expr) → In e es → keeps_signs e ≡ true) → keeps_signs (kind_expr kind w ws divisor es) ≡ true
-built_keeps (variadic v) w ws divisor es all = variadic_keeps (variadic_operator v) es all
-built_keeps sub w ws divisor es all = two_hold keeps_signs refl _ (unsigned_pair_keeps minus) es all
-built_keeps (division d) w ws divisor es all = two_hold keeps_signs refl _ (λ a b h also. division_keeps (is_signed_division d) (division_operator d) w divisor a h) es all
-built_keeps (shift s) w ws divisor es all =
-    two_hold keeps_signs refl _ (λ a b h also. either_shift_keeps (is_signed_shift s) (shift_operator s) a b (shift_context s) h also) es all
-built_keeps (icmp p) w ws divisor es all = two_hold keeps_signs refl _ (comparison_keeps p) es all
-built_keeps parity w ws divisor es all = one_holds keeps_signs refl _ (λ a h. placed_keeps primary_level a h) es all
-built_keeps (extract low) w ws divisor es all = one_holds keeps_signs refl _ (λ a h. selected_keeps low _ w a h) es all
-built_keeps concat w ws divisor es all = concatenation_keeps es all
-built_keeps replicate w ws divisor es all = one_holds keeps_signs refl _ (λ a h. h) es all
-built_keeps mux w ws divisor es all = three_hold keeps_signs refl _ conditional_keeps es all
-built_keeps (constant z) w ws divisor es all = refl
-built_keeps bitcast w ws divisor es all = one_holds keeps_signs refl _ (λ a h. h) es all
-built_keeps wire w ws divisor es all = one_holds keeps_signs refl _ (λ a h. h) es all
-built_keeps _ w ws divisor es all = refl
+built_keeps = built_passes keeps_signs keeps_signs_pass
 
 pub signs_carried : IsCarried keeps_signs
 signs_carried = record { none = refl; called = λ n. refl; each = built_keeps }

@@ -3,7 +3,7 @@ use Rattle.std.proofs.Common.{◌≡◌, ℕ, List, [], ◌++◌, codes, sym, ap
 use Rattle.verilog_model.specs.Tree.{Expr, Exprs}
 use Rattle.verilog_model.specs.Tree.Expr.{name, bit_select, part_select, literal, joined, repeated, as_signed, as_unsigned, paren, odd, binary, choice}
 use Rattle.verilog_model.specs.Tree.Exprs.{last, more}
-use Rattle.verilog_expr.specs.Text.{question_text, operator_text, expr_text, exprs_text}
+use Rattle.verilog_model.specs.Text.{question_text, operator_text, expr_text, exprs_text}
 
 -- what stands before any rest stands before a rest with more after it
 moved : (E : List ℕ) (f : List ℕ → List ℕ) → ((x : List ℕ) → f x ≡ E ++ x) → (x bs : List ℕ) → f (x ++ bs) ≡ f x ++ bs

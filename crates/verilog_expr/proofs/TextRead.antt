@@ -11,7 +11,7 @@ use Rattle.verilog_model.specs.Tree.Exprs.{last, more}
 use Rattle.verilog_model.specs.Grammar.{base_mark, operator_token, expr_spelled, exprs_spelled}
 use Rattle.verilog_model.proofs.Numerals.{all_bytes-append, is_nonempty-append}
 use Rattle.verilog_model.proofs.Reread.{begins_no_word, pieces_word}
-use Rattle.verilog_expr.specs.Text.{question_text, operator_text, expr_text, exprs_text}
+use Rattle.verilog_model.specs.Text.{question_text, operator_text, expr_text, exprs_text}
 
 -- a word: some bytes, all of words
 pub record IsWord (w : Name) : Type 0 where

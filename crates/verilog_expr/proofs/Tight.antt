@@ -3,19 +3,21 @@ use Rattle.std.proofs.Common.{◌≡◌, ℕ, suc, ◌+◌, ◌-◌, Bool, true,
 use Rattle.std.proofs.lemmas.Bool.{leb-false, not-true, and_right}
 use Rattle.wiring.specs.Wiring.{In}
 use Rattle.wiring.proofs.Members.{In-append_cases, from_In-map}
-use Rattle.hw_model.specs.Kinds.{Kind, Predicate}
-use Rattle.hw_model.specs.Kinds.Predicate.{eq, ne, slt, sle, sgt, sge, ult, ule, ugt, uge, ceq, cne, weq, wne}
-use Rattle.hw_model.specs.Kinds.Kind.{variadic, sub, division, shift, icmp, parity, extract, concat, replicate, mux, constant, bitcast, wire}
+use Rattle.hw_model.specs.Kinds.{Kind}
 use Rattle.verilog_model.specs.Tree.{Operator, Expr, Exprs}
-use Rattle.verilog_model.specs.Tree.Operator.{times, minus, below, at_most, above, at_least, equals, differs}
+use Rattle.verilog_model.specs.Tree.Operator.{times}
 use Rattle.verilog_model.specs.Tree.Expr.{name, bit_select, part_select, literal, joined, repeated, as_signed, as_unsigned, paren, odd, binary, choice}
 use Rattle.verilog_model.specs.Tree.Exprs.{last, more}
 use Rattle.verilog_model.specs.Grammar.{strength, choice_level, primary_level, level, fits, all_fit}
 use Rattle.verilog_model.specs.Expression.{is_signed}
 use Rattle.verilog_model.proofs.Numerals.{and_intro, and_first, and_second}
-use Rattle.verilog_expr.specs.Building.{literal_of, unsigned, parenthesize, unsigned_at, unsigned_pair, chain, variadic_expr, signed_pair, unsigned_shift, signed_shift, unsigned_division, signed_division, comparison, select, select_bits, exprs_of, concatenation, conditional, kind_expr, division_expr, shift_expr, variadic_operator, division_operator, shift_operator, is_signed_division, is_signed_shift}
+use Rattle.verilog_model.specs.Digits.{literal_of}
+use Rattle.verilog_expr.specs.Building.{unsigned, parenthesize, unsigned_at, unsigned_pair, chain, variadic_expr, signed_pair, unsigned_shift, signed_shift, unsigned_division, signed_division, select}
+use Rattle.verilog_expr.specs.Building.{select_bits, exprs_of, concatenation, conditional, kind_expr, division_expr, shift_expr, variadic_operator, division_operator, shift_operator}
+use Rattle.verilog_expr.specs.Building.{is_signed_division, is_signed_shift}
 use Rattle.verilog_expr.specs.Parentheses.{tight_at, all_tight, tight, opened, opened_parts}
-use Rattle.verilog_expr.proofs.Carried.{IsCarried, one_holds, two_hold, three_hold}
+use Rattle.verilog_expr.proofs.Carried.{IsCarried}
+use Rattle.verilog_expr.proofs.Passing.{Passes, built_passes}
 
 abbrev AreTight : List Expr → Type 0
 AreTight es = (e : Expr) → In e es → tight e ≡ true
@@ -106,22 +108,6 @@ shift_tight : (s : Bool) (o : Operator) (a b : Expr) → tight a ≡ true → ti
 shift_tight false o a b first second = unsigned_shift_tight o a b first second
 shift_tight true o a b first second = signed_shift_tight o a b first second
 
-comparison_tight : (p : Predicate) (a b : Expr) → tight a ≡ true → tight b ≡ true → tight (comparison p a b) ≡ true
-comparison_tight eq a b first second = unsigned_pair_tight equals a b first second
-comparison_tight ne a b first second = unsigned_pair_tight differs a b first second
-comparison_tight slt a b first second = signed_pair_tight below a b first second
-comparison_tight sle a b first second = signed_pair_tight at_most a b first second
-comparison_tight sgt a b first second = signed_pair_tight above a b first second
-comparison_tight sge a b first second = signed_pair_tight at_least a b first second
-comparison_tight ult a b first second = unsigned_pair_tight below a b first second
-comparison_tight ule a b first second = unsigned_pair_tight at_most a b first second
-comparison_tight ugt a b first second = unsigned_pair_tight above a b first second
-comparison_tight uge a b first second = unsigned_pair_tight at_least a b first second
-comparison_tight ceq a b first second = unsigned_pair_tight equals a b first second
-comparison_tight cne a b first second = unsigned_pair_tight differs a b first second
-comparison_tight weq a b first second = unsigned_pair_tight equals a b first second
-comparison_tight wne a b first second = unsigned_pair_tight differs a b first second
-
 select_tight : (low w : ℕ) (a : Expr) → tight (select low w a) ≡ true
 select_tight low w (name n) = go (w == 1) where
   go : (b : Bool) → tight (cond b (bit_select n (decimal low)) (part_select n (decimal (low + w - 1)) (decimal low))) ≡ true
@@ -149,21 +135,24 @@ conditional_tight c a b condition first second =
 
 -- ---- each kind
 
+tight_pass : Passes tight
+tight_pass = record {
+  none = refl;
+  numeral = λ w n. refl;
+  chained = variadic_tight;
+  paired = unsigned_pair_tight;
+  signed = signed_pair_tight;
+  divided = division_tight;
+  shifted = λ s. shift_tight (is_signed_shift s) (shift_operator s);
+  counted = λ a h. placed_tight primary_level a h;
+  selected = selected_tight;
+  listed = concatenation_tight;
+  copied = λ w v a h. h;
+  chosen = conditional_tight;
+}
+
 pub built_tight : (kind : Kind) (w : ℕ) (ws : List ℕ) (divisor : ℕ) (es : List Expr) → AreTight es → tight (kind_expr kind w ws divisor es) ≡ true
-built_tight (variadic v) w ws divisor es all = variadic_tight (variadic_operator v) es all
-built_tight sub w ws divisor es all = two_hold tight refl _ (unsigned_pair_tight minus) es all
-built_tight (division d) w ws divisor es all = two_hold tight refl _ (λ a b h also. division_tight (is_signed_division d) (division_operator d) w divisor a h) es all
-built_tight (shift s) w ws divisor es all = two_hold tight refl _ (shift_tight (is_signed_shift s) (shift_operator s)) es all
-built_tight (icmp p) w ws divisor es all = two_hold tight refl _ (comparison_tight p) es all
-built_tight parity w ws divisor es all = one_holds tight refl _ (λ a h. placed_tight primary_level a h) es all
-built_tight (extract low) w ws divisor es all = one_holds tight refl _ (λ a h. selected_tight low _ w a h) es all
-built_tight concat w ws divisor es all = concatenation_tight es all
-built_tight replicate w ws divisor es all = one_holds tight refl _ (λ a h. h) es all
-built_tight mux w ws divisor es all = three_hold tight refl _ conditional_tight es all
-built_tight (constant z) w ws divisor es all = refl
-built_tight bitcast w ws divisor es all = one_holds tight refl _ (λ a h. h) es all
-built_tight wire w ws divisor es all = one_holds tight refl _ (λ a h. h) es all
-built_tight _ w ws divisor es all = refl
+built_tight = built_passes tight tight_pass
 
 pub tight_carried : IsCarried tight
 tight_carried = record { none = refl; called = λ n. refl; each = built_tight }

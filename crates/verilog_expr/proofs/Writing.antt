@@ -1,8 +1,8 @@
 -- What is seen of the expression of a value, and how it is put into its place.
-use Rattle.std.proofs.Common.{◌≡◌, ℕ, zero, suc, ◌+◌, ◌-◌, ◌<◌, ◌≢◌, Bool, true, false, cond, ◌==◌, nat_le, nat_lt, List, [], ◌∷◌, ◌++◌, length, map, slice_get, Option, Some, None, is_some, codes, decimal, refl, sym, ap, subst, ◌∙◌, arith}
+use Rattle.std.proofs.Common.{◌≡◌, ℕ, zero, suc, ◌+◌, ◌-◌, ◌<◌, ◌≢◌, Bool, true, false, cond, ◌==◌, nat_le, nat_lt, List, [], ◌∷◌, ◌++◌, length, map, slice_get, Option, Some, None, is_some, codes}
+use Rattle.std.proofs.Common.{decimal, refl, sym, ap, subst, ◌∙◌, arith, option_and_then}
 use Rattle.std.proofs.lemmas.Bool.{ltb-true, ltb-false, leb-true, leb-false}
 use Rattle.std.proofs.lemmas.List.{append-nil, length-map}
-use Rattle.wiring.specs.Options.{bind}
 use Rattle.hw_model.specs.Types.{Name, HwType, width}
 use Rattle.hw_model.specs.Design.{Ref, Port, Op, result_type}
 use Rattle.hw_model.specs.Design.Ref.{result}
@@ -14,7 +14,7 @@ use Rattle.verilog_model.specs.Grammar.{level}
 use Rattle.verilog_model.specs.Expression.{is_signed}
 use Rattle.verilog_expr.specs.Building.{no_expr, parenthesize, of_one_expr, select, first_width}
 use Rattle.verilog_expr.specs.Expressions.{value_width, divisor_in, name_or, typed_expr, result_expr, own_expr, expr_step, expr_to}
-use Rattle.verilog_expr.specs.Text.{expr_text}
+use Rattle.verilog_model.specs.Text.{expr_text}
 use Rattle.verilog_expr.specs.Scopes.{scope_ports, scope_ops, scope_ref}
 use Rattle.verilog_expr.specs.Forms.{in_position}
 use Rattle.verilog_expr.specs.Templates.{template_for, template_text, template_signed, template_level}
@@ -32,7 +32,7 @@ use Rattle.verilog_expr.proofs.FormTemplates.{built_is}
 -- ---- what an operation makes
 
 pub width_result : (ports : List Port) (os : List Op) (i k : ℕ) (o : Op) → slice_get os i ≡ Some o → ((r : Ref) → value_width ports os r < 129) → width_of (result_type o k) < 129
-width_result ports os i k o at small = subst (λ m. width_of (bind m (λ (x : Op). result_type x k)) < 129) at (small (result i k))
+width_result ports os i k o at small = subst (λ m. width_of (option_and_then (λ (x : Op). result_type x k) m) < 129) at (small (result i k))
 
 heads : (ports : List Port) (os : List Op) (rs : List Ref) → first_width (map (value_width ports os) rs) ≡ head_width ports os rs
 heads ports os [] = refl

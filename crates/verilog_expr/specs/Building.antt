@@ -9,23 +9,19 @@ use Rattle.hw_model.specs.Kinds.Variadic.{add, mul, and, or, xor}
 use Rattle.hw_model.specs.Kinds.Division.{divu, modu, divs, mods}
 use Rattle.hw_model.specs.Kinds.Shift.{shl, shru, shrs}
 use Rattle.hw_model.specs.Kinds.Kind.{variadic, sub, division, shift, icmp, parity, extract, concat, replicate, mux, constant, bitcast, wire}
+use Rattle.verilog_model.specs.Digits.{literal_of}
 use Rattle.verilog_model.specs.Tree.{Operator, Expr, Exprs}
 use Rattle.verilog_model.specs.Tree.Operator.{times, over, modulo, plus, minus, left_shift, right_shift, signed_right_shift, below, at_most, above, at_least, equals, differs, bit_and, bit_xor, bit_or}
 use Rattle.verilog_model.specs.Tree.Expr.{name, bit_select, part_select, literal, joined, repeated, as_signed, as_unsigned, paren, odd, binary, choice}
 use Rattle.verilog_model.specs.Tree.Exprs.{last, more}
 use Rattle.verilog_model.specs.Grammar.{level, strength, choice_level, primary_level}
 use Rattle.verilog_model.specs.Expression.{is_signed}
-use Rattle.verilog_expr.specs.Numerals.{hex}
 
 -- ---- operands
 
 -- in place of what is not there: no bits
 abbrev pub no_expr : Expr
 no_expr = literal (codes "0") false (codes "0")
-
--- the literal of a number in w bits
-abbrev pub literal_of : ℕ → Bool → ℕ → Expr
-literal_of w is_signed n = literal (decimal w) is_signed (hex n)
 
 -- the expression made unsigned
 abbrev pub unsigned : Expr → Expr

@@ -10,7 +10,7 @@ use Rattle.verilog_model.specs.Grammar.{level}
 use Rattle.verilog_model.specs.Expression.{is_signed}
 use Rattle.verilog_expr.specs.Building.{no_expr}
 use Rattle.verilog_expr.specs.Expressions.{value_width, own_expr, expr_to}
-use Rattle.verilog_expr.specs.Text.{expr_text}
+use Rattle.verilog_model.specs.Text.{expr_text}
 use Rattle.verilog_expr.specs.Scopes.{scope_ports, scope_ops, scope_ref}
 use Rattle.verilog_expr.specs.Named.{named_of}
 use Rattle.verilog_expr.specs.Templates.{template_text, template_signed, template_level}

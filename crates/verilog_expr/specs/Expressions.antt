@@ -10,7 +10,8 @@ use Rattle.hw_model.specs.Flat.{width_of}
 use Rattle.hw_model.specs.Sound.{type_in}
 use Rattle.verilog_model.specs.Tree.{Expr}
 use Rattle.verilog_model.specs.Tree.Expr.{name}
-use Rattle.verilog_expr.specs.Building.{no_expr, literal_of, kind_expr}
+use Rattle.verilog_model.specs.Digits.{literal_of}
+use Rattle.verilog_expr.specs.Building.{no_expr, kind_expr}
 
 -- the operation whose first result a value is
 abbrev pub op_at : List Op → Ref → Option Op

@@ -4,8 +4,9 @@ use Rattle.verilog_model.specs.Tree as tree
 use Rattle.verilog_model.specs.Tree.{Expr}
 use Rattle.verilog_model.specs.Tree.Operator.{times, over, modulo, plus, minus, left_shift, right_shift, signed_right_shift, below, at_most, above, at_least, equals, differs, bit_and, bit_xor, bit_or}
 use Rattle.verilog_model.specs.Grammar.{strength}
-use Rattle.verilog_expr.specs.Building.{literal_of, unsigned, parenthesize}
-use Rattle.verilog_expr.specs.Text.{question_text, operator_text, expr_text}
+use Rattle.verilog_model.specs.Digits.{literal_of}
+use Rattle.verilog_expr.specs.Building.{unsigned, parenthesize}
+use Rattle.verilog_model.specs.Text.{question_text, operator_text, expr_text}
 use Rattle.verilog_expr.specs.declared.form.Operator.{Operator}
 use Rattle.verilog_expr.specs.declared.form.Operator.TheVariants as signs
 use Rattle.verilog_expr.specs.declared.form.Form.{Form}

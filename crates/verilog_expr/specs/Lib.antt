@@ -1,9 +1,7 @@
 -- The words of this crate's contracts.
-pub mod Numerals
 pub mod Building
 pub mod Expressions
 pub mod Spilling
-pub mod Text
 pub mod Values
 pub mod Scopes
 pub mod Marks

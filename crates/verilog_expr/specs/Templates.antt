@@ -7,8 +7,9 @@ use Rattle.hw_model.specs.Kinds.Kind.{variadic, sub, division, shift, icmp, pari
 use Rattle.verilog_model.specs.Tree.{Expr}
 use Rattle.verilog_model.specs.Grammar.{level, strength}
 use Rattle.verilog_model.specs.Expression.{is_signed}
-use Rattle.verilog_expr.specs.Building.{no_expr, literal_of, of_one_expr, select, variadic_operator, division_operator, shift_operator, is_signed_division, is_signed_shift}
-use Rattle.verilog_expr.specs.Text.{expr_text}
+use Rattle.verilog_model.specs.Digits.{literal_of}
+use Rattle.verilog_expr.specs.Building.{no_expr, of_one_expr, select, variadic_operator, division_operator, shift_operator, is_signed_division, is_signed_shift}
+use Rattle.verilog_model.specs.Text.{expr_text}
 use Rattle.verilog_expr.specs.Forms.{operator_of, operator_in_code, form_text}
 use Rattle.verilog_expr.specs.declared.form.Operator.{Operator}
 use Rattle.verilog_expr.specs.declared.form.Operator.TheVariants as signs

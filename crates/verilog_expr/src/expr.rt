@@ -2,7 +2,7 @@
 ghost use Rattle.std.specs.Prelude.{◌≡◌, ◌++◌, ◌<◌, [], option_map, OnOk, OnErr};
 ghost use Rattle.verilog_expr.specs.Building.{no_expr};
 ghost use Rattle.verilog_expr.specs.Expressions.{own_expr, constant_expr};
-ghost use Rattle.verilog_expr.specs.Text.{expr_text};
+ghost use Rattle.verilog_model.specs.Text.{expr_text};
 ghost use Rattle.verilog_expr.specs.Scopes.{scope_ports, scope_ops, scope_ref};
 ghost use Rattle.verilog_expr.specs.Forms.{in_position, form_text};
 ghost use Rattle.verilog_expr.specs.Templates.{template_text};
@@ -10,7 +10,6 @@ ghost use Rattle.verilog_expr.specs.ExprNode.{expr_at, exprs_at, select_text, sh
 
 use crate::form::{Form, asks_level, asks_unsigned, push_after, push_before};
 use crate::info::{info_at, only_name, push_close, push_open, wrap_for};
-use crate::literals::{push_decimal, push_literal};
 use crate::node::{constant_at, node_at};
 use crate::scope::Scope;
 use crate::template::Template;
@@ -18,6 +17,7 @@ use crate::value_names::ValueNames;
 use io_edge::byte_text::Text;
 use ir_store::operation::Value;
 use std::alloc::{AllocError, Global};
+use verilog_model::{push_decimal, push_literal};
 
 // Adds some bits of a name.
 fn push_select(out: &mut Text, name: Option<&[u8]>, low: u32, width: u64) -> Result<(), AllocError>
@@ -39,7 +39,7 @@ fn push_select(out: &mut Text, name: Option<&[u8]>, low: u32, width: u64) -> Res
 }
 
 // Adds what stands where there is no expression.
-#[tactic(auto, unfolding(crate::specs::Text::expr_text))]
+#[tactic(auto, unfolding(verilog_model::specs::Text::expr_text))]
 fn push_missing(out: &mut Text) -> Result<(), AllocError>
     ensures { OnOk result (out.new ≡ out.old ++ expr_text no_expr []) }
 {

@@ -1,12 +1,12 @@
 //! How the expression of an operation is laid out round its operands.
 ghost use Rattle.std.specs.Prelude.{◌≡◌, ◌++◌, OnOk};
 ghost use Rattle.verilog_model.specs.Grammar.{strength};
-ghost use Rattle.verilog_expr.specs.Text.{operator_text};
+ghost use Rattle.verilog_model.specs.Text.{operator_text};
 ghost use Rattle.verilog_expr.specs.Forms.{operator_of, before, text_after, asks_unsigned, asks_level};
 
-use crate::literals::{push_decimal, push_literal};
 use io_edge::byte_text::Text;
 use std::alloc::AllocError;
+use verilog_model::{push_decimal, push_literal};
 
 /// The binary operators, but `?:` (IEEE 1364-2005, 5.1).
 #[derive(Clone, Copy)]

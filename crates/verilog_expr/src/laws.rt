@@ -15,7 +15,7 @@ ghost use Rattle.verilog_model.specs.Tree.{Expr};
 ghost use Rattle.verilog_model.specs.Grammar.{fits};
 ghost use Rattle.verilog_model.specs.Expression.{is_signed, own_value, assigned};
 ghost use Rattle.verilog_model.specs.Hierarchy.{range_width};
-ghost use Rattle.verilog_expr.specs.Numerals.{hex, high_of};
+ghost use Rattle.verilog_model.specs.Digits.{hex, high_of};
 ghost use Rattle.verilog_expr.specs.Building.{kind_expr};
 ghost use Rattle.verilog_expr.specs.Forms.{asks_unsigned, in_position};
 ghost use Rattle.verilog_expr.specs.Templates.{template_for};

@@ -6,7 +6,6 @@ mod form;
 mod height_table;
 mod info;
 mod laws;
-mod literals;
 mod marks;
 mod nesting;
 mod node;
@@ -15,5 +14,4 @@ mod template;
 pub mod value_names;
 pub mod wires;
 
-pub use literals::{high_of, push_decimal, push_literal};
 pub use nesting::hint_in;

@@ -7,3 +7,4 @@ pub mod OneTree
 pub mod Samples
 pub mod TwoRegisters
 pub mod SecondEvent
+pub mod Digits

@@ -13,7 +13,10 @@ use Rattle.verilog_model.specs.Tree.Block.{load, if_load, if_else, if_else_if, a
 use Rattle.verilog_model.specs.Tree.Item.{wire, reg, assign, always, instance}
 use Rattle.verilog_model.specs.Hierarchy.{first_some, when, or_else, find_vmodule, find_port, vports_of, block_target}
 use Rattle.verilog_model.specs.Grammar.{fits, all_fit, level, strength, choice_level, primary_level, is_literal, block_fits, connections_fit, item_fits, items_fit, tree_fits}
-use Rattle.verilog_model.specs.Checks.{contains_name, starts_name, is_identifier, are_distinct, all_identifiers, Role, Declared, find_declared, has_role, can_read, can_assign, is_input, is_variable, has_bit, divides, is_divisor, expr_checks, exprs_check, load_checks, block_checks, joins_net, connection_checks, connections_check, ports_joined, item_checks, items_check, declared_by, declared_ports, declared_items, declared_in, names_check, ports_check, each_driven, clocks_check, nesting_checks, module_checks, modules_check, tree_checks}
+use Rattle.verilog_model.specs.Checks.{contains_name, starts_name, is_identifier, are_distinct, all_identifiers, Role, Declared, find_declared, has_role, can_read, can_assign, is_input, is_variable}
+use Rattle.verilog_model.specs.Checks.{has_bit, divides, is_divisor, expr_checks, exprs_check, load_checks, block_checks, joins_net, connection_checks, connections_check, ports_joined, item_checks}
+use Rattle.verilog_model.specs.Checks.{items_check, declared_by, declared_ports, declared_items, declared_in, names_check, ports_check, each_driven, clocks_check, nesting_checks, module_checks}
+use Rattle.verilog_model.specs.Checks.{modules_check, tree_checks}
 use Rattle.verilog_model.specs.Behaviour.{IsVerilog}
 use Rattle.verilog_model.proofs.Numerals.{and_intro, and_first, and_second}
 use Rattle.verilog_model.proofs.TokenReader.{run}

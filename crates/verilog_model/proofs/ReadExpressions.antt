@@ -13,11 +13,11 @@ use Rattle.verilog_model.specs.Numerals.{all_bytes, is_decimal}
 use Rattle.verilog_model.specs.Grammar.{operator_token, base_mark, expr_spelled, exprs_spelled, strength, level, choice_level, primary_level, close_paren, open_bracket, close_bracket, open_brace, close_brace, comma, colon, question}
 use Rattle.verilog_model.specs.Checks.{starts_name}
 use Rattle.verilog_model.proofs.Numerals.{and_first, and_second}
-use Rattle.verilog_model.proofs.TokenReader.{Around, State, Class, class_of, weight, push, next, after_name, lexeme_of, before_quote, after_quote, number_or_literal, begin_word, run}
+use Rattle.verilog_model.proofs.TokenReader.{Around, State, Class, class_of, weight, push, next, after_name, token_class, before_quote, after_quote, number_or_literal, begin_word, run}
 use Rattle.verilog_model.proofs.TokenReader.Around.{bottom, left_of, tested, chosen, odd_of, inside, listed}
 use Rattle.verilog_model.proofs.TokenReader.State.{take, operand, complete}
 use Rattle.verilog_model.proofs.TokenReader.Class.{joins, ask, select}
-use Rattle.verilog_model.proofs.TokenReader.Lexeme.{identifier, number, based}
+use Rattle.verilog_model.proofs.TokenReader.TokenClass.{identifier, number, based}
 
 -- what the reader needs of an expression: its operands bind as strongly as their places ask, its names begin as names,
 -- its numerals are decimal
@@ -63,19 +63,19 @@ after_first : (w rest : Name) → IsTrue (all_bytes is_digit w) → after_quote 
 after_first [] rest h = refl
 after_first (b ∷ w) rest h = rw (digit_is_no_quote b (and_first (is_digit b) (all_bytes is_digit w) h)) (after_first w rest (and_second (is_digit b) (all_bytes is_digit w) h))
 
-identifier_word : (n : Name) → IsTrue (starts_name n) → lexeme_of n ≡ identifier
+identifier_word : (n : Name) → IsTrue (starts_name n) → token_class n ≡ identifier
 identifier_word [] h = cc
 identifier_word (b ∷ n) h = rw h refl
 
 -- a word that begins with a digit
-digit_word : (b : ℕ) (w : Name) → IsTrue (is_digit b) → lexeme_of (b ∷ w) ≡ number_or_literal (before_quote (b ∷ w)) (after_quote (b ∷ w))
+digit_word : (b : ℕ) (w : Name) → IsTrue (is_digit b) → token_class (b ∷ w) ≡ number_or_literal (before_quote (b ∷ w)) (after_quote (b ∷ w))
 digit_word b w h = rw (digit_starts_no_name b h, digit_is_no_dollar b h) refl
 
-number_word : (w : Name) → IsTrue (is_decimal w) → lexeme_of w ≡ number
+number_word : (w : Name) → IsTrue (is_decimal w) → token_class w ≡ number
 number_word [] h = cc
 number_word (b ∷ w) h = digit_word b w (and_first (is_digit b) (all_bytes is_digit w) h) ∙ ap (number_or_literal (before_quote (b ∷ w))) (no_quote (b ∷ w) h)
 
-based_word : (w h : Name) (s : Bool) → IsTrue (is_decimal w) → lexeme_of (w ++ (base_mark s ++ h)) ≡ based w s h
+based_word : (w h : Name) (s : Bool) → IsTrue (is_decimal w) → token_class (w ++ (base_mark s ++ h)) ≡ based w s h
 based_word [] h s d = cc
 based_word (b ∷ w) h s d =
     digit_word b (w ++ (base_mark s ++ h)) (and_first (is_digit b) (all_bytes is_digit w) d) ∙ parts s where

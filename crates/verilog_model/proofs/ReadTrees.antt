@@ -8,10 +8,12 @@ use Rattle.verilog_model.specs.Tree.{Numeral, Expr, VPort, Load, Block, Connecti
 use Rattle.verilog_model.specs.Tree.Expr.{name}
 use Rattle.verilog_model.specs.Tree.Block.{load, if_load, if_else, if_else_if, async_reset}
 use Rattle.verilog_model.specs.Tree.Item.{wire, reg, assign, always, instance}
-use Rattle.verilog_model.specs.Grammar.{expr_spelled, load_spelled, if_spelled, block_spelled, more_connections_spelled, connections_spelled, range_spelled, direction, port_spelled, more_ports_spelled, ports_spelled, item_spelled, items_spelled, spell_tree, open_paren, close_paren, semicolon, arrow}
+use Rattle.verilog_model.specs.Grammar.{expr_spelled, load_spelled, if_spelled, block_spelled, more_connections_spelled, connections_spelled, range_spelled, direction, port_spelled}
+use Rattle.verilog_model.specs.Grammar.{more_ports_spelled, ports_spelled, item_spelled, items_spelled, spell_tree, open_paren, close_paren, semicolon, arrow}
 use Rattle.verilog_model.specs.Reserved.{reserved_words}
 use Rattle.verilog_model.specs.Checks.{contains_name}
-use Rattle.verilog_model.proofs.TokenReader.{Rest, State, Class, class_of, next, run, on_word, load_after, if_after, with_block, block_word, clock_after, else_word, after_if_word, item_word, instance_after, connection_after, first_connection, range_or_name, more_or_end, skip}
+use Rattle.verilog_model.proofs.TokenReader.{Rest, State, Class, class_of, next, run, on_word, load_after, if_after, with_block, block_word, clock_after, else_word, after_if_word, item_word}
+use Rattle.verilog_model.proofs.TokenReader.{instance_after, connection_after, first_connection, range_or_name, more_or_end, skip}
 use Rattle.verilog_model.proofs.TokenReader.State.{take, operand, modules, port, items, connection, after_if}
 use Rattle.verilog_model.proofs.TokenReader.Class.{ends}
 use Rattle.verilog_model.proofs.TokenReader.Around.{bottom}

@@ -124,10 +124,10 @@ after_name n s select = take (on_word (λ (h : Name). take (select_low n h s)))
 after_name n s c = next s (name n) c
 
 -- what a word is where an operand begins
-pub data Lexeme : Type 0 where
-  identifier number : Lexeme
-  based : Numeral → Bool → Numeral → Lexeme
-  call : (Expr → Expr) → Lexeme
+pub data TokenClass : Type 0 where
+  identifier number : TokenClass
+  based : Numeral → Bool → Numeral → TokenClass
+  call : (Expr → Expr) → TokenClass
 
 -- the bytes before the first `'`, and those after it
 abbrev pub before_quote : Name → Name
@@ -143,31 +143,31 @@ tail [] = []
 tail (b ∷ bs) = bs
 
 -- the bytes after the `'` of a literal, if there are any
-abbrev pub number_or_literal : Name → Name → Lexeme
+abbrev pub number_or_literal : Name → Name → TokenClass
 number_or_literal w [] = number
 number_or_literal w (b ∷ bs) = cond (b == 104) (based w false bs) (based w true (tail bs))
 
-abbrev pub call_of : Name → Lexeme
+abbrev pub call_of : Name → TokenClass
 call_of [] = number
 call_of (b ∷ bs) = cond (b == 115) (call as_signed) (call as_unsigned)
 
-abbrev pub lexeme_of : Name → Lexeme
-lexeme_of [] = number
-lexeme_of (b ∷ bs) = cond (is_name_start b) identifier (cond (b == 36) (call_of bs) (number_or_literal (before_quote (b ∷ bs)) (after_quote (b ∷ bs))))
+abbrev pub token_class : Name → TokenClass
+token_class [] = number
+token_class (b ∷ bs) = cond (is_name_start b) identifier (cond (b == 36) (call_of bs) (number_or_literal (before_quote (b ∷ bs)) (after_quote (b ∷ bs))))
 
 -- `n{` after `{`
 abbrev pub repeats : Numeral → Around → State
 repeats n (listed k s) = skip (operand (listed (λ (es : Exprs). skip (complete (repeated n es) s)) s))
 repeats n _ = lost
 
-abbrev pub begin_word : Name → Around → Lexeme → State
+abbrev pub begin_word : Name → Around → TokenClass → State
 begin_word w s identifier = named w s
 begin_word w s number = repeats w s
 begin_word w s (based v m h) = complete (literal v m h) s
 begin_word w s (call g) = skip (operand (inside g s))
 
 abbrev pub begin : Around → Piece → State
-begin s (word w) = begin_word w s (lexeme_of w)
+begin s (word w) = begin_word w s (token_class w)
 begin s (operator w) = lost
 begin s (mark b) = cond (b == 40) (operand (inside paren s)) (cond (b == 94) (operand (odd_of s)) (operand (listed (λ (es : Exprs). complete (joined es) s) s)))
 begin s gap = lost

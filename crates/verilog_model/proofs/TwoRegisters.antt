@@ -1,9 +1,8 @@
 -- Two registers of eight bits, one after the other, in one module and as instances of a module: their texts, trees and
 -- steps, computed.
-use Rattle.std.proofs.Common.{◌≡◌, ℕ, zero, suc, Bool, true, false, List, [], ◌∷◌, ◌++◌, Option, Some, None, refl, sym, ◌∙◌, ap, subst, ◌||◌, codes}
+use Rattle.std.proofs.Common.{◌≡◌, ℕ, zero, suc, Bool, true, false, List, [], ◌∷◌, ◌++◌, Option, Some, None, refl, sym, ◌∙◌, ap, subst, ◌||◌, codes, option_and_then}
 use Rattle.bits_core.specs.Word.{Word, bits}
 use Rattle.std.specs.Cmp.Lexicographic.{bytes_decides}
-use Rattle.wiring.specs.Options.{bind}
 use Rattle.hw_model.specs.Types.{Name}
 use Rattle.hw_model.specs.Design.{same_name}
 use Rattle.hw_model.specs.Machine.{RunAfter, Run}
@@ -186,7 +185,7 @@ flat_steady n =
 -- there is no other module
 flat_outside : (u : Name) (q : VPath) → vmodule_at flat (codes "Two") (u ∷ q) ≡ None
 flat_outside u [] = refl
-flat_outside u (w ∷ q) = ap (λ o. bind o (λ (m : VModule). bind (find_instance m.items u) (λ (i : VInstance). find_vmodule flat i.module_name))) (flat_outside w q)
+flat_outside u (w ∷ q) = ap (λ o. option_and_then (λ (m : VModule). option_and_then (λ (i : VInstance). find_vmodule flat i.module_name) (find_instance m.items u)) o) (flat_outside w q)
 
 flat_settled : (s content : Word) → TreeSettled flat (codes "Two") s content (rounds 2 flat s content)
 flat_settled s content v = go v.path where
@@ -263,9 +262,9 @@ abbrev HasNone : Option VModule → Type 0
 HasNone None = Unit {0}
 HasNone (Some m) = (u : Name) → find_instance m.items u ≡ None
 
-within_none : (u : Name) (o : Option VModule) → HasNone o → bind o (λ (m : VModule). bind (find_instance m.items u) (λ (i : VInstance). find_vmodule layered i.module_name)) ≡ None
+within_none : (u : Name) (o : Option VModule) → HasNone o → option_and_then (λ (m : VModule). option_and_then (λ (i : VInstance). find_vmodule layered i.module_name) (find_instance m.items u)) o ≡ None
 within_none u None h = refl
-within_none u (Some m) h = ap (λ x. bind x (λ (i : VInstance). find_vmodule layered i.module_name)) (h u)
+within_none u (Some m) h = ap (λ x. option_and_then (λ (i : VInstance). find_vmodule layered i.module_name) x) (h u)
 
 inner_has_none : (u : Name) (q : VPath) → HasNone (vmodule_at layered (codes "Two") (u ∷ q))
 inner_has_none u [] = by_name (λ u. HasNone (vmodule_at layered (codes "Two") (u ∷ []))) u instance_names (λ w. refl, (λ w. refl, tt)) (λ h. subst HasNone (sym (no_instance u h)) tt)

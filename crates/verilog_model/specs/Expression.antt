@@ -1,7 +1,8 @@
 -- The width, sign and value of expressions (IEEE 1364-2005, 5.4: bit lengths; 5.5: signed expressions), over values of
 -- two states: `widths` gives the width of each name, ρ its word.
 use Rattle.std.specs.Prelude.{ℕ, ◌+◌, ◌-◌, ◌*◌, max, Bool, true, false, cond, not, ◌&&◌, ◌||◌, [], ◌∷◌, ◌++◌, length, drop, replicate}
-use Rattle.bits_core.specs.Word.{Word, number, bits, sign, flag, extract, copies, add, sub, mul, quotient, rest, signed_quotient, signed_rest, and_words, or_words, xor_words, parity, shift_left, shift_right, shift_right_signed, less, signed_less, same_word}
+use Rattle.bits_core.specs.Word.{Word, number, bits, sign, flag, extract, copies, add, sub, mul, quotient, rest, signed_quotient, signed_rest, and_words, or_words, xor_words, parity, shift_left}
+use Rattle.bits_core.specs.Word.{shift_right, shift_right_signed, less, signed_less, same_word}
 use Rattle.hw_model.specs.Types.{Name}
 use Rattle.verilog_model.specs.Numerals.{decimal_number, hex_number}
 use Rattle.verilog_model.specs.Tree.{Operator, Expr, Exprs}

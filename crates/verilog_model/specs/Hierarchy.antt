@@ -1,7 +1,6 @@
 -- The modules of a tree, their names and widths, and the flattened tree (IEEE 1364-2005, 12.1 and 12.3: hierarchy and
 -- ports): what drives each name of each instance. A connection of a port is an assignment (12.3.9.2).
-use Rattle.std.specs.Prelude.{ℕ, zero, suc, ◌+◌, Bool, true, false, cond, List, [], ◌∷◌, ◌++◌, length, Option, Some, None}
-use Rattle.wiring.specs.Options.{bind}
+use Rattle.std.specs.Prelude.{ℕ, zero, suc, ◌+◌, Bool, true, false, cond, List, [], ◌∷◌, ◌++◌, length, Option, Some, None, option_and_then}
 use Rattle.hw_model.specs.Types.{Name}
 use Rattle.hw_model.specs.Design.{same_name}
 use Rattle.verilog_model.specs.Numerals.{decimal_number}
@@ -92,7 +91,7 @@ vnet q n = record { path = q; name = n }
 
 abbrev pub vmodule_at : Tree → Name → VPath → Option VModule
 vmodule_at t top [] = find_vmodule t top
-vmodule_at t top (u ∷ q) = bind (vmodule_at t top q) (λ (m : VModule). bind (find_instance m.items u) (λ (i : VInstance). find_vmodule t i.module_name))
+vmodule_at t top (u ∷ q) = option_and_then (λ (m : VModule). option_and_then (λ (i : VInstance). find_vmodule t i.module_name) (find_instance m.items u)) (vmodule_at t top q)
 
 -- ---- register content: the `always` blocks and the instances in text order
 
@@ -176,7 +175,7 @@ connection_drive q n (Some i) = drive_of_connection q (find_connection i.connect
 -- an input port: at the top its bits of the inputs, in an instance what the instance joins to it
 abbrev pub input_drive : Tree → Name → VPath → VModule → VPort → Drive
 input_drive t top [] m p = input (input_width_before p.name m.ports) (range_width p.high)
-input_drive t top (u ∷ q) m p = connection_drive q p.name (bind (vmodule_at t top q) (λ (o : VModule). find_instance o.items u))
+input_drive t top (u ∷ q) m p = connection_drive q p.name (option_and_then (λ (o : VModule). find_instance o.items u) (vmodule_at t top q))
 
 -- whether the expression is that name alone
 abbrev pub is_name : Name → Expr → Bool
@@ -185,7 +184,7 @@ is_name n _ = false
 
 -- the output of an instance that a connection joins to n
 abbrev pub joined_output : VPath → Name → Name → List VPort → Connection → Option Drive
-joined_output q u n ports c = bind (find_port ports c.port) (λ (p : VPort). cond p.is_output (when (is_name n c.value) (net (vnet (u ∷ q) p.name))) None)
+joined_output q u n ports c = option_and_then (λ (p : VPort). cond p.is_output (when (is_name n c.value) (net (vnet (u ∷ q) p.name))) None) (find_port ports c.port)
 
 abbrev pub vports_of : Option VModule → List VPort
 vports_of None = []

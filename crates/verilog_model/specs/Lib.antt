@@ -8,3 +8,5 @@ pub mod Hierarchy
 pub mod Checks
 pub mod Meaning
 pub mod Behaviour
+pub mod Digits
+pub mod Text

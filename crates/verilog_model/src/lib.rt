@@ -2,5 +2,7 @@
 #![tactic(auto)]
 
 mod laws;
+mod literals;
 
 pub use laws::one_tree;
+pub use literals::{high_of, push_decimal, push_hex, push_literal};

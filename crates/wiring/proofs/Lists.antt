@@ -81,7 +81,7 @@ module _ {A : Type 0} where
   slice_get_some (x ∷ xs) zero within = (x, refl)
   slice_get_some (x ∷ xs) (suc i) within = slice_get_some xs i (omega arith)
 
-  -- a list is its front, what stands at a position, and the rest
+  -- a list is its prefix, what stands at a position, and the rest
   pub split_at : (xs : List A) (i : ℕ) (x : A) → slice_get xs i ≡ Some x → xs ≡ take i xs ++ x ∷ drop (suc i) xs
   split_at [] i x is = cc
   split_at (y ∷ ys) zero x is = let same : y ≡ x = cc in ap (λ z. z ∷ ys) same

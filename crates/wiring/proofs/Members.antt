@@ -20,7 +20,7 @@ module _ {A : Type 0} where
   In-append_cases x (z ∷ zs) ys (inr here) = following (In-append_cases x zs ys here)
     where
       following : In x zs ⊎ In x ys → In x (z ∷ zs) ⊎ In x ys
-      following (inl front) = inl (inr front)
+      following (inl prefix) = inl (inr prefix)
       following (inr back) = inr back
 
   pub from_In-take : (x : A) (n : ℕ) (xs : List A) → In x (take n xs) → In x xs
@@ -34,7 +34,7 @@ module _ {A : Type 0} where
   from_In-drop x (suc n) [] here = absurd here
   from_In-drop x (suc n) (y ∷ ys) here = inr (from_In-drop x n ys here)
 
-  -- a member of a list is one of its front or of the rest
+  -- a member of a list is one of its prefix or of the rest
   pub In-take_drop_cases : (x : A) (n : ℕ) (xs : List A) → In x xs → In x (take n xs) ⊎ In x (drop n xs)
   In-take_drop_cases x zero xs here = inr here
   In-take_drop_cases x (suc n) [] here = absurd here
@@ -42,7 +42,7 @@ module _ {A : Type 0} where
   In-take_drop_cases x (suc n) (y ∷ ys) (inr here) = following (In-take_drop_cases x n ys here)
     where
       following : In x (take n ys) ⊎ In x (drop n ys) → In x (y ∷ take n ys) ⊎ In x (drop n ys)
-      following (inl front) = inl (inr front)
+      following (inl prefix) = inl (inr prefix)
       following (inr back) = inr back
 
   -- what was written, or a member of the list before

@@ -1,5 +1,5 @@
 // RUN: circt opt --canonicalize
-// ----- less 0
+// comb.sub of 0 is the value, at 8, 1 and 128 bits
 module {
   hw.module @T(in %a : i8, in %b : i1, in %c : i128, out o : i8, out p : i1, out q : i128) {
     %c0_i8 = hw.constant 0 : i8
@@ -11,7 +11,8 @@ module {
     hw.output %0, %1, %2 : i8, i1, i128
   }
 }
-// ----- less itself
+// -----
+// comb.sub of a value and itself is 0
 module {
   hw.module @T(in %a : i8, in %b : i1, in %c : i128, out o : i8, out p : i1, out q : i128) {
     %0 = comb.sub %a, %a {k} : i8
@@ -20,7 +21,8 @@ module {
     hw.output %0, %1, %2 : i8, i1, i128
   }
 }
-// ----- a register less itself
+// -----
+// comb.sub of a register and itself is 0
 module {
   hw.module @T(in %clk : !seq.clock, in %a : i8, out o : i8) {
     %0 = comb.sub %r, %r : i8
@@ -29,7 +31,8 @@ module {
     hw.output %0 : i8
   }
 }
-// ----- 0 less a value, other constants, and results of two operations alike
+// -----
+// comb.sub stays: 0 less a value, other constants, and results of two operations alike
 module {
   hw.module @T(in %a : i8, in %b : i1, out o : i8, out p : i8, out q : i1, out r : i8) {
     %c0_i8 = hw.constant 0 : i8
@@ -46,7 +49,8 @@ module {
     hw.output %0, %1, %2, %7 : i8, i8, i1, i8
   }
 }
-// ----- by 0
+// -----
+// shifts by 0 are the value
 module {
   hw.module @T(in %a : i8, in %b : i1, in %c : i128, out o : i8, out p : i8, out q : i8, out r : i1, out s : i128) {
     %c0_i8 = hw.constant 0 : i8
@@ -61,6 +65,7 @@ module {
   }
 }
 // -----
+// a shift by 0 of a register that the shift feeds
 module {
   hw.module @T(in %clk : !seq.clock, in %a : i8, out o : i8) {
     %c0_i8 = hw.constant 0 : i8
@@ -69,7 +74,8 @@ module {
     hw.output %0 : i8
   }
 }
-// ----- 0 by a value, and by 1
+// -----
+// shifts stay: 0 by a value, by 1, and a value by itself
 module {
   hw.module @T(in %a : i8, out o : i8, out p : i8, out q : i8, out r : i8) {
     %c0_i8 = hw.constant 0 : i8
@@ -81,7 +87,8 @@ module {
     hw.output %0, %1, %2, %3 : i8, i8, i8, i8
   }
 }
-// ----- by the width, above it, and by all ones
+// -----
+// shifts left and right by the width, above it, and by all ones are 0
 module {
   hw.module @T(in %a : i8, out o : i8, out p : i8, out q : i8, out r : i8) {
     %c8_i8 = hw.constant 8 : i8
@@ -95,6 +102,7 @@ module {
   }
 }
 // -----
+// shifts by the width and by all ones are 0, at 1 and 128 bits
 module {
   hw.module @T(in %a : i1, in %b : i128, out o : i1, out p : i1, out q : i128, out r : i128) {
     %true = hw.constant true
@@ -107,7 +115,8 @@ module {
     hw.output %0, %1, %2, %3 : i1, i1, i128, i128
   }
 }
-// ----- by the width less 1
+// -----
+// shifts by the width less 1 stay
 module {
   hw.module @T(in %a : i8, in %b : i128, out o : i8, out p : i8, out q : i128, out r : i128) {
     %c7_i8 = hw.constant 7 : i8
@@ -119,7 +128,8 @@ module {
     hw.output %0, %1, %2, %3 : i8, i8, i128, i128
   }
 }
-// ----- what is shifted arithmetically keeps its sign
+// -----
+// arithmetic shifts by the width and more stay: the sign is kept
 module {
   hw.module @T(in %a : i8, in %b : i1, in %c : i128, out o : i8, out p : i8, out q : i1, out r : i128) {
     %c8_i8 = hw.constant 8 : i8
@@ -133,7 +143,8 @@ module {
     hw.output %0, %1, %2, %3 : i8, i8, i1, i128
   }
 }
-// ----- by 1, which one bit of 1 is too
+// -----
+// division by 1, which one bit of 1 is too, is the value
 module {
   hw.module @T(in %a : i8, in %b : i1, in %c : i128, out o : i8, out p : i8, out q : i1, out r : i1, out s : i128) {
     %c1_i8 = hw.constant 1 : i8
@@ -147,7 +158,8 @@ module {
     hw.output %0, %1, %2, %3, %4 : i8, i8, i1, i1, i128
   }
 }
-// ----- rests
+// -----
+// the remainder of division by 1 is 0
 module {
   hw.module @T(in %a : i8, in %b : i1, out o : i8, out p : i8, out q : i1) {
     %c1_i8 = hw.constant 1 : i8
@@ -159,6 +171,7 @@ module {
   }
 }
 // -----
+// the remainder and the quotient by 1, at 128 bits
 module {
   hw.module @T(in %a : i128, out o : i128, out p : i128) {
     %c1_i128 = hw.constant 1 : i128
@@ -167,7 +180,8 @@ module {
     hw.output %0, %1 : i128, i128
   }
 }
-// ----- by -1, by 2
+// -----
+// division and remainder by -1 and by 2 stay
 module {
   hw.module @T(in %a : i8, in %b : i128, out o : i8, out p : i8, out q : i8, out r : i8, out s : i128) {
     %c-1_i8 = hw.constant -1 : i8
@@ -181,7 +195,8 @@ module {
     hw.output %0, %1, %2, %3, %4 : i8, i8, i8, i8, i128
   }
 }
-// ----- of a value and itself
+// -----
+// comparisons that hold of a value and itself are true
 module {
   hw.module @T(in %a : i8, out o : i1, out p : i1, out q : i1, out r : i1, out s : i1, out t : i1, out u : i1) {
     %0 = comb.icmp eq %a, %a {k} : i8
@@ -195,6 +210,7 @@ module {
   }
 }
 // -----
+// comparisons that fail of a value and itself are false
 module {
   hw.module @T(in %a : i8, out o : i1, out p : i1, out q : i1, out r : i1, out s : i1, out t : i1, out u : i1) {
     %0 = comb.icmp ne %a, %a : i8
@@ -208,6 +224,7 @@ module {
   }
 }
 // -----
+// comparisons of a value and itself, at 1 and 128 bits
 module {
   hw.module @T(in %a : i1, in %b : i128, out o : i1, out p : i1) {
     %0 = comb.icmp uge %a, %a : i1
@@ -215,7 +232,8 @@ module {
     hw.output %0, %1 : i1, i1
   }
 }
-// ----- of others, and with the ends of the range
+// -----
+// comparisons stay: of two values, and with the ends of the range
 module {
   hw.module @T(in %a : i8, in %b : i8, out o : i1, out p : i1, out q : i1) {
     %c0_i8 = hw.constant 0 : i8

@@ -1,10 +1,11 @@
-// -----
+// comb.sub of 0 is the value, at 8, 1 and 128 bits
 module {
   hw.module @T(in %a : i8, in %b : i1, in %c : i128, out o : i8, out p : i1, out q : i128) {
     hw.output %a, %b, %c : i8, i1, i128
   }
 }
 // -----
+// comb.sub of a value and itself is 0
 module {
   hw.module @T(in %a : i8, in %b : i1, in %c : i128, out o : i8, out p : i1, out q : i128) {
     %c0_i8 = hw.constant 0 : i8
@@ -14,6 +15,7 @@ module {
   }
 }
 // -----
+// comb.sub of a register and itself is 0
 module {
   hw.module @T(in %clk : !seq.clock, in %a : i8, out o : i8) {
     %c0_i8 = hw.constant 0 : i8
@@ -22,6 +24,7 @@ module {
   }
 }
 // -----
+// comb.sub stays: 0 less a value, other constants, and results of two operations alike
 module {
   hw.module @T(in %a : i8, in %b : i1, out o : i8, out p : i8, out q : i1, out r : i8) {
     %c0_i8 = hw.constant 0 : i8
@@ -39,12 +42,14 @@ module {
   }
 }
 // -----
+// shifts by 0 are the value
 module {
   hw.module @T(in %a : i8, in %b : i1, in %c : i128, out o : i8, out p : i8, out q : i8, out r : i1, out s : i128) {
     hw.output %a, %a, %a, %b, %c : i8, i8, i8, i1, i128
   }
 }
 // -----
+// a shift by 0 of a register that the shift feeds
 module {
   hw.module @T(in %clk : !seq.clock, in %a : i8, out o : i8) {
     %r = seq.compreg %r, %clk : i8
@@ -52,6 +57,7 @@ module {
   }
 }
 // -----
+// shifts stay: 0 by a value, by 1, and a value by itself
 module {
   hw.module @T(in %a : i8, out o : i8, out p : i8, out q : i8, out r : i8) {
     %c0_i8 = hw.constant 0 : i8
@@ -64,6 +70,7 @@ module {
   }
 }
 // -----
+// shifts left and right by the width, above it, and by all ones are 0
 module {
   hw.module @T(in %a : i8, out o : i8, out p : i8, out q : i8, out r : i8) {
     %c0_i8 = hw.constant 0 : i8
@@ -74,6 +81,7 @@ module {
   }
 }
 // -----
+// shifts by the width and by all ones are 0, at 1 and 128 bits
 module {
   hw.module @T(in %a : i1, in %b : i128, out o : i1, out p : i1, out q : i128, out r : i128) {
     %false = hw.constant false
@@ -84,6 +92,7 @@ module {
   }
 }
 // -----
+// shifts by the width less 1 stay
 module {
   hw.module @T(in %a : i8, in %b : i128, out o : i8, out p : i8, out q : i128, out r : i128) {
     %c7_i8 = hw.constant 7 : i8
@@ -96,6 +105,7 @@ module {
   }
 }
 // -----
+// arithmetic shifts by the width and more stay: the sign is kept
 module {
   hw.module @T(in %a : i8, in %b : i1, in %c : i128, out o : i8, out p : i8, out q : i1, out r : i128) {
     %c8_i8 = hw.constant 8 : i8
@@ -110,12 +120,14 @@ module {
   }
 }
 // -----
+// division by 1, which one bit of 1 is too, is the value
 module {
   hw.module @T(in %a : i8, in %b : i1, in %c : i128, out o : i8, out p : i8, out q : i1, out r : i1, out s : i128) {
     hw.output %a, %a, %b, %b, %c : i8, i8, i1, i1, i128
   }
 }
 // -----
+// the remainder of division by 1 is 0
 module {
   hw.module @T(in %a : i8, in %b : i1, out o : i8, out p : i8, out q : i1) {
     %c0_i8 = hw.constant 0 : i8
@@ -125,6 +137,7 @@ module {
   }
 }
 // -----
+// the remainder and the quotient by 1, at 128 bits
 module {
   hw.module @T(in %a : i128, out o : i128, out p : i128) {
     %c0_i128 = hw.constant 0 : i128
@@ -132,6 +145,7 @@ module {
   }
 }
 // -----
+// division and remainder by -1 and by 2 stay
 module {
   hw.module @T(in %a : i8, in %b : i128, out o : i8, out p : i8, out q : i8, out r : i8, out s : i128) {
     %c-1_i8 = hw.constant -1 : i8
@@ -146,6 +160,7 @@ module {
   }
 }
 // -----
+// comparisons that hold of a value and itself are true
 module {
   hw.module @T(in %a : i8, out o : i1, out p : i1, out q : i1, out r : i1, out s : i1, out t : i1, out u : i1) {
     %true = hw.constant true
@@ -159,6 +174,7 @@ module {
   }
 }
 // -----
+// comparisons that fail of a value and itself are false
 module {
   hw.module @T(in %a : i8, out o : i1, out p : i1, out q : i1, out r : i1, out s : i1, out t : i1, out u : i1) {
     %false = hw.constant false
@@ -172,6 +188,7 @@ module {
   }
 }
 // -----
+// comparisons of a value and itself, at 1 and 128 bits
 module {
   hw.module @T(in %a : i1, in %b : i128, out o : i1, out p : i1) {
     %true = hw.constant true
@@ -180,6 +197,7 @@ module {
   }
 }
 // -----
+// comparisons stay: of two values, and with the ends of the range
 module {
   hw.module @T(in %a : i8, in %b : i8, out o : i1, out p : i1, out q : i1) {
     %c0_i8 = hw.constant 0 : i8

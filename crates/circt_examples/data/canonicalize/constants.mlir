@@ -1,12 +1,13 @@
 // RUN: circt opt --canonicalize
-// -----
+// an unused sum is removed
 module {
   hw.module @T(in %a : i8, in %b : i8, out o : i8) {
     %0 = comb.add %a, %b : i8
     hw.output %a : i8
   }
 }
-// ----- each is used by the one after it alone
+// -----
+// unused operations, each used by the one after it alone, are removed
 module {
   hw.module @T(in %a : i128, in %b : i128, out o : i128) {
     %0 = comb.sub %a, %b : i128
@@ -15,7 +16,8 @@ module {
     hw.output %a : i128
   }
 }
-// ----- operations on aggregates, and constants
+// -----
+// unused operations on aggregates, and unused constants, are removed
 module {
   hw.module @T(in %a : i1, in %s : !hw.struct<x: i8, y: i8>) {
     %true = hw.constant true {k}
@@ -26,14 +28,16 @@ module {
     hw.output
   }
 }
-// ----- a result of several is used
+// -----
+// an operation of several results stays where one of them is used
 module {
   hw.module @T(in %s : !hw.struct<x: i8, y: i8>, out o : i8) {
     %0:2 = hw.struct_explode %s : !hw.struct<x: i8, y: i8>
     hw.output %0#1 : i8
   }
 }
-// ----- registers, wires and instances stay, and what they use
+// -----
+// registers, wires and instances stay though unused, and what they use
 module {
   hw.module @T(in %clk : !seq.clock, in %a : i8, in %b : i8) {
     %0 = comb.add %a, %b : i8
@@ -49,7 +53,8 @@ module {
     hw.output %i : i8
   }
 }
-// ----- so does what uses itself through a register
+// -----
+// a register that nothing else uses stays with what it feeds itself by
 module {
   hw.module @T(in %clk : !seq.clock, in %a : i8) {
     %0 = comb.sub %r, %a : i8
@@ -57,7 +62,8 @@ module {
     hw.output
   }
 }
-// ----- each module is folded on its own
+// -----
+// each module is folded on its own
 module {
   hw.module @T(in %a : i8, out o : i8) {
     %0 = comb.add %a, %a : i8
@@ -73,7 +79,8 @@ module {
     hw.output
   }
 }
-// ----- 100 + 200, 3 * 200, true + true, and all ones + 1
+// -----
+// sums of constants: 100 + 200, 3 * 200, true + true, and all ones + 1
 module {
   hw.module @T(out o : i8, out p : i8, out q : i1, out r : i128) {
     %c100_i8 = hw.constant 100 : i8
@@ -88,7 +95,8 @@ module {
     hw.output %0, %1, %2, %3 : i8, i8, i1, i128
   }
 }
-// ----- the least number by -1, 16 * 16, -1 * -1; the least number less -1, 0 less the least one
+// -----
+// products and differences of constants that wrap, at 8 and 128 bits
 module {
   hw.module @T(out o : i8, out p : i8, out q : i128, out r : i8, out s : i128) {
     %c-128_i8 = hw.constant -128 : i8
@@ -106,6 +114,7 @@ module {
   }
 }
 // -----
+// and, or, xor of constants, of two, three and one operand
 module {
   hw.module @T(out o : i8, out p : i8, out q : i8, out r : i8, out s : i8) {
     %c85_i8 = hw.constant 85 : i8
@@ -118,7 +127,8 @@ module {
     hw.output %0, %1, %2, %3, %4 : i8, i8, i8, i8, i8
   }
 }
-// ----- the least number by -1 wraps, and its rest is 0; so for one bit
+// -----
+// the least number by -1 wraps, and its remainder is 0; so for one bit
 module {
   hw.module @T(out o : i8, out p : i8, out q : i1, out r : i1, out s : i128) {
     %c-128_i8 = hw.constant -128 : i8
@@ -134,7 +144,8 @@ module {
     hw.output %0, %1, %2, %3, %4 : i8, i8, i1, i1, i128
   }
 }
-// ----- -7 by 2, and 249 by 2
+// -----
+// division and remainder of constants: -7 by 2, and 249 by 2
 module {
   hw.module @T(out o : i8, out p : i8, out q : i8, out r : i8) {
     %c-7_i8 = hw.constant -7 : i8
@@ -146,7 +157,8 @@ module {
     hw.output %0, %1, %2, %3 : i8, i8, i8, i8
   }
 }
-// ----- amounts of the width less 1, of the width, and of all ones
+// -----
+// shifts of constants by the width less 1, by the width, and by all ones
 module {
   hw.module @T(out o : i8, out p : i8, out q : i8, out r : i8, out s : i8, out t : i8) {
     %c1_i8 = hw.constant 1 : i8
@@ -164,6 +176,7 @@ module {
   }
 }
 // -----
+// shifts of constants, at 1 and 128 bits
 module {
   hw.module @T(out o : i1, out p : i1, out q : i1, out r : i128, out s : i128) {
     %true = hw.constant true
@@ -180,7 +193,8 @@ module {
     hw.output %0, %1, %2, %3, %4 : i1, i1, i1, i128, i128
   }
 }
-// ----- -128 and 127, 128 and 127, two constants of one value; true is less than false by sign
+// -----
+// comparisons of constants by sign and without; true is less than false by sign
 module {
   hw.module @T(out o : i1, out p : i1, out q : i1, out r : i1, out s : i1, out t : i1, out u : i1) {
     %c-128_i8 = hw.constant -128 : i8
@@ -198,7 +212,8 @@ module {
     hw.output %0, %1, %2, %3, %4, %5, %6 : i1, i1, i1, i1, i1, i1, i1
   }
 }
-// ----- parities of 7 and of all ones; the high half of A5, the highest bit of the least number
+// -----
+// parities of 7 and of all ones; the high half of A5, the highest bit of the least number
 module {
   hw.module @T(out o : i1, out p : i1, out q : i4, out r : i1) {
     %c7_i8 = hw.constant 7 : i8
@@ -212,7 +227,8 @@ module {
     hw.output %0, %1, %2, %3 : i1, i1, i4, i1
   }
 }
-// ----- A and 5 are A5; 1, 0, 1 are 5; copies of a bit, and of A
+// -----
+// concats of constants: A and 5 are A5; 1, 0, 1 are 5; copies of a bit, and of A
 module {
   hw.module @T(out o : i8, out p : i3, out q : i128, out r : i8) {
     %c-6_i4 = hw.constant -6 : i4
@@ -226,7 +242,8 @@ module {
     hw.output %0, %1, %2, %3 : i8, i3, i128, i8
   }
 }
-// ----- constants of constants
+// -----
+// a chain of operations on constants becomes one constant
 module {
   hw.module @T(out o : i8) {
     %c3_i8 = hw.constant 3 : i8
@@ -236,7 +253,8 @@ module {
     hw.output %2 : i8
   }
 }
-// ----- a wire is no constant; operations on aggregates and bitcasts to other types stay
+// -----
+// a wire is no constant; operations on aggregates and bitcasts to other types stay
 module {
   hw.module @T(in %a : i8, out o : i8, out p : i8, out q : i4, out r : !hw.array<2xi4>) {
     %c5_i8 = hw.constant 5 : i8

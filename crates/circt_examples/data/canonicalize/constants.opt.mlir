@@ -1,22 +1,25 @@
-// -----
+// an unused sum is removed
 module {
   hw.module @T(in %a : i8, in %b : i8, out o : i8) {
     hw.output %a : i8
   }
 }
 // -----
+// unused operations, each used by the one after it alone, are removed
 module {
   hw.module @T(in %a : i128, in %b : i128, out o : i128) {
     hw.output %a : i128
   }
 }
 // -----
+// unused operations on aggregates, and unused constants, are removed
 module {
   hw.module @T(in %a : i1, in %s : !hw.struct<x: i8, y: i8>) {
     hw.output
   }
 }
 // -----
+// an operation of several results stays where one of them is used
 module {
   hw.module @T(in %s : !hw.struct<x: i8, y: i8>, out o : i8) {
     %0:2 = hw.struct_explode %s : !hw.struct<x: i8, y: i8>
@@ -24,6 +27,7 @@ module {
   }
 }
 // -----
+// registers, wires and instances stay though unused, and what they use
 module {
   hw.module @T(in %clk : !seq.clock, in %a : i8, in %b : i8) {
     %0 = comb.add %a, %b : i8
@@ -40,6 +44,7 @@ module {
   }
 }
 // -----
+// a register that nothing else uses stays with what it feeds itself by
 module {
   hw.module @T(in %clk : !seq.clock, in %a : i8) {
     %0 = comb.sub %r, %a : i8
@@ -48,6 +53,7 @@ module {
   }
 }
 // -----
+// each module is folded on its own
 module {
   hw.module @T(in %a : i8, out o : i8) {
     %u.o = hw.instance "u" @U(i: %a: i8) -> (o: i8)
@@ -61,6 +67,7 @@ module {
   }
 }
 // -----
+// sums of constants: 100 + 200, 3 * 200, true + true, and all ones + 1
 module {
   hw.module @T(out o : i8, out p : i8, out q : i1, out r : i128) {
     %c44_i8 = hw.constant 44 : i8
@@ -71,6 +78,7 @@ module {
   }
 }
 // -----
+// products and differences of constants that wrap, at 8 and 128 bits
 module {
   hw.module @T(out o : i8, out p : i8, out q : i128, out r : i8, out s : i128) {
     %c-128_i8 = hw.constant -128 : i8
@@ -82,6 +90,7 @@ module {
   }
 }
 // -----
+// and, or, xor of constants, of two, three and one operand
 module {
   hw.module @T(out o : i8, out p : i8, out q : i8, out r : i8, out s : i8) {
     %c5_i8 = hw.constant 5 : i8
@@ -93,6 +102,7 @@ module {
   }
 }
 // -----
+// the least number by -1 wraps, and its remainder is 0; so for one bit
 module {
   hw.module @T(out o : i8, out p : i8, out q : i1, out r : i1, out s : i128) {
     %c-128_i8 = hw.constant -128 : i8
@@ -104,6 +114,7 @@ module {
   }
 }
 // -----
+// division and remainder of constants: -7 by 2, and 249 by 2
 module {
   hw.module @T(out o : i8, out p : i8, out q : i8, out r : i8) {
     %c-3_i8 = hw.constant -3 : i8
@@ -114,6 +125,7 @@ module {
   }
 }
 // -----
+// shifts of constants by the width less 1, by the width, and by all ones
 module {
   hw.module @T(out o : i8, out p : i8, out q : i8, out r : i8, out s : i8, out t : i8) {
     %c-128_i8 = hw.constant -128 : i8
@@ -126,6 +138,7 @@ module {
   }
 }
 // -----
+// shifts of constants, at 1 and 128 bits
 module {
   hw.module @T(out o : i1, out p : i1, out q : i1, out r : i128, out s : i128) {
     %false = hw.constant false
@@ -137,6 +150,7 @@ module {
   }
 }
 // -----
+// comparisons of constants by sign and without; true is less than false by sign
 module {
   hw.module @T(out o : i1, out p : i1, out q : i1, out r : i1, out s : i1, out t : i1, out u : i1) {
     %true = hw.constant true
@@ -150,6 +164,7 @@ module {
   }
 }
 // -----
+// parities of 7 and of all ones; the high half of A5, the highest bit of the least number
 module {
   hw.module @T(out o : i1, out p : i1, out q : i4, out r : i1) {
     %true = hw.constant true
@@ -160,6 +175,7 @@ module {
   }
 }
 // -----
+// concats of constants: A and 5 are A5; 1, 0, 1 are 5; copies of a bit, and of A
 module {
   hw.module @T(out o : i8, out p : i3, out q : i128, out r : i8) {
     %c-91_i8 = hw.constant -91 : i8
@@ -170,6 +186,7 @@ module {
   }
 }
 // -----
+// a chain of operations on constants becomes one constant
 module {
   hw.module @T(out o : i8) {
     %c-112_i8 = hw.constant -112 : i8
@@ -177,6 +194,7 @@ module {
   }
 }
 // -----
+// a wire is no constant; operations on aggregates and bitcasts to other types stay
 module {
   hw.module @T(in %a : i8, out o : i8, out p : i8, out q : i4, out r : !hw.array<2xi4>) {
     %c5_i8 = hw.constant 5 : i8

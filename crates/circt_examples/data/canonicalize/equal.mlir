@@ -1,6 +1,5 @@
 // RUN: circt opt --canonicalize
-// ----- Equal operands.
-// and, or: each once, in the order of the first ones
+// and, or keep each operand once, in the order of the first ones
 module {
   hw.module @T(in %a : i8, in %b : i8, out o : i8, out p : i8, out q : i8) {
     %0 = comb.and %a, %b, %a : i8
@@ -10,6 +9,7 @@ module {
   }
 }
 // -----
+// or, and keep each operand once, at 1 and 128 bits
 module {
   hw.module @T(in %a : i1, in %b : i128, in %c : i128, out o : i1, out p : i128) {
     %0 = comb.or %a, %a : i1
@@ -17,7 +17,8 @@ module {
     hw.output %0, %1 : i1, i128
   }
 }
-// ----- results of one operation of several
+// -----
+// and of results of one operation of several, one of them twice
 module {
   hw.module @T(in %s : !hw.struct<x: i8, y: i8>, out o : i8) {
     %0:2 = hw.struct_explode %s : !hw.struct<x: i8, y: i8>
@@ -25,7 +26,8 @@ module {
     hw.output %1 : i8
   }
 }
-// ----- add, mul keep equal operands
+// -----
+// add, mul keep equal operands
 module {
   hw.module @T(in %a : i8, in %b : i8, out o : i8, out p : i8, out q : i8) {
     %0 = comb.add %a, %b, %a : i8
@@ -34,7 +36,8 @@ module {
     hw.output %0, %1, %2 : i8, i8, i8
   }
 }
-// ----- xor: two go, and 0 is left of two
+// -----
+// xor drops two equal operands, and 0 is left of two
 module {
   hw.module @T(in %a : i8, in %b : i8, in %c : i8, out o : i8, out p : i8, out q : i8, out r : i8, out s : i8) {
     %0 = comb.xor %a, %a {k} : i8
@@ -46,6 +49,7 @@ module {
   }
 }
 // -----
+// xor of two and of three equal operands, at 1 and 128 bits
 module {
   hw.module @T(in %a : i1, in %b : i128, out o : i1, out p : i128, out q : i1) {
     %0 = comb.xor %a, %a : i1
@@ -55,6 +59,7 @@ module {
   }
 }
 // -----
+// xor stays: two results of one operation, and two values
 module {
   hw.module @T(in %a : i8, in %b : i8, in %s : !hw.struct<x: i8, y: i8>, out o : i8, out p : i8) {
     %0:2 = hw.struct_explode %s : !hw.struct<x: i8, y: i8>

@@ -1,4 +1,4 @@
-// -----
+// and, or keep each operand once, in the order of the first ones
 module {
   hw.module @T(in %a : i8, in %b : i8, out o : i8, out p : i8, out q : i8) {
     %0 = comb.and %a, %b : i8
@@ -7,6 +7,7 @@ module {
   }
 }
 // -----
+// or, and keep each operand once, at 1 and 128 bits
 module {
   hw.module @T(in %a : i1, in %b : i128, in %c : i128, out o : i1, out p : i128) {
     %0 = comb.and %b, %c : i128
@@ -14,6 +15,7 @@ module {
   }
 }
 // -----
+// and of results of one operation of several, one of them twice
 module {
   hw.module @T(in %s : !hw.struct<x: i8, y: i8>, out o : i8) {
     %0:2 = hw.struct_explode %s : !hw.struct<x: i8, y: i8>
@@ -22,6 +24,7 @@ module {
   }
 }
 // -----
+// add, mul keep equal operands
 module {
   hw.module @T(in %a : i8, in %b : i8, out o : i8, out p : i8, out q : i8) {
     %0 = comb.add %a, %b, %a : i8
@@ -31,6 +34,7 @@ module {
   }
 }
 // -----
+// xor drops two equal operands, and 0 is left of two
 module {
   hw.module @T(in %a : i8, in %b : i8, in %c : i8, out o : i8, out p : i8, out q : i8, out r : i8, out s : i8) {
     %c0_i8 = hw.constant 0 : i8
@@ -40,6 +44,7 @@ module {
   }
 }
 // -----
+// xor of two and of three equal operands, at 1 and 128 bits
 module {
   hw.module @T(in %a : i1, in %b : i128, out o : i1, out p : i128, out q : i1) {
     %false = hw.constant false
@@ -48,6 +53,7 @@ module {
   }
 }
 // -----
+// xor stays: two results of one operation, and two values
 module {
   hw.module @T(in %a : i8, in %b : i8, in %s : !hw.struct<x: i8, y: i8>, out o : i8, out p : i8) {
     %0:2 = hw.struct_explode %s : !hw.struct<x: i8, y: i8>

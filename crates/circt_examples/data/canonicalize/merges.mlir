@@ -1,5 +1,5 @@
 // RUN: circt opt --canonicalize
-// ----- Two constants are joined, and constants stand last.
+// two constants of a sum are joined, and stand last
 module {
   hw.module @T(in %a : i8, out o : i8) {
     %k1 = hw.constant 1 : i8
@@ -8,7 +8,8 @@ module {
     hw.output %0 : i8
   }
 }
-// ----- of each kind; the new constant stands just before the operation
+// -----
+// constants of each kind are joined; the new one stands just before the operation
 module {
   hw.module @T(in %a : i8, out o : i8, out p : i8, out q : i8, out r : i8, out s : i8) {
     %c85_i8 = hw.constant 85 : i8
@@ -21,7 +22,8 @@ module {
     hw.output %0, %1, %2, %3, %4 : i8, i8, i8, i8, i8
   }
 }
-// ----- several, between others; the constants that others use too stay
+// -----
+// several constants between others are joined; those that others use too stay
 module {
   hw.module @T(in %a : i8, in %b : i8, out o : i8, out p : i8) {
     %c1_i8 = hw.constant 1 : i8
@@ -33,7 +35,8 @@ module {
     hw.output %0, %1 : i8, i8
   }
 }
-// ----- what is joined to 0, to all ones and to 1
+// -----
+// constants that are joined to 0, to all ones and to 1 go
 module {
   hw.module @T(in %a : i8, in %b : i8, out o : i8, out p : i8, out q : i8, out r : i8, out s : i8) {
     %c1_i8 = hw.constant 1 : i8
@@ -50,7 +53,8 @@ module {
     hw.output %0, %1, %2, %3, %4 : i8, i8, i8, i8, i8
   }
 }
-// ----- one bit, and 128
+// -----
+// constants are joined, at 1 and 128 bits
 module {
   hw.module @T(in %a : i1, in %b : i128, out o : i1, out p : i128, out q : i128) {
     %true = hw.constant true
@@ -63,7 +67,8 @@ module {
     hw.output %0, %1, %2 : i1, i128, i128
   }
 }
-// ----- a constant before others is moved, and keeps its place in the body
+// -----
+// a constant before others is moved last, and keeps its place in the body
 module {
   hw.module @T(in %a : i8, in %b : i8, out o : i8, out p : i8, out q : i8, out r : i8, out s : i8) {
     %c5_i8 = hw.constant 5 {k} : i8
@@ -76,6 +81,7 @@ module {
   }
 }
 // -----
+// a constant that stands in the body after its use is moved last, at 1 and 128 bits
 module {
   hw.module @T(in %a : i1, in %b : i128, out o : i1, out p : i128) {
     %0 = comb.xor %true, %a : i1
@@ -85,7 +91,8 @@ module {
     hw.output %0, %1 : i1, i128
   }
 }
-// ----- one constant that stands last
+// -----
+// one constant that stands last stays
 module {
   hw.module @T(in %a : i8, in %b : i8, out o : i8, out p : i8) {
     %c5_i8 = hw.constant 5 : i8
@@ -94,7 +101,8 @@ module {
     hw.output %0, %1 : i8, i8
   }
 }
-// ----- operations of two operands keep their order
+// -----
+// operations of two operands keep their order, the constant first
 module {
   hw.module @T(in %a : i8, out o : i8, out p : i8, out q : i1, out r : i16) {
     %c5_i8 = hw.constant 5 : i8
@@ -105,7 +113,8 @@ module {
     hw.output %0, %1, %2, %3 : i8, i8, i1, i16
   }
 }
-// ----- An operand of the same kind with one use is taken in.
+// -----
+// a sum with one use is taken in by a sum
 module {
   hw.module @T(in %a : i8, in %b : i8, in %c : i8, out o : i8) {
     %0 = comb.add %a, %b : i8
@@ -113,7 +122,8 @@ module {
     hw.output %1 : i8
   }
 }
-// ----- in its place among the operands
+// -----
+// what is taken in stands in its place among the operands
 module {
   hw.module @T(in %a : i8, in %b : i8, in %c : i8, out o : i8, out p : i8) {
     %0 = comb.mul %a, %b, %a : i8
@@ -124,7 +134,8 @@ module {
     hw.output %1, %4 : i8, i8
   }
 }
-// ----- one after another
+// -----
+// one operation after another is taken in, at 1 and 128 bits
 module {
   hw.module @T(in %a : i1, in %b : i1, in %c : i128, in %d : i128, out o : i1, out p : i128) {
     %0 = comb.and %a, %b : i1
@@ -135,7 +146,8 @@ module {
     hw.output %2, %4 : i1, i128
   }
 }
-// ----- it stands after the operation that takes it in
+// -----
+// an operation is taken in that stands after the one that takes it in
 module {
   hw.module @T(in %a : i8, in %b : i8, in %c : i8, out o : i8, out p : i8) {
     %0 = comb.or %1, %c : i8
@@ -144,7 +156,8 @@ module {
     hw.output %0, %2 : i8, i8
   }
 }
-// ----- the dictionary and `bin` are those of the operation that stays
+// -----
+// the dictionary and `bin` are those of the operation that takes in
 module {
   hw.module @T(in %a : i8, in %b : i8, in %c : i8, out o : i8, out p : i8) {
     %0 = comb.add bin %a, %b {inner} : i8
@@ -154,7 +167,8 @@ module {
     hw.output %1, %3 : i8, i8
   }
 }
-// ----- constants of both are joined
+// -----
+// constants of an operation and of what it takes in are joined
 module {
   hw.module @T(in %a : i8, in %b : i8, out o : i8) {
     %c1_i8 = hw.constant 1 : i8
@@ -165,7 +179,8 @@ module {
     hw.output %2 : i8
   }
 }
-// ----- two uses, by two operations and by one
+// -----
+// what has two uses, by two operations or by one, is not taken in
 module {
   hw.module @T(in %a : i8, in %b : i8, in %c : i8, out o : i8, out p : i8, out q : i8) {
     %0 = comb.add %a, %b : i8
@@ -175,7 +190,8 @@ module {
     hw.output %0, %1, %3 : i8, i8, i8
   }
 }
-// ----- another kind, and `comb.sub`
+// -----
+// another kind is not taken in, nor is a comb.sub by a comb.sub
 module {
   hw.module @T(in %a : i8, in %b : i8, in %c : i8, out o : i8, out p : i8, out q : i8) {
     %0 = comb.add %a, %b : i8
@@ -187,7 +203,8 @@ module {
     hw.output %1, %3, %5 : i8, i8, i8
   }
 }
-// ----- itself, through a register, and through a wire
+// -----
+// nothing is taken in through itself, a register or a wire
 module {
   hw.module @T(in %clk : !seq.clock, in %a : i8, in %b : i8, out o : i8) {
     %0 = comb.add %r, %a : i8
@@ -198,7 +215,8 @@ module {
     hw.output %2 : i8
   }
 }
-// ----- an unused operation has the second use until it is gone
+// -----
+// an unused operation has the second use until it is gone
 module {
   hw.module @T(in %a : i8, in %b : i8, in %c : i8, out o : i8) {
     %0 = comb.add %a, %b : i8

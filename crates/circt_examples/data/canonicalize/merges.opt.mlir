@@ -1,4 +1,4 @@
-// -----
+// two constants of a sum are joined, and stand last
 module {
   hw.module @T(in %a : i8, out o : i8) {
     %c3_i8 = hw.constant 3 : i8
@@ -7,6 +7,7 @@ module {
   }
 }
 // -----
+// constants of each kind are joined; the new one stands just before the operation
 module {
   hw.module @T(in %a : i8, out o : i8, out p : i8, out q : i8, out r : i8, out s : i8) {
     %c5_i8 = hw.constant 5 : i8
@@ -23,6 +24,7 @@ module {
   }
 }
 // -----
+// several constants between others are joined; those that others use too stay
 module {
   hw.module @T(in %a : i8, in %b : i8, out o : i8, out p : i8) {
     %c3_i8 = hw.constant 3 : i8
@@ -33,6 +35,7 @@ module {
   }
 }
 // -----
+// constants that are joined to 0, to all ones and to 1 go
 module {
   hw.module @T(in %a : i8, in %b : i8, out o : i8, out p : i8, out q : i8, out r : i8, out s : i8) {
     %c0_i8 = hw.constant 0 : i8
@@ -43,6 +46,7 @@ module {
   }
 }
 // -----
+// constants are joined, at 1 and 128 bits
 module {
   hw.module @T(in %a : i1, in %b : i128, out o : i1, out p : i128, out q : i128) {
     %c170141183460469231731687303715884105727_i128 = hw.constant 170141183460469231731687303715884105727 : i128
@@ -53,6 +57,7 @@ module {
   }
 }
 // -----
+// a constant before others is moved last, and keeps its place in the body
 module {
   hw.module @T(in %a : i8, in %b : i8, out o : i8, out p : i8, out q : i8, out r : i8, out s : i8) {
     %c5_i8 = hw.constant 5 {k} : i8
@@ -65,6 +70,7 @@ module {
   }
 }
 // -----
+// a constant that stands in the body after its use is moved last, at 1 and 128 bits
 module {
   hw.module @T(in %a : i1, in %b : i128, out o : i1, out p : i128) {
     %0 = comb.xor %a, %true : i1
@@ -75,6 +81,7 @@ module {
   }
 }
 // -----
+// one constant that stands last stays
 module {
   hw.module @T(in %a : i8, in %b : i8, out o : i8, out p : i8) {
     %c5_i8 = hw.constant 5 : i8
@@ -84,6 +91,7 @@ module {
   }
 }
 // -----
+// operations of two operands keep their order, the constant first
 module {
   hw.module @T(in %a : i8, out o : i8, out p : i8, out q : i1, out r : i16) {
     %c5_i8 = hw.constant 5 : i8
@@ -95,6 +103,7 @@ module {
   }
 }
 // -----
+// a sum with one use is taken in by a sum
 module {
   hw.module @T(in %a : i8, in %b : i8, in %c : i8, out o : i8) {
     %0 = comb.add %a, %b, %c : i8
@@ -102,6 +111,7 @@ module {
   }
 }
 // -----
+// what is taken in stands in its place among the operands
 module {
   hw.module @T(in %a : i8, in %b : i8, in %c : i8, out o : i8, out p : i8) {
     %0 = comb.mul %c, %a, %b, %a, %b : i8
@@ -110,6 +120,7 @@ module {
   }
 }
 // -----
+// one operation after another is taken in, at 1 and 128 bits
 module {
   hw.module @T(in %a : i1, in %b : i1, in %c : i128, in %d : i128, out o : i1, out p : i128) {
     %0 = comb.and %a, %b : i1
@@ -117,6 +128,7 @@ module {
   }
 }
 // -----
+// an operation is taken in that stands after the one that takes it in
 module {
   hw.module @T(in %a : i8, in %b : i8, in %c : i8, out o : i8, out p : i8) {
     %0 = comb.or %a, %b, %c : i8
@@ -125,6 +137,7 @@ module {
   }
 }
 // -----
+// the dictionary and `bin` are those of the operation that takes in
 module {
   hw.module @T(in %a : i8, in %b : i8, in %c : i8, out o : i8, out p : i8) {
     %0 = comb.add %a, %b, %c {outer} : i8
@@ -133,6 +146,7 @@ module {
   }
 }
 // -----
+// constants of an operation and of what it takes in are joined
 module {
   hw.module @T(in %a : i8, in %b : i8, out o : i8) {
     %0 = comb.sub %a, %b : i8
@@ -142,6 +156,7 @@ module {
   }
 }
 // -----
+// what has two uses, by two operations or by one, is not taken in
 module {
   hw.module @T(in %a : i8, in %b : i8, in %c : i8, out o : i8, out p : i8, out q : i8) {
     %0 = comb.add %a, %b : i8
@@ -152,6 +167,7 @@ module {
   }
 }
 // -----
+// another kind is not taken in, nor is a comb.sub by a comb.sub
 module {
   hw.module @T(in %a : i8, in %b : i8, in %c : i8, out o : i8, out p : i8, out q : i8) {
     %0 = comb.add %a, %b : i8
@@ -164,6 +180,7 @@ module {
   }
 }
 // -----
+// nothing is taken in through itself, a register or a wire
 module {
   hw.module @T(in %clk : !seq.clock, in %a : i8, in %b : i8, out o : i8) {
     %0 = comb.add %r, %a : i8
@@ -175,6 +192,7 @@ module {
   }
 }
 // -----
+// an unused operation has the second use until it is gone
 module {
   hw.module @T(in %a : i8, in %b : i8, in %c : i8, out o : i8) {
     %0 = comb.add %a, %b, %c : i8

@@ -1,5 +1,5 @@
 // RUN: circt opt --canonicalize
-// ----- a constant condition
+// a mux of a constant condition is one side
 module {
   hw.module @T(in %a : i8, in %b : i8, in %c : i128, in %d : i128, out o : i8, out p : i8, out q : i128) {
     %true = hw.constant true
@@ -10,7 +10,8 @@ module {
     hw.output %0, %1, %2 : i8, i8, i128
   }
 }
-// ----- of aggregates
+// -----
+// a mux of aggregates with a constant condition is one side
 module {
   hw.module @T(in %s : !hw.struct<x: i8, y: i1>, in %t : !hw.struct<x: i8, y: i1>, out o : !hw.struct<x: i8, y: i1>, out p : !hw.array<2xi8>) {
     %true = hw.constant true
@@ -21,7 +22,8 @@ module {
     hw.output %2, %3 : !hw.struct<x: i8, y: i1>, !hw.array<2xi8>
   }
 }
-// ----- one value on both sides
+// -----
+// a mux of one value on both sides is that value
 module {
   hw.module @T(in %c : i1, in %a : i8, in %s : !hw.struct<x: i8>, out o : i8, out p : i1, out q : !hw.struct<x: i8>) {
     %0 = comb.mux %c, %a, %a : i8
@@ -31,6 +33,7 @@ module {
   }
 }
 // -----
+// a mux of a register on both sides, then a mux of that and the register
 module {
   hw.module @T(in %clk : !seq.clock, in %c : i1, in %a : i128, out o : i128) {
     %0 = comb.mux %c, %r, %r : i128
@@ -39,7 +42,8 @@ module {
     hw.output %1 : i128
   }
 }
-// ----- true and false
+// -----
+// a mux of true and false is its condition
 module {
   hw.module @T(in %c : i1, in %a : i8, out o : i1, out p : i1) {
     %true = hw.constant true
@@ -52,6 +56,7 @@ module {
   }
 }
 // -----
+// a mux of true and false, however they are written, twice
 module {
   hw.module @T(in %c : i1, out o : i1) {
     %0 = hw.constant 1 : i1
@@ -62,7 +67,8 @@ module {
     hw.output %4 : i1
   }
 }
-// ----- false and true, 1 and 0 of more bits
+// -----
+// muxes stay: false and true, and 1 and 0 of more bits
 module {
   hw.module @T(in %c : i1, out o : i1, out p : i8) {
     %true = hw.constant true
@@ -74,7 +80,8 @@ module {
     hw.output %0, %1 : i1, i8
   }
 }
-// ----- two constants of one value are two values, and a wire is no constant
+// -----
+// muxes stay: two constants of one value, and a wire of a constant as condition
 module {
   hw.module @T(in %c : i1, in %a : i8, in %b : i8, out o : i8, out p : i8, out q : i8) {
     %c5_i8 = hw.constant 5 : i8

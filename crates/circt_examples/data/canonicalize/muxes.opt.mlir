@@ -1,10 +1,11 @@
-// -----
+// a mux of a constant condition is one side
 module {
   hw.module @T(in %a : i8, in %b : i8, in %c : i128, in %d : i128, out o : i8, out p : i8, out q : i128) {
     hw.output %a, %b, %d : i8, i8, i128
   }
 }
 // -----
+// a mux of aggregates with a constant condition is one side
 module {
   hw.module @T(in %s : !hw.struct<x: i8, y: i1>, in %t : !hw.struct<x: i8, y: i1>, out o : !hw.struct<x: i8, y: i1>, out p : !hw.array<2xi8>) {
     %0 = hw.aggregate_constant [1 : i8, 2 : i8] : !hw.array<2xi8>
@@ -12,12 +13,14 @@ module {
   }
 }
 // -----
+// a mux of one value on both sides is that value
 module {
   hw.module @T(in %c : i1, in %a : i8, in %s : !hw.struct<x: i8>, out o : i8, out p : i1, out q : !hw.struct<x: i8>) {
     hw.output %a, %c, %s : i8, i1, !hw.struct<x: i8>
   }
 }
 // -----
+// a mux of a register on both sides, then a mux of that and the register
 module {
   hw.module @T(in %clk : !seq.clock, in %c : i1, in %a : i128, out o : i128) {
     %r = seq.compreg %r, %clk : i128
@@ -25,6 +28,7 @@ module {
   }
 }
 // -----
+// a mux of true and false is its condition
 module {
   hw.module @T(in %c : i1, in %a : i8, out o : i1, out p : i1) {
     %0 = comb.icmp ult %a, %1 : i8
@@ -33,12 +37,14 @@ module {
   }
 }
 // -----
+// a mux of true and false, however they are written, twice
 module {
   hw.module @T(in %c : i1, out o : i1) {
     hw.output %c : i1
   }
 }
 // -----
+// muxes stay: false and true, and 1 and 0 of more bits
 module {
   hw.module @T(in %c : i1, out o : i1, out p : i8) {
     %true = hw.constant true
@@ -51,6 +57,7 @@ module {
   }
 }
 // -----
+// muxes stay: two constants of one value, and a wire of a constant as condition
 module {
   hw.module @T(in %c : i1, in %a : i8, in %b : i8, out o : i8, out p : i8, out q : i8) {
     %c5_i8 = hw.constant 5 : i8

@@ -1,5 +1,5 @@
 // RUN: circt opt --canonicalize
-// ----- One operand stands for the result.
+// an operation of one operand is that operand
 module {
   hw.module @T(in %a : i8, out o : i8, out p : i8, out q : i8, out r : i8, out s : i8) {
     %0 = comb.add %a : i8
@@ -11,6 +11,7 @@ module {
   }
 }
 // -----
+// an operation of one operand, at 1 and 128 bits, with a dictionary and `bin`
 module {
   hw.module @T(in %a : i1, in %b : i128, out o : i1, out p : i128) {
     %0 = comb.or %a {k} : i1
@@ -18,7 +19,8 @@ module {
     hw.output %0, %1 : i1, i128
   }
 }
-// ----- the operand is a register of the result
+// -----
+// an operation of one operand, which is its own register
 module {
   hw.module @T(in %clk : !seq.clock, out o : i8) {
     %0 = comb.add %r : i8
@@ -27,6 +29,7 @@ module {
   }
 }
 // -----
+// two operands stay: one twice, and a register of the result
 module {
   hw.module @T(in %clk : !seq.clock, in %a : i8, out o : i8, out p : i8) {
     %0 = comb.add %a, %a : i8
@@ -35,8 +38,8 @@ module {
     hw.output %0, %1 : i8, i8
   }
 }
-// ----- Operands that decide nothing are dropped.
-// add: 0 at each place
+// -----
+// add drops 0 at each place
 module {
   hw.module @T(in %a : i8, in %b : i8, out o : i8, out p : i8, out q : i8, out r : i8) {
     %c0_i8 = hw.constant 0 : i8
@@ -48,6 +51,7 @@ module {
   }
 }
 // -----
+// add drops 0, at 1 and 128 bits
 module {
   hw.module @T(in %a : i1, in %b : i128, out o : i1, out p : i128) {
     %false = hw.constant false
@@ -58,6 +62,7 @@ module {
   }
 }
 // -----
+// add keeps 1 and all ones, at 1, 8 and 128 bits
 module {
   hw.module @T(in %a : i1, in %b : i8, in %c : i128, out o : i1, out p : i8, out q : i128) {
     %true = hw.constant true
@@ -69,7 +74,8 @@ module {
     hw.output %0, %1, %2 : i1, i8, i128
   }
 }
-// ----- or: 0
+// -----
+// or drops 0 at each place
 module {
   hw.module @T(in %a : i8, in %b : i8, out o : i8, out p : i8, out q : i8) {
     %c0_i8 = hw.constant 0 : i8
@@ -80,6 +86,7 @@ module {
   }
 }
 // -----
+// or drops 0, at 1 and 128 bits
 module {
   hw.module @T(in %a : i1, in %b : i128, out o : i1, out p : i128) {
     %false = hw.constant false
@@ -89,7 +96,8 @@ module {
     hw.output %0, %1 : i1, i128
   }
 }
-// ----- xor: 0
+// -----
+// xor drops 0, at 8 and 128 bits
 module {
   hw.module @T(in %a : i8, in %b : i8, in %c : i128, out o : i8, out p : i8, out q : i128) {
     %c0_i8 = hw.constant 0 : i8
@@ -101,6 +109,7 @@ module {
   }
 }
 // -----
+// xor drops 0 of one bit
 module {
   hw.module @T(in %a : i1, in %b : i1, out o : i1, out p : i1) {
     %false = hw.constant false
@@ -109,7 +118,8 @@ module {
     hw.output %0, %1 : i1, i1
   }
 }
-// ----- 1 counts in or, and all ones in xor
+// -----
+// 1 counts in or, and all ones in xor
 module {
   hw.module @T(in %a : i8, in %b : i1, out o : i8, out p : i8, out q : i1) {
     %c1_i8 = hw.constant 1 : i8
@@ -121,7 +131,8 @@ module {
     hw.output %0, %1, %2 : i8, i8, i1
   }
 }
-// ----- and: all ones, however they are written
+// -----
+// and drops all ones, however they are written
 module {
   hw.module @T(in %a : i8, in %b : i8, out o : i8, out p : i8, out q : i8) {
     %0 = hw.constant 255 : i8
@@ -133,6 +144,7 @@ module {
   }
 }
 // -----
+// and drops all ones at 1 and 128 bits, and keeps all ones but one bit
 module {
   hw.module @T(in %a : i1, in %b : i128, in %c : i8, out o : i1, out p : i128, out q : i8, out r : i8) {
     %true = hw.constant true
@@ -146,7 +158,8 @@ module {
     hw.output %0, %1, %2, %3 : i1, i128, i8, i8
   }
 }
-// ----- mul: 1, which one bit of 1 is too
+// -----
+// mul drops 1, which one bit of 1 is too
 module {
   hw.module @T(in %a : i8, in %b : i8, in %c : i1, in %d : i128, out o : i8, out p : i8, out q : i1, out r : i128) {
     %c1_i8 = hw.constant 1 : i8
@@ -160,6 +173,7 @@ module {
   }
 }
 // -----
+// mul keeps -1 and 2, at 8 and 128 bits
 module {
   hw.module @T(in %a : i8, in %b : i128, out o : i8, out p : i8, out q : i128) {
     %c-1_i8 = hw.constant -1 : i8
@@ -171,8 +185,8 @@ module {
     hw.output %0, %1, %2 : i8, i8, i128
   }
 }
-// ----- An operand that decides everything stands for the result.
-// and: 0; it is the operand itself, with its dictionary
+// -----
+// and with 0 is the operand 0 itself, with its dictionary
 module {
   hw.module @T(in %a : i8, in %b : i8, out o : i8, out p : i8) {
     %c0_i8 = hw.constant 0 {k} : i8
@@ -182,6 +196,7 @@ module {
   }
 }
 // -----
+// and with 0, at 1 and 128 bits
 module {
   hw.module @T(in %a : i1, in %b : i128, out o : i1, out p : i128) {
     %false = hw.constant false
@@ -191,7 +206,8 @@ module {
     hw.output %0, %1 : i1, i128
   }
 }
-// ----- or: all ones
+// -----
+// or with all ones is that operand
 module {
   hw.module @T(in %a : i8, in %b : i1, in %c : i128, out o : i8, out p : i1, out q : i128) {
     %c-1_i8 = hw.constant -1 {k} : i8
@@ -203,7 +219,8 @@ module {
     hw.output %0, %1, %2 : i8, i1, i128
   }
 }
-// ----- mul: 0
+// -----
+// mul with 0 is that operand
 module {
   hw.module @T(in %a : i8, in %b : i1, in %c : i128, out o : i8, out p : i1, out q : i128) {
     %c0_i8 = hw.constant 0 {k} : i8
@@ -215,7 +232,8 @@ module {
     hw.output %0, %1, %2 : i8, i1, i128
   }
 }
-// ----- all ones are dropped of and before 0 stands for it
+// -----
+// and of all ones and 0: all ones are dropped before 0 stands for it
 module {
   hw.module @T(in %a : i8, out o : i8) {
     %c-1_i8 = hw.constant -1 : i8
@@ -224,7 +242,8 @@ module {
     hw.output %0 : i8
   }
 }
-// ----- a wire of 0 is no constant
+// -----
+// a wire of 0 is no constant
 module {
   hw.module @T(in %a : i8, out o : i8, out p : i8, out q : i8) {
     %c0_i8 = hw.constant 0 : i8

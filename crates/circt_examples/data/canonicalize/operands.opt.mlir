@@ -1,16 +1,18 @@
-// -----
+// an operation of one operand is that operand
 module {
   hw.module @T(in %a : i8, out o : i8, out p : i8, out q : i8, out r : i8, out s : i8) {
     hw.output %a, %a, %a, %a, %a : i8, i8, i8, i8, i8
   }
 }
 // -----
+// an operation of one operand, at 1 and 128 bits, with a dictionary and `bin`
 module {
   hw.module @T(in %a : i1, in %b : i128, out o : i1, out p : i128) {
     hw.output %a, %b : i1, i128
   }
 }
 // -----
+// an operation of one operand, which is its own register
 module {
   hw.module @T(in %clk : !seq.clock, out o : i8) {
     %r = seq.compreg %r, %clk : i8
@@ -18,6 +20,7 @@ module {
   }
 }
 // -----
+// two operands stay: one twice, and a register of the result
 module {
   hw.module @T(in %clk : !seq.clock, in %a : i8, out o : i8, out p : i8) {
     %0 = comb.add %a, %a : i8
@@ -27,6 +30,7 @@ module {
   }
 }
 // -----
+// add drops 0 at each place
 module {
   hw.module @T(in %a : i8, in %b : i8, out o : i8, out p : i8, out q : i8, out r : i8) {
     %0 = comb.add %a, %b : i8
@@ -36,6 +40,7 @@ module {
   }
 }
 // -----
+// add drops 0, at 1 and 128 bits
 module {
   hw.module @T(in %a : i1, in %b : i128, out o : i1, out p : i128) {
     %0 = comb.add %b, %b : i128
@@ -43,6 +48,7 @@ module {
   }
 }
 // -----
+// add keeps 1 and all ones, at 1, 8 and 128 bits
 module {
   hw.module @T(in %a : i1, in %b : i8, in %c : i128, out o : i1, out p : i8, out q : i128) {
     %true = hw.constant true
@@ -55,6 +61,7 @@ module {
   }
 }
 // -----
+// or drops 0 at each place
 module {
   hw.module @T(in %a : i8, in %b : i8, out o : i8, out p : i8, out q : i8) {
     %0 = comb.or %a, %b : i8
@@ -62,12 +69,14 @@ module {
   }
 }
 // -----
+// or drops 0, at 1 and 128 bits
 module {
   hw.module @T(in %a : i1, in %b : i128, out o : i1, out p : i128) {
     hw.output %a, %b : i1, i128
   }
 }
 // -----
+// xor drops 0, at 8 and 128 bits
 module {
   hw.module @T(in %a : i8, in %b : i8, in %c : i128, out o : i8, out p : i8, out q : i128) {
     %0 = comb.xor %a, %b : i8
@@ -75,6 +84,7 @@ module {
   }
 }
 // -----
+// xor drops 0 of one bit
 module {
   hw.module @T(in %a : i1, in %b : i1, out o : i1, out p : i1) {
     %0 = comb.xor %a, %b : i1
@@ -82,6 +92,7 @@ module {
   }
 }
 // -----
+// 1 counts in or, and all ones in xor
 module {
   hw.module @T(in %a : i8, in %b : i1, out o : i8, out p : i8, out q : i1) {
     %c1_i8 = hw.constant 1 : i8
@@ -94,6 +105,7 @@ module {
   }
 }
 // -----
+// and drops all ones, however they are written
 module {
   hw.module @T(in %a : i8, in %b : i8, out o : i8, out p : i8, out q : i8) {
     %0 = comb.and %a, %b : i8
@@ -101,6 +113,7 @@ module {
   }
 }
 // -----
+// and drops all ones at 1 and 128 bits, and keeps all ones but one bit
 module {
   hw.module @T(in %a : i1, in %b : i128, in %c : i8, out o : i1, out p : i128, out q : i8, out r : i8) {
     %c127_i8 = hw.constant 127 : i8
@@ -111,6 +124,7 @@ module {
   }
 }
 // -----
+// mul drops 1, which one bit of 1 is too
 module {
   hw.module @T(in %a : i8, in %b : i8, in %c : i1, in %d : i128, out o : i8, out p : i8, out q : i1, out r : i128) {
     %0 = comb.mul %a, %b : i8
@@ -118,6 +132,7 @@ module {
   }
 }
 // -----
+// mul keeps -1 and 2, at 8 and 128 bits
 module {
   hw.module @T(in %a : i8, in %b : i128, out o : i8, out p : i8, out q : i128) {
     %c-1_i8 = hw.constant -1 : i8
@@ -130,6 +145,7 @@ module {
   }
 }
 // -----
+// and with 0 is the operand 0 itself, with its dictionary
 module {
   hw.module @T(in %a : i8, in %b : i8, out o : i8, out p : i8) {
     %c0_i8 = hw.constant 0 {k} : i8
@@ -137,6 +153,7 @@ module {
   }
 }
 // -----
+// and with 0, at 1 and 128 bits
 module {
   hw.module @T(in %a : i1, in %b : i128, out o : i1, out p : i128) {
     %false = hw.constant false
@@ -145,6 +162,7 @@ module {
   }
 }
 // -----
+// or with all ones is that operand
 module {
   hw.module @T(in %a : i8, in %b : i1, in %c : i128, out o : i8, out p : i1, out q : i128) {
     %c-1_i8 = hw.constant -1 {k} : i8
@@ -154,6 +172,7 @@ module {
   }
 }
 // -----
+// mul with 0 is that operand
 module {
   hw.module @T(in %a : i8, in %b : i1, in %c : i128, out o : i8, out p : i1, out q : i128) {
     %c0_i8 = hw.constant 0 {k} : i8
@@ -163,6 +182,7 @@ module {
   }
 }
 // -----
+// and of all ones and 0: all ones are dropped before 0 stands for it
 module {
   hw.module @T(in %a : i8, out o : i8) {
     %c0_i8 = hw.constant 0 {k} : i8
@@ -170,6 +190,7 @@ module {
   }
 }
 // -----
+// a wire of 0 is no constant
 module {
   hw.module @T(in %a : i8, out o : i8, out p : i8, out q : i8) {
     %c0_i8 = hw.constant 0 : i8

@@ -1,7 +1,7 @@
 // RUN: circt opt --canonicalize
-// ----- Each text would end otherwise if a later row came first: what an operation becomes has no dictionary where it is new, and that of
-// the value which stands for it otherwise.
-// the value of constants before the chosen branch
+// the value of constants comes before the chosen branch
+// Each text of this file would end otherwise if a later row came first: what an operation becomes has no dictionary where it is new, and
+// that of the value which stands for it otherwise.
 module {
   hw.module @T(out o : i8) {
     %true = hw.constant true
@@ -11,7 +11,8 @@ module {
     hw.output %0 : i8
   }
 }
-// ----- the value of constants before one of them
+// -----
+// the value of constants comes before one of them
 module {
   hw.module @T(out o : i8, out p : i8, out q : i8) {
     %c0_i8 = hw.constant 0 {k} : i8
@@ -22,7 +23,8 @@ module {
     hw.output %0, %1, %2 : i8, i8, i8
   }
 }
-// ----- one operand before an operand of the same kind
+// -----
+// one operand comes before an operand of the same kind
 module {
   hw.module @T(in %a : i8, in %b : i8, out o : i8) {
     %0 = comb.add %a, %b {inner} : i8
@@ -30,7 +32,8 @@ module {
     hw.output %1 : i8
   }
 }
-// ----- what decides nothing is dropped before constants are joined
+// -----
+// what decides nothing is dropped before constants are joined
 module {
   hw.module @T(in %a : i8, out o : i8, out p : i8, out q : i8, out r : i8, out s : i8) {
     %c0_i8 = hw.constant 0 : i8
@@ -45,7 +48,8 @@ module {
     hw.output %0, %1, %2, %3, %4 : i8, i8, i8, i8, i8
   }
 }
-// ----- so is what decides everything
+// -----
+// what decides everything stands for the result before constants are joined
 module {
   hw.module @T(in %a : i8, out o : i8, out p : i8, out q : i8) {
     %c0_i8 = hw.constant 0 {k} : i8
@@ -57,7 +61,8 @@ module {
     hw.output %0, %1, %2 : i8, i8, i8
   }
 }
-// ----- and what stands earlier too
+// -----
+// an operand that stands earlier too is dropped before constants are joined
 module {
   hw.module @T(in %a : i8, out o : i8, out p : i8) {
     %c5_i8 = hw.constant 5 {k} : i8
@@ -66,7 +71,8 @@ module {
     hw.output %0, %1 : i8, i8
   }
 }
-// ----- and two equal ones of xor, of three constants
+// -----
+// two equal operands of xor are dropped before three constants are joined
 module {
   hw.module @T(in %a : i8, out o : i8) {
     %c3_i8 = hw.constant 3 : i8
@@ -75,7 +81,8 @@ module {
     hw.output %0 : i8
   }
 }
-// ----- all bits before an extract of an extract
+// -----
+// all bits come before an extract of an extract
 module {
   hw.module @T(in %a : i8, out o : i4) {
     %0 = comb.extract %a from 2 {inner} : (i8) -> i4
@@ -83,7 +90,8 @@ module {
     hw.output %1 : i4
   }
 }
-// ----- a concat of a concat before a concat of one operand
+// -----
+// a concat of a concat comes before a concat of one operand
 module {
   hw.module @T(in %a : i8, in %b : i8, out o : i16) {
     %0 = comb.concat %a, %b {inner} : i8, i8
@@ -92,6 +100,7 @@ module {
   }
 }
 // -----
+// a chain: a sum with 0, an xor with itself, an or with that
 module {
   hw.module @T(in %a : i8, out o : i8) {
     %z = hw.constant 0 : i8
@@ -101,7 +110,8 @@ module {
     hw.output %2 : i8
   }
 }
-// ----- operands that stand after the operations that use them
+// -----
+// a chain of operands that stand after the operations that use them
 module {
   hw.module @T(in %a : i8, in %b : i8, out o : i8) {
     %0 = comb.or %1, %a : i8
@@ -111,6 +121,7 @@ module {
   }
 }
 // -----
+// a tree of operands that stand after, down to a comparison of 0 and a value
 module {
   hw.module @T(in %a : i8, out o : i1) {
     %0 = comb.icmp eq %1, %a : i8
@@ -122,7 +133,8 @@ module {
     hw.output %0 : i1
   }
 }
-// ----- a constant of constants goes through all kinds of operands
+// -----
+// a constant of constants goes through all kinds of operands
 module {
   hw.module @T(in %clk : !seq.clock, in %rst : i1, in %a : i8, in %b : i8, out o : i8, out p : i8) {
     %c3_i8 = hw.constant 3 : i8
@@ -138,7 +150,8 @@ module {
     hw.output %i : i8
   }
 }
-// ----- bits of parts of parts
+// -----
+// bits of parts of parts, through a concat, a struct and an array
 module {
   hw.module @T(in %a : i8, in %b : i8, out o : i4) {
     %false = hw.constant false
@@ -152,7 +165,8 @@ module {
     hw.output %6 : i4
   }
 }
-// ----- an extract that is joined to all bits, and to an operand of a concat
+// -----
+// an extract that is joined to all bits, and to an operand of a concat
 module {
   hw.module @T(in %a : i8, in %b : i8, out o : i8, out p : i4) {
     %0 = comb.concat %a, %b : i8, i8
@@ -162,7 +176,8 @@ module {
     hw.output %2, %3 : i8, i4
   }
 }
-// ----- a divisor stays a constant
+// -----
+// a divisor stays a constant
 module {
   hw.module @T(in %a : i8, in %b : i8, out o : i8, out p : i8) {
     %c3_i8 = hw.constant 3 : i8
@@ -173,7 +188,8 @@ module {
     hw.output %1, %2 : i8, i8
   }
 }
-// ----- two registers of one another, and names that are not given anew
+// -----
+// two registers of one another, and names that are not given anew
 module {
   hw.module @T(in %clk : !seq.clock, in %c5_i8 : i8, out o : i8) {
     %c5_i8_0 = hw.constant 5 : i8
@@ -184,7 +200,8 @@ module {
     hw.output %r : i8
   }
 }
-// ----- what is taken in has an operand that is taken in, and one twice
+// -----
+// what is taken in has an operand that is taken in, and one twice
 module {
   hw.module @T(in %a : i8, in %b : i8, out o : i8) {
     %0 = comb.and %a, %1 : i8
@@ -194,7 +211,8 @@ module {
     hw.output %0 : i8
   }
 }
-// ----- visits are in text order: here constants are joined before one of them comes to stand twice
+// -----
+// visits are in text order: constants are joined before one of them comes to stand twice
 module {
   hw.module @T(in %a : i8, in %b : i8, out o : i8) {
     %true = hw.constant true
@@ -205,7 +223,8 @@ module {
     hw.output %0 : i8
   }
 }
-// ----- and here after
+// -----
+// visits are in text order: one constant comes to stand twice before constants are joined
 module {
   hw.module @T(in %a : i8, in %b : i8, out o : i8) {
     %true = hw.constant true
@@ -216,7 +235,8 @@ module {
     hw.output %1 : i8
   }
 }
-// ----- an operation whose operands change is not visited again before the next sweep
+// -----
+// an operation whose operands change is not visited again before the next sweep
 module {
   hw.module @T(in %a : i8, in %b : i8, out o : i8) {
     %true = hw.constant true
@@ -228,7 +248,8 @@ module {
     hw.output %0 : i8
   }
 }
-// ----- nor is a new one visited: the first two extracts are taken in before it is seen that they are an operand
+// -----
+// a new operation is not visited: two extracts are taken in before they are seen to be an operand
 module {
   hw.module @T(in %a : i8, in %b : i8, out o : i4) {
     %0 = comb.concat %a, %b : i8, i8

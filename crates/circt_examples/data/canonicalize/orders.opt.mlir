@@ -1,4 +1,4 @@
-// -----
+// the value of constants comes before the chosen branch
 module {
   hw.module @T(out o : i8) {
     %c5_i8 = hw.constant 5 : i8
@@ -6,6 +6,7 @@ module {
   }
 }
 // -----
+// the value of constants comes before one of them
 module {
   hw.module @T(out o : i8, out p : i8, out q : i8) {
     %c0_i8 = hw.constant 0 : i8
@@ -15,6 +16,7 @@ module {
   }
 }
 // -----
+// one operand comes before an operand of the same kind
 module {
   hw.module @T(in %a : i8, in %b : i8, out o : i8) {
     %0 = comb.add %a, %b {inner} : i8
@@ -22,6 +24,7 @@ module {
   }
 }
 // -----
+// what decides nothing is dropped before constants are joined
 module {
   hw.module @T(in %a : i8, out o : i8, out p : i8, out q : i8, out r : i8, out s : i8) {
     %c5_i8 = hw.constant 5 {k} : i8
@@ -34,6 +37,7 @@ module {
   }
 }
 // -----
+// what decides everything stands for the result before constants are joined
 module {
   hw.module @T(in %a : i8, out o : i8, out p : i8, out q : i8) {
     %c0_i8 = hw.constant 0 {k} : i8
@@ -42,6 +46,7 @@ module {
   }
 }
 // -----
+// an operand that stands earlier too is dropped before constants are joined
 module {
   hw.module @T(in %a : i8, out o : i8, out p : i8) {
     %c5_i8 = hw.constant 5 {k} : i8
@@ -51,6 +56,7 @@ module {
   }
 }
 // -----
+// two equal operands of xor are dropped before three constants are joined
 module {
   hw.module @T(in %a : i8, out o : i8) {
     %c5_i8 = hw.constant 5 {k} : i8
@@ -59,6 +65,7 @@ module {
   }
 }
 // -----
+// all bits come before an extract of an extract
 module {
   hw.module @T(in %a : i8, out o : i4) {
     %0 = comb.extract %a from 2 {inner} : (i8) -> i4
@@ -66,6 +73,7 @@ module {
   }
 }
 // -----
+// a concat of a concat comes before a concat of one operand
 module {
   hw.module @T(in %a : i8, in %b : i8, out o : i16) {
     %0 = comb.concat %a, %b {outer} : i8, i8
@@ -73,18 +81,21 @@ module {
   }
 }
 // -----
+// a chain: a sum with 0, an xor with itself, an or with that
 module {
   hw.module @T(in %a : i8, out o : i8) {
     hw.output %a : i8
   }
 }
 // -----
+// a chain of operands that stand after the operations that use them
 module {
   hw.module @T(in %a : i8, in %b : i8, out o : i8) {
     hw.output %a : i8
   }
 }
 // -----
+// a tree of operands that stand after, down to a comparison of 0 and a value
 module {
   hw.module @T(in %a : i8, out o : i1) {
     %true = hw.constant true
@@ -92,6 +103,7 @@ module {
   }
 }
 // -----
+// a constant of constants goes through all kinds of operands
 module {
   hw.module @T(in %clk : !seq.clock, in %rst : i1, in %a : i8, in %b : i8, out o : i8, out p : i8) {
     %c0_i8 = hw.constant 0 : i8
@@ -105,6 +117,7 @@ module {
   }
 }
 // -----
+// bits of parts of parts, through a concat, a struct and an array
 module {
   hw.module @T(in %a : i8, in %b : i8, out o : i4) {
     %0 = comb.extract %a from 4 : (i8) -> i4
@@ -112,6 +125,7 @@ module {
   }
 }
 // -----
+// an extract that is joined to all bits, and to an operand of a concat
 module {
   hw.module @T(in %a : i8, in %b : i8, out o : i8, out p : i4) {
     %0 = comb.extract %a from 4 : (i8) -> i4
@@ -119,6 +133,7 @@ module {
   }
 }
 // -----
+// a divisor stays a constant
 module {
   hw.module @T(in %a : i8, in %b : i8, out o : i8, out p : i8) {
     %c3_i8 = hw.constant 3 : i8
@@ -129,6 +144,7 @@ module {
   }
 }
 // -----
+// two registers of one another, and names that are not given anew
 module {
   hw.module @T(in %clk : !seq.clock, in %c5_i8 : i8, out o : i8) {
     %c5_i8_0 = hw.constant 5 : i8
@@ -140,6 +156,7 @@ module {
   }
 }
 // -----
+// what is taken in has an operand that is taken in, and one twice
 module {
   hw.module @T(in %a : i8, in %b : i8, out o : i8) {
     %0 = comb.and %a, %1, %b : i8
@@ -148,6 +165,7 @@ module {
   }
 }
 // -----
+// visits are in text order: constants are joined before one of them comes to stand twice
 module {
   hw.module @T(in %a : i8, in %b : i8, out o : i8) {
     %c5_i8 = hw.constant 5 : i8
@@ -156,6 +174,7 @@ module {
   }
 }
 // -----
+// visits are in text order: one constant comes to stand twice before constants are joined
 module {
   hw.module @T(in %a : i8, in %b : i8, out o : i8) {
     %c5_i8 = hw.constant 5 {k} : i8
@@ -164,6 +183,7 @@ module {
   }
 }
 // -----
+// an operation whose operands change is not visited again before the next sweep
 module {
   hw.module @T(in %a : i8, in %b : i8, out o : i8) {
     %c5_i8 = hw.constant 5 {k} : i8
@@ -172,6 +192,7 @@ module {
   }
 }
 // -----
+// a new operation is not visited: two extracts are taken in before they are seen to be an operand
 module {
   hw.module @T(in %a : i8, in %b : i8, out o : i4) {
     %0 = comb.concat %a, %b : i8, i8

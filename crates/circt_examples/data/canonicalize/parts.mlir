@@ -1,5 +1,5 @@
 // RUN: circt opt --canonicalize
-// ----- all bits
+// an extract of all bits is the value
 module {
   hw.module @T(in %a : i8, in %b : i1, in %c : i128, out o : i8, out p : i1, out q : i128) {
     %0 = comb.extract %a from 0 {k} : (i8) -> i8
@@ -9,6 +9,7 @@ module {
   }
 }
 // -----
+// an extract of all bits of its own register
 module {
   hw.module @T(in %clk : !seq.clock, out o : i8) {
     %0 = comb.extract %r from 0 : (i8) -> i8
@@ -16,7 +17,8 @@ module {
     hw.output %0 : i8
   }
 }
-// ----- all but one
+// -----
+// extracts of all bits but one stay
 module {
   hw.module @T(in %a : i8, in %c : i128, out o : i7, out p : i7, out q : i127) {
     %0 = comb.extract %a from 0 : (i8) -> i7
@@ -25,7 +27,8 @@ module {
     hw.output %0, %1, %2 : i7, i7, i127
   }
 }
-// ----- of an extract with one use
+// -----
+// an extract of an extract with one use is one extract
 module {
   hw.module @T(in %a : i8, in %b : i128, out o : i3, out p : i1) {
     %0 = comb.extract %a from 2 {inner} : (i8) -> i5
@@ -35,7 +38,8 @@ module {
     hw.output %1, %3 : i3, i1
   }
 }
-// ----- one after another, and one that stands after
+// -----
+// extracts one after another, one of which stands after its use
 module {
   hw.module @T(in %a : i8, in %b : i8, out o : i2, out p : i1, out q : i8) {
     %0 = comb.extract %a from 1 : (i8) -> i7
@@ -47,7 +51,8 @@ module {
     hw.output %2, %3, %5 : i2, i1, i8
   }
 }
-// ----- of one with two uses
+// -----
+// an extract of an extract with two uses stays
 module {
   hw.module @T(in %a : i8, in %b : i8, out o : i3, out p : i5, out q : i1, out r : i1) {
     %0 = comb.extract %a from 2 : (i8) -> i5
@@ -58,7 +63,8 @@ module {
     hw.output %1, %0, %3, %4 : i3, i5, i1, i1
   }
 }
-// ----- of exactly one operand of a concat, which may have other uses
+// -----
+// an extract of exactly one operand of a concat, which may have other uses
 module {
   hw.module @T(in %a : i8, in %b : i4, in %c : i4, out o : i8, out p : i4, out q : i4, out r : i16) {
     %0 = comb.concat %a, %b, %c : i8, i4, i4
@@ -69,6 +75,7 @@ module {
   }
 }
 // -----
+// an extract of one operand of a concat, the first and the last of 128 bits
 module {
   hw.module @T(in %a : i1, in %b : i127, out o : i1, out p : i127) {
     %0 = comb.concat %a, %b : i1, i127
@@ -77,7 +84,8 @@ module {
     hw.output %1, %2 : i1, i127
   }
 }
-// ----- of two operands of a concat, of a part of one, of parts of two
+// -----
+// extracts stay: of two operands of a concat, of a part of one, of parts of two
 module {
   hw.module @T(in %a : i8, in %b : i4, in %c : i4, out o : i8, out p : i3, out q : i4) {
     %0 = comb.concat %a, %b, %c : i8, i4, i4
@@ -87,7 +95,8 @@ module {
     hw.output %1, %2, %3 : i8, i3, i4
   }
 }
-// ----- a concat with one use is taken in, in its place
+// -----
+// a concat with one use is taken in by a concat, in its place
 module {
   hw.module @T(in %a : i8, in %b : i4, in %c : i1, out o : i13, out p : i17) {
     %0 = comb.concat %a, %b {inner} : i8, i4
@@ -97,7 +106,8 @@ module {
     hw.output %1, %3 : i13, i17
   }
 }
-// ----- one after another, and one that stands after
+// -----
+// concats one after another, one of which stands after its use
 module {
   hw.module @T(in %a : i1, in %b : i1, out o : i128, out p : i8) {
     %0 = comb.replicate %a : (i1) -> i126
@@ -109,7 +119,8 @@ module {
     hw.output %1, %5 : i128, i8
   }
 }
-// ----- two uses, by two operations and by one
+// -----
+// a concat with two uses, by two operations or by one, stays
 module {
   hw.module @T(in %a : i8, in %b : i4, out o : i16, out p : i12, out q : i24) {
     %0 = comb.concat %a, %b : i8, i4
@@ -119,7 +130,8 @@ module {
     hw.output %1, %0, %3 : i16, i12, i24
   }
 }
-// ----- one operand, one copy, the same type
+// -----
+// a concat of one operand, one copy, and a bitcast to the same type are the value
 module {
   hw.module @T(in %a : i8, in %b : i1, in %c : i128, out o : i8, out p : i8, out q : i8, out r : i1, out s : i128) {
     %0 = comb.concat %a {k} : i8
@@ -131,6 +143,7 @@ module {
   }
 }
 // -----
+// a bitcast of a struct and of an array to its own type is the value
 module {
   hw.module @T(in %s : !hw.struct<x: i4, y: i4>, in %v : !hw.array<2xi4>, out o : !hw.struct<x: i4, y: i4>, out p : !hw.array<2xi4>) {
     %0 = hw.bitcast %s : (!hw.struct<x: i4, y: i4>) -> !hw.struct<x: i4, y: i4>
@@ -138,7 +151,8 @@ module {
     hw.output %0, %1 : !hw.struct<x: i4, y: i4>, !hw.array<2xi4>
   }
 }
-// ----- a bitcast of a constant to its own type is the constant, with its dictionary
+// -----
+// a bitcast of a constant to its own type is the constant, with its dictionary
 module {
   hw.module @T(out o : i8) {
     %c5_i8 = hw.constant 5 {k} : i8
@@ -146,7 +160,8 @@ module {
     hw.output %0 : i8
   }
 }
-// ----- two operands, two copies, types that differ in field names alone
+// -----
+// these stay: a concat of two, two copies, and bitcasts to types that differ in field names alone
 module {
   hw.module @T(in %a : i8, in %s : !hw.struct<x: i4, y: i4>, out o : i16, out p : i16, out q : !hw.struct<x: i4, z: i4>, out r : i8) {
     %0 = comb.concat %a, %a : i8, i8
@@ -156,7 +171,8 @@ module {
     hw.output %0, %1, %2, %3 : i16, i16, !hw.struct<x: i4, z: i4>, i8
   }
 }
-// ----- fields of what was made of fields
+// -----
+// a field of what was made of fields is the value
 module {
   hw.module @T(in %a : i8, in %b : i8, out o : i8, out p : i8) {
     %0 = hw.struct_create (%a, %b) : !hw.struct<x: i8, y: i8>
@@ -166,6 +182,7 @@ module {
   }
 }
 // -----
+// a field of what is made of a register that the field feeds
 module {
   hw.module @T(in %clk : !seq.clock, in %a : i128, out o : i1, out p : !hw.struct<x: i128, y: i1>) {
     %0 = hw.struct_extract %1["y"] : !hw.struct<x: i128, y: i1>
@@ -174,7 +191,8 @@ module {
     hw.output %0, %1 : i1, !hw.struct<x: i128, y: i1>
   }
 }
-// ----- of other structs
+// -----
+// fields of other structs stay: of an inject, a wire and an explode
 module {
   hw.module @T(in %a : i8, in %s : !hw.struct<x: i8, y: i8>, out o : i8, out p : i8, out q : i8) {
     %0 = hw.struct_inject %s["x"], %a : !hw.struct<x: i8, y: i8>
@@ -186,7 +204,8 @@ module {
     hw.output %1, %4, %5#0 : i8, i8, i8
   }
 }
-// ----- elements of what was made of elements, the first of which has the highest index
+// -----
+// an element of what was made of elements, the first of which has the highest index
 module {
   hw.module @T(in %a : i8, in %b : i8, in %c : i8, out o : i8, out p : i8, out q : i8) {
     %c0_i2 = hw.constant 0 : i2
@@ -200,6 +219,7 @@ module {
   }
 }
 // -----
+// an element of an array of one of 128 bits, and of an array of structs
 module {
   hw.module @T(in %a : i128, in %s : !hw.struct<x: i8>, in %t : !hw.struct<x: i8>, out o : i128, out p : !hw.struct<x: i8>) {
     %false = hw.constant false
@@ -211,7 +231,8 @@ module {
     hw.output %1, %3 : i128, !hw.struct<x: i8>
   }
 }
-// ----- at the length
+// -----
+// an element at the length and past it stays
 module {
   hw.module @T(in %a : i8, in %b : i8, in %c : i8, out o : i8, out p : i8) {
     %c-1_i2 = hw.constant -1 : i2
@@ -223,7 +244,8 @@ module {
     hw.output %1, %3 : i8, i8
   }
 }
-// ----- at an index that is no constant, and of other arrays
+// -----
+// an element stays at an index that is no constant, and of an inject and a constant
 module {
   hw.module @T(in %a : i8, in %b : i8, in %i : i1, out o : i8, out p : i8, out q : i8) {
     %true = hw.constant true

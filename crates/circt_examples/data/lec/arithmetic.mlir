@@ -1,4 +1,4 @@
-// -----
+// add of one bit, against xor
 hw.module @p(in %a : i1, in %b : i1, out o : i1) {
   %0 = comb.add %a, %b : i1
   hw.output %0 : i1
@@ -8,6 +8,7 @@ hw.module @q(in %a : i1, in %b : i1, out o : i1) {
   hw.output %0 : i1
 }
 // -----
+// mul of one bit, against and
 hw.module @p(in %a : i1, in %b : i1, out o : i1) {
   %0 = comb.mul %a, %b : i1
   hw.output %0 : i1
@@ -17,6 +18,7 @@ hw.module @q(in %a : i1, in %b : i1, out o : i1) {
   hw.output %0 : i1
 }
 // -----
+// sub of one bit, against xor
 hw.module @p(in %a : i1, in %b : i1, out o : i1) {
   %0 = comb.sub %a, %b : i1
   hw.output %0 : i1
@@ -26,6 +28,7 @@ hw.module @q(in %a : i1, in %b : i1, out o : i1) {
   hw.output %0 : i1
 }
 // -----
+// sub of one bit, against or
 hw.module @p(in %a : i1, in %b : i1, out o : i1) {
   %0 = comb.sub %a, %b : i1
   hw.output %0 : i1
@@ -35,6 +38,7 @@ hw.module @q(in %a : i1, in %b : i1, out o : i1) {
   hw.output %0 : i1
 }
 // -----
+// divu and modu by 1 of one bit, against the value and 0
 hw.module @p(in %a : i1, out o : i1, out p : i1) {
   %true = hw.constant true
   %0 = comb.divu %a, %true : i1
@@ -45,7 +49,8 @@ hw.module @q(in %a : i1, out o : i1, out p : i1) {
   %false = hw.constant false
   hw.output %a, %false : i1, i1
 }
-// ----- -1 divides 0 and -1, and the quotient of -1 by -1 is 1, which is -1 in one bit
+// -----
+// divs and mods by -1 of one bit, against the value and 0: -1 by -1 is 1, which is -1
 hw.module @p(in %a : i1, out o : i1, out p : i1) {
   %true = hw.constant true
   %0 = comb.divs %a, %true : i1
@@ -56,7 +61,8 @@ hw.module @q(in %a : i1, out o : i1, out p : i1) {
   %false = hw.constant false
   hw.output %a, %false : i1, i1
 }
-// ----- -3 is 5 in three bits
+// -----
+// mul by -3 of 3 bits, against four times and one more: -3 is 5
 hw.module @p(in %a : i3, out o : i3) {
   %k = hw.constant -3 : i3
   %0 = comb.mul %a, %k : i3
@@ -69,6 +75,7 @@ hw.module @q(in %a : i3, out o : i3) {
   hw.output %1 : i3
 }
 // -----
+// sub of 3 bits, against a sum with the complement and 1
 hw.module @p(in %a : i3, in %b : i3, out o : i3) {
   %0 = comb.sub %a, %b : i3
   hw.output %0 : i3
@@ -81,6 +88,7 @@ hw.module @q(in %a : i3, in %b : i3, out o : i3) {
   hw.output %1 : i3
 }
 // -----
+// modu by 3 of 3 bits, against what divu and mul leave
 hw.module @p(in %a : i3, out o : i3) {
   %k = hw.constant 3 : i3
   %0 = comb.modu %a, %k : i3
@@ -93,7 +101,8 @@ hw.module @q(in %a : i3, out o : i3) {
   %2 = comb.sub %a, %1 : i3
   hw.output %2 : i3
 }
-// ----- a shift by a value, against its cases
+// -----
+// shrs of 3 bits by a value, against a mux for each amount
 hw.module @p(in %a : i3, in %b : i3, out o : i3) {
   %0 = comb.shrs %a, %b : i3
   hw.output %0 : i3
@@ -116,6 +125,7 @@ hw.module @q(in %a : i3, in %b : i3, out o : i3) {
   hw.output %2 : i3
 }
 // -----
+// shru of 3 bits by a value, against shrs
 hw.module @p(in %a : i3, in %b : i3, out o : i3) {
   %0 = comb.shru %a, %b : i3
   hw.output %0 : i3
@@ -125,6 +135,7 @@ hw.module @q(in %a : i3, in %b : i3, out o : i3) {
   hw.output %0 : i3
 }
 // -----
+// shl of 3 bits by a value, against mul by a power of 2
 hw.module @p(in %a : i3, in %b : i3, out o : i3) {
   %0 = comb.shl %a, %b : i3
   hw.output %0 : i3
@@ -135,7 +146,8 @@ hw.module @q(in %a : i3, in %b : i3, out o : i3) {
   %1 = comb.mul %a, %0 : i3
   hw.output %1 : i3
 }
-// ----- a past-the-end amount is not one within
+// -----
+// shru of 3 bits by a value, against its two low bits alone: an amount past the end counts
 hw.module @p(in %a : i3, in %b : i3, out o : i3) {
   %0 = comb.shru %a, %b : i3
   hw.output %0 : i3
@@ -147,6 +159,7 @@ hw.module @q(in %a : i3, in %b : i3, out o : i3) {
   hw.output %0 : i3
 }
 // -----
+// mul by 5 of 8 bits, against a shift and a sum
 hw.module @p(in %a : i8, out o : i8) {
   %k = hw.constant 5 : i8
   %0 = comb.mul %a, %k : i8
@@ -159,6 +172,7 @@ hw.module @q(in %a : i8, out o : i8) {
   hw.output %1 : i8
 }
 // -----
+// mul by 5 of 8 bits, against a shift and an or
 hw.module @p(in %a : i8, out o : i8) {
   %k = hw.constant 5 : i8
   %0 = comb.mul %a, %k : i8
@@ -170,7 +184,8 @@ hw.module @q(in %a : i8, out o : i8) {
   %1 = comb.or %0, %a : i8
   hw.output %1 : i8
 }
-// ----- a signed quotient by -3, against one of magnitudes
+// -----
+// divs and mods by -3 of 8 bits, against divu and modu of magnitudes
 hw.module @p(in %a : i8, out o : i8, out p : i8) {
   %k = hw.constant -3 : i8
   %0 = comb.divs %a, %k : i8
@@ -191,7 +206,8 @@ hw.module @q(in %a : i8, out o : i8, out p : i8) {
   %1 = comb.mux %neg, %nr, %r : i8
   hw.output %0, %1 : i8, i8
 }
-// ----- of which the rest has the sign of what is divided
+// -----
+// mods by -3 of 8 bits, against modu by 3: the remainder has the sign of what is divided
 hw.module @p(in %a : i8, out p : i8) {
   %k = hw.constant -3 : i8
   %1 = comb.mods %a, %k : i8
@@ -203,6 +219,7 @@ hw.module @q(in %a : i8, out p : i8) {
   hw.output %1 : i8
 }
 // -----
+// divu by 16 of 8 bits, against shru by 4
 hw.module @p(in %a : i8, out o : i8) {
   %k = hw.constant 16 : i8
   %0 = comb.divu %a, %k : i8
@@ -213,7 +230,8 @@ hw.module @q(in %a : i8, out o : i8) {
   %0 = comb.shru %a, %k : i8
   hw.output %0 : i8
 }
-// ----- towards zero, not down
+// -----
+// divs by 16 of 8 bits, against shrs by 4: towards zero, not down
 hw.module @p(in %a : i8, out o : i8) {
   %k = hw.constant 16 : i8
   %0 = comb.divs %a, %k : i8
@@ -225,6 +243,7 @@ hw.module @q(in %a : i8, out o : i8) {
   hw.output %0 : i8
 }
 // -----
+// add of three operands of 8 bits, against two sums in another order
 hw.module @p(in %a : i8, in %b : i8, in %c : i8, out o : i8) {
   %0 = comb.add %a, %b, %c : i8
   hw.output %0 : i8
@@ -235,6 +254,7 @@ hw.module @q(in %a : i8, in %b : i8, in %c : i8, out o : i8) {
   hw.output %1 : i8
 }
 // -----
+// sub of 8 bits, against sub of exchanged operands
 hw.module @p(in %a : i8, in %b : i8, out o : i8) {
   %0 = comb.sub %a, %b : i8
   hw.output %0 : i8

@@ -1,4 +1,4 @@
-// ----- a signed order is the unsigned one of words with their top bits turned
+// slt of 8 bits, against ult of words with their top bits turned
 hw.module @p(in %a : i8, in %b : i8, out o : i1) {
   %0 = comb.icmp slt %a, %b : i8
   hw.output %0 : i1
@@ -11,6 +11,7 @@ hw.module @q(in %a : i8, in %b : i8, out o : i1) {
   hw.output %0 : i1
 }
 // -----
+// slt of 8 bits, against ult
 hw.module @p(in %a : i8, in %b : i8, out o : i1) {
   %0 = comb.icmp slt %a, %b : i8
   hw.output %0 : i1
@@ -20,6 +21,7 @@ hw.module @q(in %a : i8, in %b : i8, out o : i1) {
   hw.output %0 : i1
 }
 // -----
+// sle and ule of 8 bits, against sge and uge of exchanged operands
 hw.module @p(in %a : i8, in %b : i8, out o : i1, out p : i1) {
   %0 = comb.icmp sle %a, %b : i8
   %1 = comb.icmp ule %a, %b : i8
@@ -31,6 +33,7 @@ hw.module @q(in %a : i8, in %b : i8, out o : i1, out p : i1) {
   hw.output %0, %1 : i1, i1
 }
 // -----
+// sgt and ugt of 3 bits, against the negations of sle and ule
 hw.module @p(in %a : i3, in %b : i3, out o : i1, out p : i1) {
   %0 = comb.icmp sgt %a, %b : i3
   %1 = comb.icmp ugt %a, %b : i3
@@ -45,6 +48,7 @@ hw.module @q(in %a : i3, in %b : i3, out o : i1, out p : i1) {
   hw.output %2, %3 : i1, i1
 }
 // -----
+// ule of 8 bits, against ult
 hw.module @p(in %a : i8, in %b : i8, out o : i1) {
   %0 = comb.icmp ule %a, %b : i8
   hw.output %0 : i1
@@ -53,7 +57,8 @@ hw.module @q(in %a : i8, in %b : i8, out o : i1) {
   %0 = comb.icmp ult %a, %b : i8
   hw.output %0 : i1
 }
-// ----- of one bit, 1 is -1
+// -----
+// slt of one bit, against ugt: 1 is -1
 hw.module @p(in %a : i1, in %b : i1, out o : i1) {
   %0 = comb.icmp slt %a, %b : i1
   hw.output %0 : i1
@@ -63,6 +68,7 @@ hw.module @q(in %a : i1, in %b : i1, out o : i1) {
   hw.output %0 : i1
 }
 // -----
+// eq and ne of 8 bits, against comparisons of a difference with 0
 hw.module @p(in %a : i8, in %b : i8, out o : i1, out p : i1) {
   %0 = comb.icmp eq %a, %b : i8
   %1 = comb.icmp ne %a, %b : i8
@@ -75,7 +81,8 @@ hw.module @q(in %a : i8, in %b : i8, out o : i1, out p : i1) {
   %2 = comb.icmp ugt %0, %zero : i8
   hw.output %1, %2 : i1, i1
 }
-// ----- equalities of four values are those of two here
+// -----
+// ceq, cne, weq and wne of 3 bits, against eq and ne
 hw.module @p(in %a : i3, in %b : i3, out o : i1, out p : i1, out q : i1, out r : i1) {
   %0 = comb.icmp ceq %a, %b : i3
   %1 = comb.icmp cne %a, %b : i3
@@ -89,6 +96,7 @@ hw.module @q(in %a : i3, in %b : i3, out o : i1, out p : i1, out q : i1, out r :
   hw.output %0, %1, %0, %1 : i1, i1, i1, i1
 }
 // -----
+// parity of 3 bits, against an xor of the bits
 hw.module @p(in %a : i3, out o : i1) {
   %0 = comb.parity %a : i3
   hw.output %0 : i1
@@ -101,6 +109,7 @@ hw.module @q(in %a : i3, out o : i1) {
   hw.output %3 : i1
 }
 // -----
+// parity of 8 bits, against its negation
 hw.module @p(in %a : i8, out o : i1) {
   %0 = comb.parity %a : i8
   hw.output %0 : i1
@@ -112,6 +121,7 @@ hw.module @q(in %a : i8, out o : i1) {
   hw.output %1 : i1
 }
 // -----
+// mux of 8 bits, against masks of the condition
 hw.module @p(in %c : i1, in %a : i8, in %b : i8, out o : i8) {
   %0 = comb.mux %c, %a, %b : i8
   hw.output %0 : i8
@@ -126,6 +136,7 @@ hw.module @q(in %c : i1, in %a : i8, in %b : i8, out o : i8) {
   hw.output %2 : i8
 }
 // -----
+// mux of 8 bits, against one of exchanged sides
 hw.module @p(in %c : i1, in %a : i8, in %b : i8, out o : i8) {
   %0 = comb.mux %c, %a, %b : i8
   hw.output %0 : i8
@@ -135,6 +146,7 @@ hw.module @q(in %c : i1, in %a : i8, in %b : i8, out o : i8) {
   hw.output %0 : i8
 }
 // -----
+// xor of 8 bits, against an and of two ors
 hw.module @p(in %a : i8, in %b : i8, out o : i8) {
   %0 = comb.xor %a, %b : i8
   hw.output %0 : i8

@@ -1,4 +1,4 @@
-// -----
+// add of one bit, against sub of a negative
 hw.module @p(in %a : i1, in %b : i1, in %c : i1, out o : i1) {
   %0 = comb.add %a, %b : i1
   hw.output %0 : i1
@@ -10,6 +10,7 @@ hw.module @q(in %a : i1, in %b : i1, in %c : i1, out o : i1) {
   hw.output %1 : i1
 }
 // -----
+// add of one bit, against or
 hw.module @p(in %a : i1, in %b : i1, in %c : i1, out o : i1) {
   %0 = comb.add %a, %b : i1
   hw.output %0 : i1
@@ -19,6 +20,7 @@ hw.module @q(in %a : i1, in %b : i1, in %c : i1, out o : i1) {
   hw.output %0 : i1
 }
 // -----
+// sub of one bit, against an add between two complements
 hw.module @p(in %a : i1, in %b : i1, in %c : i1, out o : i1) {
   %0 = comb.sub %a, %b : i1
   hw.output %0 : i1
@@ -31,6 +33,7 @@ hw.module @q(in %a : i1, in %b : i1, in %c : i1, out o : i1) {
   hw.output %2 : i1
 }
 // -----
+// sub of one bit, against an add after one complement
 hw.module @p(in %a : i1, in %b : i1, in %c : i1, out o : i1) {
   %0 = comb.sub %a, %b : i1
   hw.output %0 : i1
@@ -42,6 +45,7 @@ hw.module @q(in %a : i1, in %b : i1, in %c : i1, out o : i1) {
   hw.output %1 : i1
 }
 // -----
+// mul of one bit by -1, against 0 less the value
 hw.module @p(in %a : i1, in %b : i1, in %c : i1, out o : i1) {
   %ones = hw.constant -1 : i1
   %0 = comb.mul %a, %ones : i1
@@ -53,6 +57,7 @@ hw.module @q(in %a : i1, in %b : i1, in %c : i1, out o : i1) {
   hw.output %0 : i1
 }
 // -----
+// mul of one bit by -1, against the complement
 hw.module @p(in %a : i1, in %b : i1, in %c : i1, out o : i1) {
   %ones = hw.constant -1 : i1
   %0 = comb.mul %a, %ones : i1
@@ -64,6 +69,7 @@ hw.module @q(in %a : i1, in %b : i1, in %c : i1, out o : i1) {
   hw.output %0 : i1
 }
 // -----
+// mul of one bit by copies of a bit, against a mux of 0 less the value and 0
 hw.module @p(in %a : i1, in %b : i1, in %c : i1, out o : i1) {
   %bit = comb.replicate %c : (i1) -> i1
   %0 = comb.mul %a, %bit : i1
@@ -76,6 +82,7 @@ hw.module @q(in %a : i1, in %b : i1, in %c : i1, out o : i1) {
   hw.output %1 : i1
 }
 // -----
+// mul of one bit by copies of a bit, against a mux of 0 less the value and another value
 hw.module @p(in %a : i1, in %b : i1, in %c : i1, out o : i1) {
   %bit = comb.replicate %c : (i1) -> i1
   %0 = comb.mul %a, %bit : i1
@@ -87,7 +94,8 @@ hw.module @q(in %a : i1, in %b : i1, in %c : i1, out o : i1) {
   %1 = comb.mux %c, %0, %b : i1
   hw.output %1 : i1
 }
-// ----- all ones are contained in themselves alone
+// -----
+// divu of one bit by all ones, against whether the value is all ones
 hw.module @p(in %a : i1, in %b : i1, in %c : i1, out o : i1) {
   %ones = hw.constant -1 : i1
   %0 = comb.divu %a, %ones : i1
@@ -101,7 +109,8 @@ hw.module @q(in %a : i1, in %b : i1, in %c : i1, out o : i1) {
   %1 = comb.mux %0, %one, %zero : i1
   hw.output %1 : i1
 }
-// ----- all ones are contained in themselves alone
+// -----
+// divu of one bit by all ones, against whether another value is all ones
 hw.module @p(in %a : i1, in %b : i1, in %c : i1, out o : i1) {
   %ones = hw.constant -1 : i1
   %0 = comb.divu %a, %ones : i1
@@ -116,6 +125,7 @@ hw.module @q(in %a : i1, in %b : i1, in %c : i1, out o : i1) {
   hw.output %1 : i1
 }
 // -----
+// modu of one bit by all ones, against 0 for all ones and else the value
 hw.module @p(in %a : i1, in %b : i1, in %c : i1, out o : i1) {
   %ones = hw.constant -1 : i1
   %0 = comb.modu %a, %ones : i1
@@ -129,6 +139,7 @@ hw.module @q(in %a : i1, in %b : i1, in %c : i1, out o : i1) {
   hw.output %1 : i1
 }
 // -----
+// modu of one bit by all ones, against the value
 hw.module @p(in %a : i1, in %b : i1, in %c : i1, out o : i1) {
   %ones = hw.constant -1 : i1
   %0 = comb.modu %a, %ones : i1
@@ -137,7 +148,8 @@ hw.module @p(in %a : i1, in %b : i1, in %c : i1, out o : i1) {
 hw.module @q(in %a : i1, in %b : i1, in %c : i1, out o : i1) {
   hw.output %a : i1
 }
-// ----- -1 divides each word; the least one, which has no negative, gives itself
+// -----
+// divs of one bit by -1, against 0 less the value: the least word gives itself
 hw.module @p(in %a : i1, in %b : i1, in %c : i1, out o : i1) {
   %ones = hw.constant -1 : i1
   %0 = comb.divs %a, %ones : i1
@@ -148,7 +160,8 @@ hw.module @q(in %a : i1, in %b : i1, in %c : i1, out o : i1) {
   %0 = comb.sub %zero, %a : i1
   hw.output %0 : i1
 }
-// ----- -1 divides each word; the least one, which has no negative, gives itself
+// -----
+// divs of one bit by -1, against the complement
 hw.module @p(in %a : i1, in %b : i1, in %c : i1, out o : i1) {
   %ones = hw.constant -1 : i1
   %0 = comb.divs %a, %ones : i1
@@ -160,6 +173,7 @@ hw.module @q(in %a : i1, in %b : i1, in %c : i1, out o : i1) {
   hw.output %0 : i1
 }
 // -----
+// mods of one bit by -1, against 0
 hw.module @p(in %a : i1, in %b : i1, in %c : i1, out o : i1) {
   %ones = hw.constant -1 : i1
   %0 = comb.mods %a, %ones : i1
@@ -170,6 +184,7 @@ hw.module @q(in %a : i1, in %b : i1, in %c : i1, out o : i1) {
   hw.output %zero : i1
 }
 // -----
+// mods of one bit by -1, against the value
 hw.module @p(in %a : i1, in %b : i1, in %c : i1, out o : i1) {
   %ones = hw.constant -1 : i1
   %0 = comb.mods %a, %ones : i1
@@ -178,7 +193,8 @@ hw.module @p(in %a : i1, in %b : i1, in %c : i1, out o : i1) {
 hw.module @q(in %a : i1, in %b : i1, in %c : i1, out o : i1) {
   hw.output %a : i1
 }
-// ----- a shift is one by a place, and the rest of it
+// -----
+// shl of one bit by a value, against one place and the rest, unless by 0
 hw.module @p(in %a : i1, in %b : i1, in %c : i1, out o : i1) {
   %0 = comb.shl %a, %b : i1
   hw.output %0 : i1
@@ -193,7 +209,8 @@ hw.module @q(in %a : i1, in %b : i1, in %c : i1, out o : i1) {
   %2 = comb.mux %none, %a, %1 : i1
   hw.output %2 : i1
 }
-// ----- a shift is one by a place, and the rest of it
+// -----
+// shl of one bit by a value, against one place and the rest, by 0 too
 hw.module @p(in %a : i1, in %b : i1, in %c : i1, out o : i1) {
   %0 = comb.shl %a, %b : i1
   hw.output %0 : i1
@@ -206,6 +223,7 @@ hw.module @q(in %a : i1, in %b : i1, in %c : i1, out o : i1) {
   hw.output %1 : i1
 }
 // -----
+// shru of one bit by a value, against one place and the rest, unless by 0
 hw.module @p(in %a : i1, in %b : i1, in %c : i1, out o : i1) {
   %0 = comb.shru %a, %b : i1
   hw.output %0 : i1
@@ -222,6 +240,7 @@ hw.module @q(in %a : i1, in %b : i1, in %c : i1, out o : i1) {
   hw.output %2 : i1
 }
 // -----
+// shru of one bit by a value, against shrs
 hw.module @p(in %a : i1, in %b : i1, in %c : i1, out o : i1) {
   %0 = comb.shru %a, %b : i1
   hw.output %0 : i1
@@ -231,6 +250,7 @@ hw.module @q(in %a : i1, in %b : i1, in %c : i1, out o : i1) {
   hw.output %0 : i1
 }
 // -----
+// shrs of one bit by a value, against shru of the value or between complements
 hw.module @p(in %a : i1, in %b : i1, in %c : i1, out o : i1) {
   %0 = comb.shrs %a, %b : i1
   hw.output %0 : i1
@@ -247,6 +267,7 @@ hw.module @q(in %a : i1, in %b : i1, in %c : i1, out o : i1) {
   hw.output %4 : i1
 }
 // -----
+// shrs of one bit by a value, against shru
 hw.module @p(in %a : i1, in %b : i1, in %c : i1, out o : i1) {
   %0 = comb.shrs %a, %b : i1
   hw.output %0 : i1
@@ -256,6 +277,7 @@ hw.module @q(in %a : i1, in %b : i1, in %c : i1, out o : i1) {
   hw.output %0 : i1
 }
 // -----
+// and of one bit, against a complement of an or of complements
 hw.module @p(in %a : i1, in %b : i1, in %c : i1, out o : i1) {
   %0 = comb.and %a, %b : i1
   hw.output %0 : i1
@@ -269,6 +291,7 @@ hw.module @q(in %a : i1, in %b : i1, in %c : i1, out o : i1) {
   hw.output %3 : i1
 }
 // -----
+// and of one bit, against or
 hw.module @p(in %a : i1, in %b : i1, in %c : i1, out o : i1) {
   %0 = comb.and %a, %b : i1
   hw.output %0 : i1
@@ -278,6 +301,7 @@ hw.module @q(in %a : i1, in %b : i1, in %c : i1, out o : i1) {
   hw.output %0 : i1
 }
 // -----
+// or of one bit, against an xor with the and
 hw.module @p(in %a : i1, in %b : i1, in %c : i1, out o : i1) {
   %0 = comb.or %a, %b : i1
   hw.output %0 : i1
@@ -288,6 +312,7 @@ hw.module @q(in %a : i1, in %b : i1, in %c : i1, out o : i1) {
   hw.output %1 : i1
 }
 // -----
+// or of one bit, against xor
 hw.module @p(in %a : i1, in %b : i1, in %c : i1, out o : i1) {
   %0 = comb.or %a, %b : i1
   hw.output %0 : i1
@@ -297,6 +322,7 @@ hw.module @q(in %a : i1, in %b : i1, in %c : i1, out o : i1) {
   hw.output %0 : i1
 }
 // -----
+// xor of one bit, against the or without the and
 hw.module @p(in %a : i1, in %b : i1, in %c : i1, out o : i1) {
   %0 = comb.xor %a, %b : i1
   hw.output %0 : i1
@@ -310,6 +336,7 @@ hw.module @q(in %a : i1, in %b : i1, in %c : i1, out o : i1) {
   hw.output %3 : i1
 }
 // -----
+// xor of one bit, against or
 hw.module @p(in %a : i1, in %b : i1, in %c : i1, out o : i1) {
   %0 = comb.xor %a, %b : i1
   hw.output %0 : i1
@@ -319,6 +346,7 @@ hw.module @q(in %a : i1, in %b : i1, in %c : i1, out o : i1) {
   hw.output %0 : i1
 }
 // -----
+// parity of one bit, against those of an xor and of the other value
 hw.module @p(in %a : i1, in %b : i1, in %c : i1, out o : i1) {
   %0 = comb.parity %a : i1
   hw.output %0 : i1
@@ -331,6 +359,7 @@ hw.module @q(in %a : i1, in %b : i1, in %c : i1, out o : i1) {
   hw.output %3 : i1
 }
 // -----
+// parity of one bit, against that of an xor
 hw.module @p(in %a : i1, in %b : i1, in %c : i1, out o : i1) {
   %0 = comb.parity %a : i1
   hw.output %0 : i1
@@ -341,6 +370,7 @@ hw.module @q(in %a : i1, in %b : i1, in %c : i1, out o : i1) {
   hw.output %1 : i1
 }
 // -----
+// mux of one bit, against masks by copies of the condition
 hw.module @p(in %a : i1, in %b : i1, in %c : i1, out o : i1) {
   %0 = comb.mux %c, %a, %b : i1
   hw.output %0 : i1
@@ -353,6 +383,7 @@ hw.module @q(in %a : i1, in %b : i1, in %c : i1, out o : i1) {
   hw.output %3 : i1
 }
 // -----
+// mux of one bit, against one of exchanged sides
 hw.module @p(in %a : i1, in %b : i1, in %c : i1, out o : i1) {
   %0 = comb.mux %c, %a, %b : i1
   hw.output %0 : i1
@@ -361,7 +392,8 @@ hw.module @q(in %a : i1, in %b : i1, in %c : i1, out o : i1) {
   %0 = comb.mux %c, %b, %a : i1
   hw.output %0 : i1
 }
-// ----- the first operand has the high bits
+// -----
+// the high half of a concat of one bit, against the first operand
 hw.module @p(in %a : i1, in %b : i1, in %c : i1, out o : i1) {
   %0 = comb.concat %a, %b : i1, i1
   %1 = comb.extract %0 from 1 : (i2) -> i1
@@ -370,7 +402,8 @@ hw.module @p(in %a : i1, in %b : i1, in %c : i1, out o : i1) {
 hw.module @q(in %a : i1, in %b : i1, in %c : i1, out o : i1) {
   hw.output %a : i1
 }
-// ----- the first operand has the high bits
+// -----
+// the high half of a concat of one bit, against the second operand
 hw.module @p(in %a : i1, in %b : i1, in %c : i1, out o : i1) {
   %0 = comb.concat %a, %b : i1, i1
   %1 = comb.extract %0 from 1 : (i2) -> i1
@@ -380,6 +413,7 @@ hw.module @q(in %a : i1, in %b : i1, in %c : i1, out o : i1) {
   hw.output %b : i1
 }
 // -----
+// the low half of a concat of one bit, against the second operand
 hw.module @p(in %a : i1, in %b : i1, in %c : i1, out o : i1) {
   %0 = comb.concat %a, %b : i1, i1
   %1 = comb.extract %0 from 0 : (i2) -> i1
@@ -389,6 +423,7 @@ hw.module @q(in %a : i1, in %b : i1, in %c : i1, out o : i1) {
   hw.output %b : i1
 }
 // -----
+// the low half of a concat of one bit, against the first operand
 hw.module @p(in %a : i1, in %b : i1, in %c : i1, out o : i1) {
   %0 = comb.concat %a, %b : i1, i1
   %1 = comb.extract %0 from 0 : (i2) -> i1
@@ -398,6 +433,7 @@ hw.module @q(in %a : i1, in %b : i1, in %c : i1, out o : i1) {
   hw.output %a : i1
 }
 // -----
+// two copies of one bit, against a concat of the value with itself
 hw.module @p(in %a : i1, in %b : i1, out o : i2) {
   %0 = comb.replicate %a : (i1) -> i2
   hw.output %0 : i2
@@ -407,6 +443,7 @@ hw.module @q(in %a : i1, in %b : i1, out o : i2) {
   hw.output %0 : i2
 }
 // -----
+// two copies of one bit, against a concat with another value
 hw.module @p(in %a : i1, in %b : i1, out o : i2) {
   %0 = comb.replicate %a : (i1) -> i2
   hw.output %0 : i2

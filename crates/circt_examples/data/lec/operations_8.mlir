@@ -1,4 +1,4 @@
-// -----
+// add of 8 bits, against sub of a negative
 hw.module @p(in %a : i8, in %b : i8, in %c : i1, out o : i8) {
   %0 = comb.add %a, %b : i8
   hw.output %0 : i8
@@ -10,6 +10,7 @@ hw.module @q(in %a : i8, in %b : i8, in %c : i1, out o : i8) {
   hw.output %1 : i8
 }
 // -----
+// add of 8 bits, against or
 hw.module @p(in %a : i8, in %b : i8, in %c : i1, out o : i8) {
   %0 = comb.add %a, %b : i8
   hw.output %0 : i8
@@ -19,6 +20,7 @@ hw.module @q(in %a : i8, in %b : i8, in %c : i1, out o : i8) {
   hw.output %0 : i8
 }
 // -----
+// sub of 8 bits, against an add between two complements
 hw.module @p(in %a : i8, in %b : i8, in %c : i1, out o : i8) {
   %0 = comb.sub %a, %b : i8
   hw.output %0 : i8
@@ -31,6 +33,7 @@ hw.module @q(in %a : i8, in %b : i8, in %c : i1, out o : i8) {
   hw.output %2 : i8
 }
 // -----
+// sub of 8 bits, against an add after one complement
 hw.module @p(in %a : i8, in %b : i8, in %c : i1, out o : i8) {
   %0 = comb.sub %a, %b : i8
   hw.output %0 : i8
@@ -42,6 +45,7 @@ hw.module @q(in %a : i8, in %b : i8, in %c : i1, out o : i8) {
   hw.output %1 : i8
 }
 // -----
+// mul of 8 bits by -1, against 0 less the value
 hw.module @p(in %a : i8, in %b : i8, in %c : i1, out o : i8) {
   %ones = hw.constant -1 : i8
   %0 = comb.mul %a, %ones : i8
@@ -53,6 +57,7 @@ hw.module @q(in %a : i8, in %b : i8, in %c : i1, out o : i8) {
   hw.output %0 : i8
 }
 // -----
+// mul of 8 bits by -1, against the complement
 hw.module @p(in %a : i8, in %b : i8, in %c : i1, out o : i8) {
   %ones = hw.constant -1 : i8
   %0 = comb.mul %a, %ones : i8
@@ -64,6 +69,7 @@ hw.module @q(in %a : i8, in %b : i8, in %c : i1, out o : i8) {
   hw.output %0 : i8
 }
 // -----
+// mul of 8 bits by copies of a bit, against a mux of 0 less the value and 0
 hw.module @p(in %a : i8, in %b : i8, in %c : i1, out o : i8) {
   %bit = comb.replicate %c : (i1) -> i8
   %0 = comb.mul %a, %bit : i8
@@ -76,6 +82,7 @@ hw.module @q(in %a : i8, in %b : i8, in %c : i1, out o : i8) {
   hw.output %1 : i8
 }
 // -----
+// mul of 8 bits by copies of a bit, against a mux of 0 less the value and another value
 hw.module @p(in %a : i8, in %b : i8, in %c : i1, out o : i8) {
   %bit = comb.replicate %c : (i1) -> i8
   %0 = comb.mul %a, %bit : i8
@@ -87,7 +94,8 @@ hw.module @q(in %a : i8, in %b : i8, in %c : i1, out o : i8) {
   %1 = comb.mux %c, %0, %b : i8
   hw.output %1 : i8
 }
-// ----- all ones are contained in themselves alone
+// -----
+// divu of 8 bits by all ones, against whether the value is all ones
 hw.module @p(in %a : i8, in %b : i8, in %c : i1, out o : i8) {
   %ones = hw.constant -1 : i8
   %0 = comb.divu %a, %ones : i8
@@ -101,7 +109,8 @@ hw.module @q(in %a : i8, in %b : i8, in %c : i1, out o : i8) {
   %1 = comb.mux %0, %one, %zero : i8
   hw.output %1 : i8
 }
-// ----- all ones are contained in themselves alone
+// -----
+// divu of 8 bits by all ones, against whether another value is all ones
 hw.module @p(in %a : i8, in %b : i8, in %c : i1, out o : i8) {
   %ones = hw.constant -1 : i8
   %0 = comb.divu %a, %ones : i8
@@ -116,6 +125,7 @@ hw.module @q(in %a : i8, in %b : i8, in %c : i1, out o : i8) {
   hw.output %1 : i8
 }
 // -----
+// modu of 8 bits by all ones, against 0 for all ones and else the value
 hw.module @p(in %a : i8, in %b : i8, in %c : i1, out o : i8) {
   %ones = hw.constant -1 : i8
   %0 = comb.modu %a, %ones : i8
@@ -129,6 +139,7 @@ hw.module @q(in %a : i8, in %b : i8, in %c : i1, out o : i8) {
   hw.output %1 : i8
 }
 // -----
+// modu of 8 bits by all ones, against the value
 hw.module @p(in %a : i8, in %b : i8, in %c : i1, out o : i8) {
   %ones = hw.constant -1 : i8
   %0 = comb.modu %a, %ones : i8
@@ -137,7 +148,8 @@ hw.module @p(in %a : i8, in %b : i8, in %c : i1, out o : i8) {
 hw.module @q(in %a : i8, in %b : i8, in %c : i1, out o : i8) {
   hw.output %a : i8
 }
-// ----- -1 divides each word; the least one, which has no negative, gives itself
+// -----
+// divs of 8 bits by -1, against 0 less the value: the least word gives itself
 hw.module @p(in %a : i8, in %b : i8, in %c : i1, out o : i8) {
   %ones = hw.constant -1 : i8
   %0 = comb.divs %a, %ones : i8
@@ -148,7 +160,8 @@ hw.module @q(in %a : i8, in %b : i8, in %c : i1, out o : i8) {
   %0 = comb.sub %zero, %a : i8
   hw.output %0 : i8
 }
-// ----- -1 divides each word; the least one, which has no negative, gives itself
+// -----
+// divs of 8 bits by -1, against the complement
 hw.module @p(in %a : i8, in %b : i8, in %c : i1, out o : i8) {
   %ones = hw.constant -1 : i8
   %0 = comb.divs %a, %ones : i8
@@ -160,6 +173,7 @@ hw.module @q(in %a : i8, in %b : i8, in %c : i1, out o : i8) {
   hw.output %0 : i8
 }
 // -----
+// mods of 8 bits by -1, against 0
 hw.module @p(in %a : i8, in %b : i8, in %c : i1, out o : i8) {
   %ones = hw.constant -1 : i8
   %0 = comb.mods %a, %ones : i8
@@ -170,6 +184,7 @@ hw.module @q(in %a : i8, in %b : i8, in %c : i1, out o : i8) {
   hw.output %zero : i8
 }
 // -----
+// mods of 8 bits by -1, against the value
 hw.module @p(in %a : i8, in %b : i8, in %c : i1, out o : i8) {
   %ones = hw.constant -1 : i8
   %0 = comb.mods %a, %ones : i8
@@ -178,7 +193,8 @@ hw.module @p(in %a : i8, in %b : i8, in %c : i1, out o : i8) {
 hw.module @q(in %a : i8, in %b : i8, in %c : i1, out o : i8) {
   hw.output %a : i8
 }
-// ----- a shift is one by a place, and the rest of it
+// -----
+// shl of 8 bits by a value, against one place and the rest, unless by 0
 hw.module @p(in %a : i8, in %b : i8, in %c : i1, out o : i8) {
   %0 = comb.shl %a, %b : i8
   hw.output %0 : i8
@@ -193,7 +209,8 @@ hw.module @q(in %a : i8, in %b : i8, in %c : i1, out o : i8) {
   %2 = comb.mux %none, %a, %1 : i8
   hw.output %2 : i8
 }
-// ----- a shift is one by a place, and the rest of it
+// -----
+// shl of 8 bits by a value, against one place and the rest, by 0 too
 hw.module @p(in %a : i8, in %b : i8, in %c : i1, out o : i8) {
   %0 = comb.shl %a, %b : i8
   hw.output %0 : i8
@@ -206,6 +223,7 @@ hw.module @q(in %a : i8, in %b : i8, in %c : i1, out o : i8) {
   hw.output %1 : i8
 }
 // -----
+// shru of 8 bits by a value, against one place and the rest, unless by 0
 hw.module @p(in %a : i8, in %b : i8, in %c : i1, out o : i8) {
   %0 = comb.shru %a, %b : i8
   hw.output %0 : i8
@@ -222,6 +240,7 @@ hw.module @q(in %a : i8, in %b : i8, in %c : i1, out o : i8) {
   hw.output %2 : i8
 }
 // -----
+// shru of 8 bits by a value, against shrs
 hw.module @p(in %a : i8, in %b : i8, in %c : i1, out o : i8) {
   %0 = comb.shru %a, %b : i8
   hw.output %0 : i8
@@ -231,6 +250,7 @@ hw.module @q(in %a : i8, in %b : i8, in %c : i1, out o : i8) {
   hw.output %0 : i8
 }
 // -----
+// shrs of 8 bits by a value, against shru of the value or between complements
 hw.module @p(in %a : i8, in %b : i8, in %c : i1, out o : i8) {
   %0 = comb.shrs %a, %b : i8
   hw.output %0 : i8
@@ -247,6 +267,7 @@ hw.module @q(in %a : i8, in %b : i8, in %c : i1, out o : i8) {
   hw.output %4 : i8
 }
 // -----
+// shrs of 8 bits by a value, against shru
 hw.module @p(in %a : i8, in %b : i8, in %c : i1, out o : i8) {
   %0 = comb.shrs %a, %b : i8
   hw.output %0 : i8
@@ -256,6 +277,7 @@ hw.module @q(in %a : i8, in %b : i8, in %c : i1, out o : i8) {
   hw.output %0 : i8
 }
 // -----
+// and of 8 bits, against a complement of an or of complements
 hw.module @p(in %a : i8, in %b : i8, in %c : i1, out o : i8) {
   %0 = comb.and %a, %b : i8
   hw.output %0 : i8
@@ -269,6 +291,7 @@ hw.module @q(in %a : i8, in %b : i8, in %c : i1, out o : i8) {
   hw.output %3 : i8
 }
 // -----
+// and of 8 bits, against or
 hw.module @p(in %a : i8, in %b : i8, in %c : i1, out o : i8) {
   %0 = comb.and %a, %b : i8
   hw.output %0 : i8
@@ -278,6 +301,7 @@ hw.module @q(in %a : i8, in %b : i8, in %c : i1, out o : i8) {
   hw.output %0 : i8
 }
 // -----
+// or of 8 bits, against an xor with the and
 hw.module @p(in %a : i8, in %b : i8, in %c : i1, out o : i8) {
   %0 = comb.or %a, %b : i8
   hw.output %0 : i8
@@ -288,6 +312,7 @@ hw.module @q(in %a : i8, in %b : i8, in %c : i1, out o : i8) {
   hw.output %1 : i8
 }
 // -----
+// or of 8 bits, against xor
 hw.module @p(in %a : i8, in %b : i8, in %c : i1, out o : i8) {
   %0 = comb.or %a, %b : i8
   hw.output %0 : i8
@@ -297,6 +322,7 @@ hw.module @q(in %a : i8, in %b : i8, in %c : i1, out o : i8) {
   hw.output %0 : i8
 }
 // -----
+// xor of 8 bits, against the or without the and
 hw.module @p(in %a : i8, in %b : i8, in %c : i1, out o : i8) {
   %0 = comb.xor %a, %b : i8
   hw.output %0 : i8
@@ -310,6 +336,7 @@ hw.module @q(in %a : i8, in %b : i8, in %c : i1, out o : i8) {
   hw.output %3 : i8
 }
 // -----
+// xor of 8 bits, against or
 hw.module @p(in %a : i8, in %b : i8, in %c : i1, out o : i8) {
   %0 = comb.xor %a, %b : i8
   hw.output %0 : i8
@@ -319,6 +346,7 @@ hw.module @q(in %a : i8, in %b : i8, in %c : i1, out o : i8) {
   hw.output %0 : i8
 }
 // -----
+// parity of 8 bits, against those of an xor and of the other value
 hw.module @p(in %a : i8, in %b : i8, in %c : i1, out o : i1) {
   %0 = comb.parity %a : i8
   hw.output %0 : i1
@@ -331,6 +359,7 @@ hw.module @q(in %a : i8, in %b : i8, in %c : i1, out o : i1) {
   hw.output %3 : i1
 }
 // -----
+// parity of 8 bits, against that of an xor
 hw.module @p(in %a : i8, in %b : i8, in %c : i1, out o : i1) {
   %0 = comb.parity %a : i8
   hw.output %0 : i1
@@ -341,6 +370,7 @@ hw.module @q(in %a : i8, in %b : i8, in %c : i1, out o : i1) {
   hw.output %1 : i1
 }
 // -----
+// mux of 8 bits, against masks by copies of the condition
 hw.module @p(in %a : i8, in %b : i8, in %c : i1, out o : i8) {
   %0 = comb.mux %c, %a, %b : i8
   hw.output %0 : i8
@@ -353,6 +383,7 @@ hw.module @q(in %a : i8, in %b : i8, in %c : i1, out o : i8) {
   hw.output %3 : i8
 }
 // -----
+// mux of 8 bits, against one of exchanged sides
 hw.module @p(in %a : i8, in %b : i8, in %c : i1, out o : i8) {
   %0 = comb.mux %c, %a, %b : i8
   hw.output %0 : i8
@@ -361,7 +392,8 @@ hw.module @q(in %a : i8, in %b : i8, in %c : i1, out o : i8) {
   %0 = comb.mux %c, %b, %a : i8
   hw.output %0 : i8
 }
-// ----- the first operand has the high bits
+// -----
+// the high half of a concat of 8 bits, against the first operand
 hw.module @p(in %a : i8, in %b : i8, in %c : i1, out o : i8) {
   %0 = comb.concat %a, %b : i8, i8
   %1 = comb.extract %0 from 8 : (i16) -> i8
@@ -370,7 +402,8 @@ hw.module @p(in %a : i8, in %b : i8, in %c : i1, out o : i8) {
 hw.module @q(in %a : i8, in %b : i8, in %c : i1, out o : i8) {
   hw.output %a : i8
 }
-// ----- the first operand has the high bits
+// -----
+// the high half of a concat of 8 bits, against the second operand
 hw.module @p(in %a : i8, in %b : i8, in %c : i1, out o : i8) {
   %0 = comb.concat %a, %b : i8, i8
   %1 = comb.extract %0 from 8 : (i16) -> i8
@@ -380,6 +413,7 @@ hw.module @q(in %a : i8, in %b : i8, in %c : i1, out o : i8) {
   hw.output %b : i8
 }
 // -----
+// the low half of a concat of 8 bits, against the second operand
 hw.module @p(in %a : i8, in %b : i8, in %c : i1, out o : i8) {
   %0 = comb.concat %a, %b : i8, i8
   %1 = comb.extract %0 from 0 : (i16) -> i8
@@ -389,6 +423,7 @@ hw.module @q(in %a : i8, in %b : i8, in %c : i1, out o : i8) {
   hw.output %b : i8
 }
 // -----
+// the low half of a concat of 8 bits, against the first operand
 hw.module @p(in %a : i8, in %b : i8, in %c : i1, out o : i8) {
   %0 = comb.concat %a, %b : i8, i8
   %1 = comb.extract %0 from 0 : (i16) -> i8
@@ -398,6 +433,7 @@ hw.module @q(in %a : i8, in %b : i8, in %c : i1, out o : i8) {
   hw.output %a : i8
 }
 // -----
+// two copies of 8 bits, against a concat of the value with itself
 hw.module @p(in %a : i8, in %b : i8, out o : i16) {
   %0 = comb.replicate %a : (i8) -> i16
   hw.output %0 : i16
@@ -407,6 +443,7 @@ hw.module @q(in %a : i8, in %b : i8, out o : i16) {
   hw.output %0 : i16
 }
 // -----
+// two copies of 8 bits, against a concat with another value
 hw.module @p(in %a : i8, in %b : i8, out o : i16) {
   %0 = comb.replicate %a : (i8) -> i16
   hw.output %0 : i16

@@ -1,4 +1,4 @@
-// -----
+// eq of one bit, against ule both ways
 hw.module @p(in %a : i1, in %b : i1, in %c : i1, out o : i1) {
   %0 = comb.icmp eq %a, %b : i1
   hw.output %0 : i1
@@ -10,6 +10,7 @@ hw.module @q(in %a : i1, in %b : i1, in %c : i1, out o : i1) {
   hw.output %2 : i1
 }
 // -----
+// eq of one bit, against ule
 hw.module @p(in %a : i1, in %b : i1, in %c : i1, out o : i1) {
   %0 = comb.icmp eq %a, %b : i1
   hw.output %0 : i1
@@ -19,6 +20,7 @@ hw.module @q(in %a : i1, in %b : i1, in %c : i1, out o : i1) {
   hw.output %0 : i1
 }
 // -----
+// ne of one bit, against slt one way or the other
 hw.module @p(in %a : i1, in %b : i1, in %c : i1, out o : i1) {
   %0 = comb.icmp ne %a, %b : i1
   hw.output %0 : i1
@@ -30,6 +32,7 @@ hw.module @q(in %a : i1, in %b : i1, in %c : i1, out o : i1) {
   hw.output %2 : i1
 }
 // -----
+// ne of one bit, against slt
 hw.module @p(in %a : i1, in %b : i1, in %c : i1, out o : i1) {
   %0 = comb.icmp ne %a, %b : i1
   hw.output %0 : i1
@@ -38,7 +41,8 @@ hw.module @q(in %a : i1, in %b : i1, in %c : i1, out o : i1) {
   %0 = comb.icmp slt %a, %b : i1
   hw.output %0 : i1
 }
-// ----- a sign that is turned makes the one order the other
+// -----
+// slt of one bit, against ult of words with their signs turned
 hw.module @p(in %a : i1, in %b : i1, in %c : i1, out o : i1) {
   %0 = comb.icmp slt %a, %b : i1
   hw.output %0 : i1
@@ -54,7 +58,8 @@ hw.module @q(in %a : i1, in %b : i1, in %c : i1, out o : i1) {
   %3 = comb.icmp ult %1, %2 : i1
   hw.output %3 : i1
 }
-// ----- a sign that is turned makes the one order the other
+// -----
+// slt of one bit, against ult
 hw.module @p(in %a : i1, in %b : i1, in %c : i1, out o : i1) {
   %0 = comb.icmp slt %a, %b : i1
   hw.output %0 : i1
@@ -64,6 +69,7 @@ hw.module @q(in %a : i1, in %b : i1, in %c : i1, out o : i1) {
   hw.output %0 : i1
 }
 // -----
+// sle of one bit, against sge of exchanged operands
 hw.module @p(in %a : i1, in %b : i1, in %c : i1, out o : i1) {
   %0 = comb.icmp sle %a, %b : i1
   hw.output %0 : i1
@@ -73,6 +79,7 @@ hw.module @q(in %a : i1, in %b : i1, in %c : i1, out o : i1) {
   hw.output %0 : i1
 }
 // -----
+// sle of one bit, against slt
 hw.module @p(in %a : i1, in %b : i1, in %c : i1, out o : i1) {
   %0 = comb.icmp sle %a, %b : i1
   hw.output %0 : i1
@@ -82,6 +89,7 @@ hw.module @q(in %a : i1, in %b : i1, in %c : i1, out o : i1) {
   hw.output %0 : i1
 }
 // -----
+// sgt of one bit, against the negation of sle
 hw.module @p(in %a : i1, in %b : i1, in %c : i1, out o : i1) {
   %0 = comb.icmp sgt %a, %b : i1
   hw.output %0 : i1
@@ -93,6 +101,7 @@ hw.module @q(in %a : i1, in %b : i1, in %c : i1, out o : i1) {
   hw.output %1 : i1
 }
 // -----
+// sgt of one bit, against sge
 hw.module @p(in %a : i1, in %b : i1, in %c : i1, out o : i1) {
   %0 = comb.icmp sgt %a, %b : i1
   hw.output %0 : i1
@@ -102,6 +111,7 @@ hw.module @q(in %a : i1, in %b : i1, in %c : i1, out o : i1) {
   hw.output %0 : i1
 }
 // -----
+// sge of one bit, against the negation of slt
 hw.module @p(in %a : i1, in %b : i1, in %c : i1, out o : i1) {
   %0 = comb.icmp sge %a, %b : i1
   hw.output %0 : i1
@@ -113,6 +123,7 @@ hw.module @q(in %a : i1, in %b : i1, in %c : i1, out o : i1) {
   hw.output %1 : i1
 }
 // -----
+// sge of one bit, against uge
 hw.module @p(in %a : i1, in %b : i1, in %c : i1, out o : i1) {
   %0 = comb.icmp sge %a, %b : i1
   hw.output %0 : i1
@@ -122,6 +133,7 @@ hw.module @q(in %a : i1, in %b : i1, in %c : i1, out o : i1) {
   hw.output %0 : i1
 }
 // -----
+// ult of one bit, against ugt of complements
 hw.module @p(in %a : i1, in %b : i1, in %c : i1, out o : i1) {
   %0 = comb.icmp ult %a, %b : i1
   hw.output %0 : i1
@@ -134,6 +146,7 @@ hw.module @q(in %a : i1, in %b : i1, in %c : i1, out o : i1) {
   hw.output %2 : i1
 }
 // -----
+// ult of one bit, against ule
 hw.module @p(in %a : i1, in %b : i1, in %c : i1, out o : i1) {
   %0 = comb.icmp ult %a, %b : i1
   hw.output %0 : i1
@@ -143,6 +156,7 @@ hw.module @q(in %a : i1, in %b : i1, in %c : i1, out o : i1) {
   hw.output %0 : i1
 }
 // -----
+// ule of one bit, against uge of exchanged operands
 hw.module @p(in %a : i1, in %b : i1, in %c : i1, out o : i1) {
   %0 = comb.icmp ule %a, %b : i1
   hw.output %0 : i1
@@ -152,6 +166,7 @@ hw.module @q(in %a : i1, in %b : i1, in %c : i1, out o : i1) {
   hw.output %0 : i1
 }
 // -----
+// ule of one bit, against ult
 hw.module @p(in %a : i1, in %b : i1, in %c : i1, out o : i1) {
   %0 = comb.icmp ule %a, %b : i1
   hw.output %0 : i1
@@ -161,6 +176,7 @@ hw.module @q(in %a : i1, in %b : i1, in %c : i1, out o : i1) {
   hw.output %0 : i1
 }
 // -----
+// ugt of one bit, against ult of exchanged operands
 hw.module @p(in %a : i1, in %b : i1, in %c : i1, out o : i1) {
   %0 = comb.icmp ugt %a, %b : i1
   hw.output %0 : i1
@@ -170,6 +186,7 @@ hw.module @q(in %a : i1, in %b : i1, in %c : i1, out o : i1) {
   hw.output %0 : i1
 }
 // -----
+// ugt of one bit, against ult
 hw.module @p(in %a : i1, in %b : i1, in %c : i1, out o : i1) {
   %0 = comb.icmp ugt %a, %b : i1
   hw.output %0 : i1
@@ -179,6 +196,7 @@ hw.module @q(in %a : i1, in %b : i1, in %c : i1, out o : i1) {
   hw.output %0 : i1
 }
 // -----
+// uge of one bit, against eq or ugt
 hw.module @p(in %a : i1, in %b : i1, in %c : i1, out o : i1) {
   %0 = comb.icmp uge %a, %b : i1
   hw.output %0 : i1
@@ -190,6 +208,7 @@ hw.module @q(in %a : i1, in %b : i1, in %c : i1, out o : i1) {
   hw.output %2 : i1
 }
 // -----
+// uge of one bit, against ugt
 hw.module @p(in %a : i1, in %b : i1, in %c : i1, out o : i1) {
   %0 = comb.icmp uge %a, %b : i1
   hw.output %0 : i1

@@ -1,4 +1,4 @@
-// -----
+// array_get of one element: its test, and else zero
 module {
   hw.module @T(in %a_0 : i8, in %i : i1, out o : i8) {
     %false = hw.constant false
@@ -9,6 +9,7 @@ module {
   }
 }
 // -----
+// array_get of two elements: the first test is the outermost, and the last choice is zero
 module {
   hw.module @T(in %a_1 : i8, in %a_0 : i8, in %i : i1, out o : i8) {
     %false = hw.constant false
@@ -22,6 +23,7 @@ module {
   }
 }
 // -----
+// array_get of three elements of the index's type: the zero has the name of its first constant and a number
 module {
   hw.module @T(in %a_2 : i2, in %a_1 : i2, in %a_0 : i2, in %i : i2, out o : i2) {
     %c0_i2 = hw.constant 0 : i2
@@ -38,6 +40,7 @@ module {
   }
 }
 // -----
+// array_get of five single bits
 module {
   hw.module @T(in %a_4 : i1, in %a_3 : i1, in %a_2 : i1, in %a_1 : i1, in %a_0 : i1, in %i : i3, out o : i1) {
     %c0_i3 = hw.constant 0 : i3
@@ -60,6 +63,7 @@ module {
   }
 }
 // -----
+// array_get of elements of two leaves: they share the tests, and each has a zero of its own
 module {
   hw.module @T(in %a_1_x : i8, in %a_1_y : i4, in %a_0_x : i8, in %a_0_y : i4, in %i : i1, out o_x : i8, out o_y : i4) {
     %false = hw.constant false
@@ -76,6 +80,7 @@ module {
   }
 }
 // -----
+// array_get of an element that is an array: its highest leaf comes first
 module {
   hw.module @T(in %a_0_1 : i8, in %a_0_0 : i8, in %i : i1, out o_1 : i8, out o_0 : i8) {
     %false = hw.constant false
@@ -88,6 +93,7 @@ module {
   }
 }
 // -----
+// array_inject of one element: one mux with its test
 module {
   hw.module @T(in %a_0 : i8, in %i : i1, in %v : i8, out o_0 : i8) {
     %false = hw.constant false
@@ -97,6 +103,7 @@ module {
   }
 }
 // -----
+// array_inject of two elements: the highest comes first
 module {
   hw.module @T(in %a_1 : i8, in %a_0 : i8, in %i : i1, in %v : i8, out o_1 : i8, out o_0 : i8) {
     %false = hw.constant false
@@ -109,6 +116,7 @@ module {
   }
 }
 // -----
+// array_inject of three elements
 module {
   hw.module @T(in %a_2 : i8, in %a_1 : i8, in %a_0 : i8, in %i : i2, in %v : i8, out o_2 : i8, out o_1 : i8, out o_0 : i8) {
     %c0_i2 = hw.constant 0 : i2
@@ -124,6 +132,7 @@ module {
   }
 }
 // -----
+// array_inject of five elements of 2 bits
 module {
   hw.module @T(in %a_4 : i2, in %a_3 : i2, in %a_2 : i2, in %a_1 : i2, in %a_0 : i2, in %i : i3, in %v : i2, out o_4 : i2, out o_3 : i2, out o_2 : i2, out o_1 : i2, out o_0 : i2) {
     %c0_i3 = hw.constant 0 : i3
@@ -145,6 +154,7 @@ module {
   }
 }
 // -----
+// array_inject of elements of two leaves, which share the test of their element
 module {
   hw.module @T(in %a_1_x : i8, in %a_1_y : i4, in %a_0_x : i8, in %a_0_y : i4, in %i : i1, in %v_x : i8, in %v_y : i4, out o_1_x : i8, out o_1_y : i4, out o_0_x : i8, out o_0_y : i4) {
     %false = hw.constant false

@@ -1,5 +1,5 @@
 // RUN: circt opt --hw-lower-aggregates
-// ----- before its module
+// an instance before its module
 module {
   hw.module @T(in %s : !hw.struct<x: i8, y: i4>, out o : !hw.array<2xi8>) {
     %u.p = hw.instance "u" @C(a: %s: !hw.struct<x: i8, y: i4>) -> (p: !hw.array<2xi8>)
@@ -11,7 +11,8 @@ module {
     hw.output %1 : !hw.array<2xi8>
   }
 }
-// ----- after its module, whose leaves' names are taken; symbol and dictionary stay, and so do integers and clocks
+// -----
+// an instance after its module, whose leaves' names are taken; symbol and dictionary stay, and so do integers and clocks
 module {
   hw.module @C(in %clk : !seq.clock, in %a : !hw.array<1xi8>, in %a_0 : i8, out a_1 : i8, out b : !hw.struct<x: i8>, out b_x : i8) {
     %r = seq.compreg %a, %clk : !hw.array<1xi8>
@@ -23,7 +24,8 @@ module {
     hw.output %u.a_1, %u.b : i8, !hw.struct<x: i8>
   }
 }
-// ----- two of one module, one after the other, through elements that are taken out and put in
+// -----
+// two instances of one module, one after the other, through elements that are taken out and put in
 module {
   hw.module private @C(in %a : !hw.array<2xi8>, out p : i8, out q : !hw.array<2xi8>) {
     %false = hw.constant false
@@ -37,7 +39,8 @@ module {
     hw.output %v.p : i8
   }
 }
-// ----- three deep
+// -----
+// instances three deep
 module {
   hw.module @A(in %s : !hw.struct<x: i1>, out o : !hw.struct<x: i1>) {
     %u.o = hw.instance "u" @B(s: %s: !hw.struct<x: i1>) -> (o: !hw.struct<x: i1>)
@@ -51,7 +54,8 @@ module {
     hw.output %u.o : !hw.struct<x: i1>
   }
 }
-// ----- of a module without them, with operands that lowered operations gave
+// -----
+// an instance of a module without aggregates, with operands that lowered operations gave
 module {
   hw.module @T(in %s : !hw.struct<x: i8, y: i8>, out o : i8) {
     %0:2 = hw.struct_explode %s : !hw.struct<x: i8, y: i8>

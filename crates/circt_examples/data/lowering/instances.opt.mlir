@@ -1,4 +1,4 @@
-// -----
+// an instance before its module
 module {
   hw.module @T(in %s_x : i8, in %s_y : i4, out o_1 : i8, out o_0 : i8) {
     %u.p_1, %u.p_0 = hw.instance "u" @C(a_x: %s_x: i8, a_y: %s_y: i4) -> (p_1: i8, p_0: i8)
@@ -9,6 +9,7 @@ module {
   }
 }
 // -----
+// an instance after its module, whose leaves' names are taken; symbol and dictionary stay, and so do integers and clocks
 module {
   hw.module @C(in %clk : !seq.clock, in %a_0 : i8, in %a_0_0 : i8, out a_1 : i8, out b_x : i8, out b_x_0 : i8) {
     %r_0 = seq.compreg %a_0, %clk : i8
@@ -20,6 +21,7 @@ module {
   }
 }
 // -----
+// two instances of one module, one after the other, through elements that are taken out and put in
 module {
   hw.module private @C(in %a_1 : i8, in %a_0 : i8, out p : i8, out q_1 : i8, out q_0 : i8) {
     %false = hw.constant false
@@ -39,6 +41,7 @@ module {
   }
 }
 // -----
+// instances three deep
 module {
   hw.module @A(in %s_x : i1, out o_x : i1) {
     %u.o_x = hw.instance "u" @B(s_x: %s_x: i1) -> (o_x: i1)
@@ -53,6 +56,7 @@ module {
   }
 }
 // -----
+// an instance of a module without aggregates, with operands that lowered operations gave
 module {
   hw.module @T(in %s_x : i8, in %s_y : i8, out o : i8) {
     %u.c = hw.instance "u" @Add8(a: %s_y: i8, b: %s_x: i8) -> (c: i8)

@@ -1,11 +1,12 @@
 // RUN: circt opt --hw-lower-aggregates
-// -----
+// an empty module
 module {
   hw.module @T() {
     hw.output
   }
 }
 // -----
+// operations on integers keep hints, dictionaries and the mark `bin`
 module {
   hw.module @T(in %clk : !seq.clock, in %a : i8, in %b : i8, out o : i8) attributes {k} {
     %0 = comb.add bin %a, %b {sv.namehint = "sum"} : i8
@@ -18,7 +19,8 @@ module {
     hw.output
   }
 }
-// ----- the same beside a struct
+// -----
+// operations on integers keep them beside a struct too
 module {
   hw.module @T(in %a : i8, in %s : !hw.struct<x: i8>, out o : i8) attributes {k} {
     %0 = hw.struct_extract %s["x"] {sv.namehint = "part"} : !hw.struct<x: i8>
@@ -27,7 +29,8 @@ module {
     hw.output %2 {e} : i8
   }
 }
-// ----- what is made has neither a hint nor a dictionary nor the mark `bin`
+// -----
+// what is made of aggregates has neither a hint nor a dictionary nor the mark `bin`
 module {
   hw.module @T(in %c : i1, in %a : !hw.array<1xi8>, out o : i8, out p : !hw.array<1xi8>) {
     %0 = hw.array_get %a[%c] {sv.namehint = "sel"} : !hw.array<1xi8>, i1
@@ -37,7 +40,8 @@ module {
     hw.output %0, %2 {e} : i8, !hw.array<1xi8>
   }
 }
-// ----- what nothing uses is made all the same
+// -----
+// what nothing uses is made all the same
 module {
   hw.module @T(in %c : i1, in %a : !hw.array<1xi8>) {
     %0 = hw.array_get %a[%c] : !hw.array<1xi8>, i1

@@ -1,10 +1,11 @@
-// -----
+// an empty module
 module {
   hw.module @T() {
     hw.output
   }
 }
 // -----
+// operations on integers keep hints, dictionaries and the mark `bin`
 module {
   hw.module @T(in %clk : !seq.clock, in %a : i8, in %b : i8, out o : i8) attributes {k} {
     %0 = comb.add bin %a, %b {sv.namehint = "sum"} : i8
@@ -18,6 +19,7 @@ module {
   }
 }
 // -----
+// operations on integers keep them beside a struct too
 module {
   hw.module @T(in %a : i8, in %s_x : i8, out o : i8) attributes {k} {
     %0 = comb.add bin %a, %s_x {sv.namehint = "sum"} : i8
@@ -26,6 +28,7 @@ module {
   }
 }
 // -----
+// what is made of aggregates has neither a hint nor a dictionary nor the mark `bin`
 module {
   hw.module @T(in %c : i1, in %a_0 : i8, out o : i8, out p_0 : i8) {
     %false = hw.constant false
@@ -39,6 +42,7 @@ module {
   }
 }
 // -----
+// what nothing uses is made all the same
 module {
   hw.module @T(in %c : i1, in %a_0 : i8) {
     %false = hw.constant false

@@ -1,4 +1,4 @@
-// -----
+// an aggregate_constant of one element
 module {
   hw.module @T(out o_0 : i8) {
     %c5_i8 = hw.constant 5 : i8
@@ -6,6 +6,7 @@ module {
   }
 }
 // -----
+// an aggregate_constant of two: the first literal is that of the highest index
 module {
   hw.module @T(out o_1 : i8, out o_0 : i8) {
     %c-1_i8 = hw.constant -1 : i8
@@ -14,6 +15,7 @@ module {
   }
 }
 // -----
+// an aggregate_constant of three: equal constants are not shared
 module {
   hw.module @T(out o_2 : i8, out o_1 : i8, out o_0 : i8) {
     %c7_i8 = hw.constant 7 : i8
@@ -23,6 +25,7 @@ module {
   }
 }
 // -----
+// an aggregate_constant of five single bits
 module {
   hw.module @T(out o_4 : i1, out o_3 : i1, out o_2 : i1, out o_1 : i1, out o_0 : i1) {
     %true = hw.constant true
@@ -34,6 +37,7 @@ module {
   }
 }
 // -----
+// an aggregate_constant of lists in lists
 module {
   hw.module @T(out o_p : i4, out o_q_1_x : i8, out o_q_1_y : i1, out o_q_0_x : i8, out o_q_0_y : i1) {
     %c1_i4 = hw.constant 1 : i4
@@ -45,6 +49,7 @@ module {
   }
 }
 // -----
+// a mux of arrays of one element
 module {
   hw.module @T(in %c : i1, in %x_0 : i8, in %y_0 : i8, out o_0 : i8) {
     %0 = comb.mux %c, %x_0, %y_0 : i8
@@ -52,6 +57,7 @@ module {
   }
 }
 // -----
+// a mux of arrays of three elements
 module {
   hw.module @T(in %c : i1, in %x_2 : i8, in %x_1 : i8, in %x_0 : i8, in %y_2 : i8, in %y_1 : i8, in %y_0 : i8, out o_2 : i8, out o_1 : i8, out o_0 : i8) {
     %0 = comb.mux %c, %x_2, %y_2 : i8
@@ -61,6 +67,7 @@ module {
   }
 }
 // -----
+// a mux of an array of five elements and itself
 module {
   hw.module @T(in %c : i1, in %x_4 : i2, in %x_3 : i2, in %x_2 : i2, in %x_1 : i2, in %x_0 : i2, out o_4 : i2, out o_3 : i2, out o_2 : i2, out o_1 : i2, out o_0 : i2) {
     %0 = comb.mux %c, %x_4, %x_4 : i2
@@ -72,6 +79,7 @@ module {
   }
 }
 // -----
+// a mux of structs that are made, with a condition that is taken out
 module {
   hw.module @T(in %s_c : i1, in %s_v : i8, in %a : i8, out o : i8) {
     %0 = comb.mux %s_c, %s_c, %s_c : i1
@@ -80,6 +88,7 @@ module {
   }
 }
 // -----
+// a wire of an array of structs: its leaves have names after its own
 module {
   hw.module @T(in %a_1_x : i8, in %a_1_y : i4, in %a_0_x : i8, in %a_0_y : i4, out o_1_x : i8, out o_1_y : i4, out o_0_x : i8, out o_0_y : i4) {
     %w_1_x = hw.wire %a_1_x : i8
@@ -90,6 +99,7 @@ module {
   }
 }
 // -----
+// a wire without a name: its leaves have none
 module {
   hw.module @T(in %a_2 : i8, in %a_1 : i8, in %a_0 : i8, out o_2 : i8, out o_1 : i8, out o_0 : i8) {
     %0 = hw.wire %a_2 : i8
@@ -99,6 +109,7 @@ module {
   }
 }
 // -----
+// a wire with a name that is no value's name
 module {
   hw.module @T(in %a_x : i8, out o_x : i8) {
     %_a_b_x = hw.wire %a_x {name = "a b_x"} : i8
@@ -106,6 +117,7 @@ module {
   }
 }
 // -----
+// a wire of an integer that a lowered operation gave
 module {
   hw.module @T(in %s_x : i8, out o : i8) {
     %w = hw.wire %s_x {k} : i8

@@ -1,5 +1,5 @@
 // RUN: circt opt --hw-lower-aggregates --seq-lower-regs
-// ----- Leaves first: the multiplexers of the enable and of the reset stand before each leaf.
+// leaves first: the muxes of the enable and of the reset stand before each leaf
 module {
   hw.module @T(in %clk : !seq.clock, in %rst : i1, in %en : i1, in %d : !hw.struct<x: i4, y: i4>, in %v : !hw.struct<x: i4, y: i4>, out q : !hw.struct<x: i4, y: i4>) {
     %r = seq.compreg.ce %d, %clk, %en reset %rst, %v : !hw.struct<x: i4, y: i4>

@@ -1,4 +1,4 @@
-// -----
+// registers first: the muxes of the struct become those of its leaves, each in its place
 module {
   hw.module @T(in %clk : !seq.clock, in %rst : i1, in %en : i1, in %d_x : i4, in %d_y : i4, in %v_x : i4, in %v_y : i4, out q_x : i4, out q_y : i4) {
     %0 = comb.mux %en, %d_x, %r_x : i4

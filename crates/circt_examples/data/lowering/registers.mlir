@@ -1,19 +1,21 @@
 // RUN: circt opt --hw-lower-aggregates
-// -----
+// a register of an array of one element
 module {
   hw.module @T(in %clk : !seq.clock, in %d : !hw.array<1xi8>, out q : !hw.array<1xi8>) {
     %r = seq.compreg %d, %clk : !hw.array<1xi8>
     hw.output %r : !hw.array<1xi8>
   }
 }
-// ----- with enable and reset
+// -----
+// a register of an array with enable and reset
 module {
   hw.module @T(in %clk : !seq.clock, in %rst : i1, in %en : i1, in %d : !hw.array<2xi8>, in %v : !hw.array<2xi8>, out q : !hw.array<2xi8>) {
     %r = seq.compreg.ce %d, %clk, %en reset %rst, %v : !hw.array<2xi8>
     hw.output %r : !hw.array<2xi8>
   }
 }
-// ----- with one of both
+// -----
+// a register with an enable, and one with a reset
 module {
   hw.module @T(in %clk : !seq.clock, in %en : i1, in %d : !hw.array<3xi1>, out q : !hw.array<3xi1>, out p : !hw.array<3xi1>) {
     %r = seq.compreg.ce %d, %clk, %en : !hw.array<3xi1>
@@ -21,14 +23,16 @@ module {
     hw.output %r, %s : !hw.array<3xi1>, !hw.array<3xi1>
   }
 }
-// ----- with a synchronous reset in the other form, of five elements
+// -----
+// a seq.firreg of five elements with a synchronous reset
 module {
   hw.module @T(in %clk : !seq.clock, in %rst : i1, in %d : !hw.array<5xi2>, out q : !hw.array<5xi2>) {
     %r = seq.firreg %d clock %clk reset sync %rst, %d : !hw.array<5xi2>
     hw.output %r : !hw.array<5xi2>
   }
 }
-// ----- with an asynchronous reset, whose value is a constant for each leaf
+// -----
+// a seq.firreg with an asynchronous reset, whose value is a constant for each leaf
 module {
   hw.module @T(in %clk : !seq.clock, in %rst : i1, in %d : !hw.struct<x: i8, y: !hw.array<2xi4>>, out q : !hw.struct<x: i8, y: !hw.array<2xi4>>) {
     %r = seq.firreg %d clock %clk reset async %rst, %0 : !hw.struct<x: i8, y: !hw.array<2xi4>>
@@ -36,14 +40,16 @@ module {
     hw.output %r : !hw.struct<x: i8, y: !hw.array<2xi4>>
   }
 }
-// ----- without a name, and with a dictionary, which goes
+// -----
+// a seq.firreg without a name, and with a dictionary, which goes
 module {
   hw.module @T(in %clk : !seq.clock, in %d : !hw.struct<x: i4, y: i4>, out q : !hw.struct<x: i4, y: i4>) {
     %0 = seq.firreg %d clock %clk {k, sv.namehint = "h"} : !hw.struct<x: i4, y: i4>
     hw.output %0 : !hw.struct<x: i4, y: i4>
   }
 }
-// ----- registers that take one another's values, changed
+// -----
+// registers that take one another's values, changed
 module {
   hw.module @T(in %clk : !seq.clock, in %i : i1, in %v : i8, out q : !hw.array<2xi8>) {
     %r = seq.compreg %0, %clk : !hw.array<2xi8>
@@ -52,7 +58,8 @@ module {
     hw.output %s : !hw.array<2xi8>
   }
 }
-// ----- names of leaves that are taken
+// -----
+// names of a register's leaves that are taken
 module {
   hw.module @T(in %clk : !seq.clock, in %d : !hw.struct<x: i4>, in %e : i4) {
     %r = seq.compreg %d, %clk : !hw.struct<x: i4>
@@ -60,7 +67,8 @@ module {
     hw.output
   }
 }
-// ----- a register of an integer beside them, with operands that lowered operations gave, keeps its dictionary
+// -----
+// a register of an integer beside them, with operands that lowered operations gave, keeps its dictionary
 module {
   hw.module @T(in %clk : !seq.clock, in %s : !hw.struct<d: i8, en: i1, rst: i1, v: i8>, out q : i8) {
     %0:4 = hw.struct_explode %s : !hw.struct<d: i8, en: i1, rst: i1, v: i8>

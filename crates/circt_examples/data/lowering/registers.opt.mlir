@@ -1,4 +1,4 @@
-// -----
+// a register of an array of one element
 module {
   hw.module @T(in %clk : !seq.clock, in %d_0 : i8, out q_0 : i8) {
     %r_0 = seq.compreg %d_0, %clk : i8
@@ -6,6 +6,7 @@ module {
   }
 }
 // -----
+// a register of an array with enable and reset
 module {
   hw.module @T(in %clk : !seq.clock, in %rst : i1, in %en : i1, in %d_1 : i8, in %d_0 : i8, in %v_1 : i8, in %v_0 : i8, out q_1 : i8, out q_0 : i8) {
     %r_1 = seq.compreg.ce %d_1, %clk, %en reset %rst, %v_1 : i8
@@ -14,6 +15,7 @@ module {
   }
 }
 // -----
+// a register with an enable, and one with a reset
 module {
   hw.module @T(in %clk : !seq.clock, in %en : i1, in %d_2 : i1, in %d_1 : i1, in %d_0 : i1, out q_2 : i1, out q_1 : i1, out q_0 : i1, out p_2 : i1, out p_1 : i1, out p_0 : i1) {
     %r_2 = seq.compreg.ce %d_2, %clk, %en : i1
@@ -26,6 +28,7 @@ module {
   }
 }
 // -----
+// a seq.firreg of five elements with a synchronous reset
 module {
   hw.module @T(in %clk : !seq.clock, in %rst : i1, in %d_4 : i2, in %d_3 : i2, in %d_2 : i2, in %d_1 : i2, in %d_0 : i2, out q_4 : i2, out q_3 : i2, out q_2 : i2, out q_1 : i2, out q_0 : i2) {
     %r_4 = seq.firreg %d_4 clock %clk reset sync %rst, %d_4 : i2
@@ -37,6 +40,7 @@ module {
   }
 }
 // -----
+// a seq.firreg with an asynchronous reset, whose value is a constant for each leaf
 module {
   hw.module @T(in %clk : !seq.clock, in %rst : i1, in %d_x : i8, in %d_y_1 : i4, in %d_y_0 : i4, out q_x : i8, out q_y_1 : i4, out q_y_0 : i4) {
     %r_x = seq.firreg %d_x clock %clk reset async %rst, %c1_i8 : i8
@@ -49,6 +53,7 @@ module {
   }
 }
 // -----
+// a seq.firreg without a name, and with a dictionary, which goes
 module {
   hw.module @T(in %clk : !seq.clock, in %d_x : i4, in %d_y : i4, out q_x : i4, out q_y : i4) {
     %0 = seq.firreg %d_x clock %clk : i4
@@ -57,6 +62,7 @@ module {
   }
 }
 // -----
+// registers that take one another's values, changed
 module {
   hw.module @T(in %clk : !seq.clock, in %i : i1, in %v : i8, out q_1 : i8, out q_0 : i8) {
     %r_1 = seq.compreg %2, %clk : i8
@@ -73,6 +79,7 @@ module {
   }
 }
 // -----
+// names of a register's leaves that are taken
 module {
   hw.module @T(in %clk : !seq.clock, in %d_x : i4, in %e : i4) {
     %r_x = seq.compreg %d_x, %clk : i4
@@ -81,6 +88,7 @@ module {
   }
 }
 // -----
+// a register of an integer beside them, with operands that lowered operations gave, keeps its dictionary
 module {
   hw.module @T(in %clk : !seq.clock, in %s_d : i8, in %s_en : i1, in %s_rst : i1, in %s_v : i8, out q : i8) {
     %r = seq.compreg.ce %s_d, %clk, %s_en reset %s_rst, %s_v {k} : i8

@@ -1,4 +1,4 @@
-// -----
+// array_slice of one element of one
 module {
   hw.module @T(in %a_0 : i8, in %i : i1, out o_0 : i8) {
     %false = hw.constant false
@@ -9,6 +9,7 @@ module {
   }
 }
 // -----
+// array_slice of one element of two
 module {
   hw.module @T(in %a_1 : i8, in %a_0 : i8, in %i : i1, out o_0 : i8) {
     %false = hw.constant false
@@ -22,6 +23,7 @@ module {
   }
 }
 // -----
+// array_slice of the whole array of two: the last test decides element 0 alone
 module {
   hw.module @T(in %a_1 : i8, in %a_0 : i8, in %i : i1, out o_1 : i8, out o_0 : i8) {
     %false = hw.constant false
@@ -37,6 +39,7 @@ module {
   }
 }
 // -----
+// array_slice of two elements of three
 module {
   hw.module @T(in %a_2 : i8, in %a_1 : i8, in %a_0 : i8, in %i : i2, out o_1 : i8, out o_0 : i8) {
     %c0_i2 = hw.constant 0 : i2
@@ -56,6 +59,7 @@ module {
   }
 }
 // -----
+// array_slice of three elements of five
 module {
   hw.module @T(in %a_4 : i4, in %a_3 : i4, in %a_2 : i4, in %a_1 : i4, in %a_0 : i4, in %i : i3, out o_2 : i4, out o_1 : i4, out o_0 : i4) {
     %c0_i3 = hw.constant 0 : i3
@@ -87,6 +91,7 @@ module {
   }
 }
 // -----
+// array_slice of elements of two leaves
 module {
   hw.module @T(in %a_1_x : i8, in %a_1_y : i4, in %a_0_x : i8, in %a_0_y : i4, in %i : i1, out o_1_x : i8, out o_1_y : i4, out o_0_x : i8, out o_0_y : i4) {
     %false = hw.constant false

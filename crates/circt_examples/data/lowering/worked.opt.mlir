@@ -1,4 +1,4 @@
-// -----
+// an element of an array of three
 module {
   hw.module @Pick(in %a_2 : i8, in %a_1 : i8, in %a_0 : i8, in %i : i2, out c : i8) {
     %c0_i2 = hw.constant 0 : i2
@@ -15,6 +15,7 @@ module {
   }
 }
 // -----
+// a struct taken apart below where its fields are used
 module {
   hw.module @E(in %s_x : i8, in %s_y : i8, out c : i8) {
     %0 = comb.sub %s_y, %s_x : i8
@@ -22,6 +23,7 @@ module {
   }
 }
 // -----
+// 16 bits to an array of two and to a struct
 module {
   hw.module @B(in %x : i16, out h : i8, out s_p : i8, out s_q : i8) {
     %true = hw.constant true
@@ -40,6 +42,7 @@ module {
   }
 }
 // -----
+// a register of a struct
 module {
   hw.module @L(in %clk : !seq.clock, in %d_x : i4, in %d_y : i4, out q_x : i4, out q_y : i4) {
     %r_x = seq.compreg %d_x, %clk : i4
@@ -48,6 +51,7 @@ module {
   }
 }
 // -----
+// a register of an integer has one leaf
 module {
   hw.module @Reg(in %clk : !seq.clock, in %rst : i1, in %en : i1, in %d : i8, out q : i8) {
     %c9_i8 = hw.constant 9 : i8

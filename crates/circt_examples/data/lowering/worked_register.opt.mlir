@@ -1,4 +1,4 @@
-// -----
+// a register of an integer with enable and reset, which become muxes
 module {
   hw.module @Reg(in %clk : !seq.clock, in %rst : i1, in %en : i1, in %d : i8, out q : i8) {
     %c9_i8 = hw.constant 9 : i8

@@ -1,6 +1,6 @@
 // RUN: circt opt --symbol-dce
 // RUN: circt opt --pass-pipeline=builtin.module(hw.module(cse),symbol-dce,cse,symbol-dce)
-// ----- a private module that nothing instances
+// a private module that nothing instances goes
 module {
   hw.module @T(in %a : i8, out o : i8) {
     hw.output %a : i8
@@ -10,7 +10,8 @@ module {
     hw.output %r : i1
   }
 }
-// ----- three deep: what a public one reaches stays, what only private ones reach goes, in any order
+// -----
+// three deep: what a public one reaches stays, what only private ones reach goes, in any order
 module {
   hw.module @T(in %a : i8, out o : i8) {
     %u.o = hw.instance "u" @B(a: %a: i8) -> (o: i8)
@@ -36,7 +37,8 @@ module {
     hw.output %a : i8
   }
 }
-// ----- public modules stay, instanced or not
+// -----
+// public modules stay, instanced or not
 module {
   hw.module @T(in %a : i8, out o : i8) {
     %u.o = hw.instance "u" @B(a: %a: i8) -> (o: i8)
@@ -49,7 +51,8 @@ module {
     hw.output %a : i8
   }
 }
-// ----- a private module that a public one reaches that nothing instances
+// -----
+// a private module stays that is reached by a public one that nothing instances
 module {
   hw.module @T(in %a : i8, out o : i8) {
     hw.output %a : i8

@@ -1,10 +1,11 @@
-// -----
+// a private module that nothing instances goes
 module {
   hw.module @T(in %a : i8, out o : i8) {
     hw.output %a : i8
   }
 }
 // -----
+// three deep: what a public one reaches stays, what only private ones reach goes, in any order
 module {
   hw.module @T(in %a : i8, out o : i8) {
     %u.o = hw.instance "u" @B(a: %a: i8) -> (o: i8)
@@ -19,6 +20,7 @@ module {
   }
 }
 // -----
+// public modules stay, instanced or not
 module {
   hw.module @T(in %a : i8, out o : i8) {
     %u.o = hw.instance "u" @B(a: %a: i8) -> (o: i8)
@@ -32,6 +34,7 @@ module {
   }
 }
 // -----
+// a private module stays that is reached by a public one that nothing instances
 module {
   hw.module @T(in %a : i8, out o : i8) {
     hw.output %a : i8

@@ -1,5 +1,5 @@
 // RUN: circt opt --symbol-dce
-// ----- an instance whose results nothing uses keeps its module, and operations stay as they are
+// an instance whose results nothing uses keeps its module, and operations stay as they are
 module {
   hw.module @T(in %a : i8, out o : i8) {
     %u.o = hw.instance "u" @C(a: %a: i8) -> (o: i8)

@@ -1,6 +1,5 @@
 // RUN: circt opt --cse
-// ----- Equal operations.
-// the first one in text order stays, with its dictionary
+// of two equal sums the first in text order stays, with its dictionary
 module {
   hw.module @T(in %a : i8, in %b : i8, out o : i8) {
     %0 = comb.add %a, %b {x} : i8
@@ -9,7 +8,8 @@ module {
     hw.output %2 : i8
   }
 }
-// ----- also where it has no use itself
+// -----
+// of two equal sums the first stays, also where it has no use itself
 module {
   hw.module @T(in %a : i8, in %b : i8, out o : i8) {
     %0 = comb.add %a, %b {x} : i8
@@ -17,7 +17,8 @@ module {
     hw.output %1 : i8
   }
 }
-// ----- three of them, and operations that become equal by that
+// -----
+// three equal operations, and operations that become equal by that
 module {
   hw.module @T(in %a : i128, in %b : i128, in %c : i128, out o : i128, out p : i128, out q : i128) {
     %0 = comb.and %a, %b : i128
@@ -29,7 +30,8 @@ module {
     hw.output %2, %3, %5 : i128, i128, i128
   }
 }
-// ----- also where they stand above the operations that were merged
+// -----
+// operations that become equal stand above the operations that were merged
 module {
   hw.module @T(in %a : i8, in %b : i8, in %c : i8, out o : i8, out p : i8) {
     %0 = comb.mul %2, %c : i8
@@ -39,7 +41,8 @@ module {
     hw.output %0, %1 : i8, i8
   }
 }
-// ----- where one above the merged ones is made equal to one after it
+// -----
+// one above the merged operations is made equal to one after it
 module {
   hw.module @T(in %a : i8, in %b : i8, in %c : i8, out o : i8, out p : i8) {
     %0 = comb.mul %2, %c : i8
@@ -49,7 +52,8 @@ module {
     hw.output %0, %3 : i8, i8
   }
 }
-// ----- and three deep, each above its operand
+// -----
+// equal operations three deep, each above its operand
 module {
   hw.module @T(in %a : i8, in %b : i8, out o : i1, out p : i1) {
     %0 = comb.parity %2 : i8
@@ -61,7 +65,8 @@ module {
     hw.output %0, %1 : i1, i1
   }
 }
-// ----- through a register
+// -----
+// equal operations on a register that one of them feeds
 module {
   hw.module @T(in %clk : !seq.clock, in %a : i8, out o : i8) {
     %r = seq.compreg %1, %clk : i8
@@ -70,7 +75,8 @@ module {
     hw.output %0 : i8
   }
 }
-// ----- constants of equal bits and one type
+// -----
+// constants of equal bits and one type
 module {
   hw.module @T(out o : i8, out p : i8, out q : i1, out r : i1) {
     %0 = hw.constant 255 : i8
@@ -80,7 +86,8 @@ module {
     hw.output %0, %1, %2, %3 : i8, i8, i1, i1
   }
 }
-// ----- results of one operation of several
+// -----
+// equal operations of several results
 module {
   hw.module @T(in %s : !hw.struct<x: i8, y: i8>, out o : i8) {
     %0:2 = hw.struct_explode %s : !hw.struct<x: i8, y: i8>
@@ -89,7 +96,8 @@ module {
     hw.output %2 : i8
   }
 }
-// ----- the mark `bin` is not compared
+// -----
+// the mark `bin` is not compared
 module {
   hw.module @T(in %a : i8, in %b : i8, out o : i8, out p : i8) {
     %0 = comb.add bin %a, %b : i8
@@ -97,7 +105,8 @@ module {
     hw.output %0, %1 : i8, i8
   }
 }
-// ----- parts of structs and arrays
+// -----
+// equal parts of structs and arrays
 module {
   hw.module @T(in %s : !hw.struct<x: i8, y: i8>, in %a : !hw.array<4xi8>, in %i : i2, out o : i8, out p : i8, out q : i8, out r : i8) {
     %0 = hw.struct_extract %s["y"] : !hw.struct<x: i8, y: i8>
@@ -107,7 +116,8 @@ module {
     hw.output %0, %1, %2, %3 : i8, i8, i8, i8
   }
 }
-// ----- constants of aggregate types
+// -----
+// equal constants of aggregate types
 module {
   hw.module @T(out o : !hw.array<2xi8>, out p : !hw.array<2xi8>, out q : !hw.array<2xi8>) {
     %0 = hw.aggregate_constant [1 : i8, 2 : i8] : !hw.array<2xi8>
@@ -116,7 +126,8 @@ module {
     hw.output %0, %1, %2 : !hw.array<2xi8>, !hw.array<2xi8>, !hw.array<2xi8>
   }
 }
-// ----- a body after another one
+// -----
+// equal operations in a body after another one
 module {
   hw.module @T(in %a : i8, out o : i8, out p : i8) {
     %0 = comb.mul %a, %a : i8
@@ -128,14 +139,16 @@ module {
     hw.output %0, %1 : i8, i8
   }
 }
-// ----- Operations without uses.
+// -----
+// an operation without uses goes
 module {
   hw.module @T(in %a : i8, out o : i8) {
     %0 = comb.add %a, %a : i8
     hw.output %a : i8
   }
 }
-// ----- a chain of them, in either order
+// -----
+// a chain of operations without uses goes, each after its operand
 module {
   hw.module @T(in %a : i8, in %b : i8, out o : i8) {
     %0 = comb.add %a, %b : i8
@@ -145,6 +158,7 @@ module {
   }
 }
 // -----
+// a chain of operations without uses goes, each before its operand
 module {
   hw.module @T(in %a : i8, in %b : i8, out o : i8) {
     %0 = comb.xor %1, %a : i8
@@ -153,7 +167,8 @@ module {
     hw.output %a : i8
   }
 }
-// ----- one result of two is used
+// -----
+// an operation of two results stays where one is used, and unused parts go
 module {
   hw.module @T(in %s : !hw.struct<x: i8, y: i8>, out o : i8) {
     %0:2 = hw.struct_explode %s : !hw.struct<x: i8, y: i8>

@@ -1,4 +1,4 @@
-// -----
+// of two equal sums the first in text order stays, with its dictionary
 module {
   hw.module @T(in %a : i8, in %b : i8, out o : i8) {
     %0 = comb.add %a, %b {x} : i8
@@ -7,6 +7,7 @@ module {
   }
 }
 // -----
+// of two equal sums the first stays, also where it has no use itself
 module {
   hw.module @T(in %a : i8, in %b : i8, out o : i8) {
     %0 = comb.add %a, %b {x} : i8
@@ -14,6 +15,7 @@ module {
   }
 }
 // -----
+// three equal operations, and operations that become equal by that
 module {
   hw.module @T(in %a : i128, in %b : i128, in %c : i128, out o : i128, out p : i128, out q : i128) {
     %0 = comb.and %a, %b : i128
@@ -22,6 +24,7 @@ module {
   }
 }
 // -----
+// operations that become equal stand above the operations that were merged
 module {
   hw.module @T(in %a : i8, in %b : i8, in %c : i8, out o : i8, out p : i8) {
     %0 = comb.mul %1, %c : i8
@@ -30,6 +33,7 @@ module {
   }
 }
 // -----
+// one above the merged operations is made equal to one after it
 module {
   hw.module @T(in %a : i8, in %b : i8, in %c : i8, out o : i8, out p : i8) {
     %0 = comb.mul %1, %c : i8
@@ -38,6 +42,7 @@ module {
   }
 }
 // -----
+// equal operations three deep, each above its operand
 module {
   hw.module @T(in %a : i8, in %b : i8, out o : i1, out p : i1) {
     %0 = comb.parity %1 : i8
@@ -47,6 +52,7 @@ module {
   }
 }
 // -----
+// equal operations on a register that one of them feeds
 module {
   hw.module @T(in %clk : !seq.clock, in %a : i8, out o : i8) {
     %r = seq.compreg %0, %clk : i8
@@ -55,6 +61,7 @@ module {
   }
 }
 // -----
+// constants of equal bits and one type
 module {
   hw.module @T(out o : i8, out p : i8, out q : i1, out r : i1) {
     %c-1_i8 = hw.constant -1 : i8
@@ -63,6 +70,7 @@ module {
   }
 }
 // -----
+// equal operations of several results
 module {
   hw.module @T(in %s : !hw.struct<x: i8, y: i8>, out o : i8) {
     %0:2 = hw.struct_explode %s : !hw.struct<x: i8, y: i8>
@@ -71,6 +79,7 @@ module {
   }
 }
 // -----
+// the mark `bin` is not compared
 module {
   hw.module @T(in %a : i8, in %b : i8, out o : i8, out p : i8) {
     %0 = comb.add bin %a, %b : i8
@@ -78,6 +87,7 @@ module {
   }
 }
 // -----
+// equal parts of structs and arrays
 module {
   hw.module @T(in %s : !hw.struct<x: i8, y: i8>, in %a : !hw.array<4xi8>, in %i : i2, out o : i8, out p : i8, out q : i8, out r : i8) {
     %0 = hw.struct_extract %s["y"] : !hw.struct<x: i8, y: i8>
@@ -86,6 +96,7 @@ module {
   }
 }
 // -----
+// equal constants of aggregate types
 module {
   hw.module @T(out o : !hw.array<2xi8>, out p : !hw.array<2xi8>, out q : !hw.array<2xi8>) {
     %0 = hw.aggregate_constant [1 : i8, 2 : i8] : !hw.array<2xi8>
@@ -94,6 +105,7 @@ module {
   }
 }
 // -----
+// equal operations in a body after another one
 module {
   hw.module @T(in %a : i8, out o : i8, out p : i8) {
     %0 = comb.mul %a, %a : i8
@@ -105,24 +117,28 @@ module {
   }
 }
 // -----
+// an operation without uses goes
 module {
   hw.module @T(in %a : i8, out o : i8) {
     hw.output %a : i8
   }
 }
 // -----
+// a chain of operations without uses goes, each after its operand
 module {
   hw.module @T(in %a : i8, in %b : i8, out o : i8) {
     hw.output %a : i8
   }
 }
 // -----
+// a chain of operations without uses goes, each before its operand
 module {
   hw.module @T(in %a : i8, in %b : i8, out o : i8) {
     hw.output %a : i8
   }
 }
 // -----
+// an operation of two results stays where one is used, and unused parts go
 module {
   hw.module @T(in %s : !hw.struct<x: i8, y: i8>, out o : i8) {
     %0:2 = hw.struct_explode %s : !hw.struct<x: i8, y: i8>

@@ -4,7 +4,7 @@
 // RUN: circt opt --hw-flatten-modules --workers=2
 // RUN: circt opt --hw-flatten-modules --workers=8
 // RUN: circt opt --hw-flatten-modules --workers=64
-// ----- two instances of one module, in their places
+// two instances of one module, in their places
 module {
   hw.module @T(in %clk : !seq.clock, in %rst : i1, in %en : i1, in %d : i8, out a : i8, out b : i8) {
     %u1.q = hw.instance "u1" @Reg(clk: %clk: !seq.clock, rst: %rst: i1, en: %en: i1, d: %d: i8) -> (q: i8)
@@ -17,7 +17,8 @@ module {
     hw.output %r : i8
   }
 }
-// ----- three deep, callees first; a module that nothing instances goes
+// -----
+// instances three deep, callees first; a module that nothing instances goes
 module {
   hw.module @T(in %clk : !seq.clock, in %d : i8, out q : i8) {
     %u.q = hw.instance "u" @A(clk: %clk: !seq.clock, d: %d: i8) -> (q: i8)
@@ -40,7 +41,8 @@ module {
     hw.output %s : i8
   }
 }
-// ----- an instance without a name
+// -----
+// an instance without a name
 module {
   hw.module @T(in %clk : !seq.clock, in %d : i8, out q : i8) {
     %u.q = hw.instance "u" @A(clk: %clk: !seq.clock, d: %d: i8) -> (q: i8)
@@ -55,7 +57,8 @@ module {
     hw.output %n : i8
   }
 }
-// ----- what has no name gets none
+// -----
+// a register without a name gets none
 module {
   hw.module @T(in %clk : !seq.clock, in %d : i8, out q : i8) {
     %u.q = hw.instance "u" @A(clk: %clk: !seq.clock, d: %d: i8) -> (q: i8)
@@ -67,7 +70,8 @@ module {
     hw.output %1 : i8
   }
 }
-// ----- an output that leads back into its instance through a register
+// -----
+// an output that leads back into its instance through a register
 module {
   hw.module @T(in %clk : !seq.clock, out q : i1) {
     %u.q = hw.instance "u" @D(clk: %clk: !seq.clock, d: %u.q: i1) -> (q: i1)
@@ -78,7 +82,8 @@ module {
     hw.output %r : i1
   }
 }
-// ----- outputs that are inputs, crossed and in a chain
+// -----
+// outputs that are inputs, crossed and in a chain
 module {
   hw.module @T(in %a : i8, in %b : i8, out o : i8, out p : i8) {
     %u.x, %u.y = hw.instance "u" @Cross(a: %a: i8, b: %u.x: i8) -> (x: i8, y: i8)
@@ -89,7 +94,8 @@ module {
     hw.output %a, %b : i8, i8
   }
 }
-// ----- values that stand above what they use
+// -----
+// values that stand above what they use
 module {
   hw.module @T(in %a : i8, out o : i8) {
     %0 = comb.mul %u.o, %a : i8
@@ -103,7 +109,8 @@ module {
     hw.output %0 : i8
   }
 }
-// ----- instances of public modules stay, also in what is inlined
+// -----
+// instances of public modules stay, also in what is inlined
 module {
   hw.module @T(in %a : i8, out o : i8, out p : i8) {
     %u.o = hw.instance "u" @P(a: %a: i8) -> (o: i8)
@@ -118,7 +125,8 @@ module {
     hw.output %a : i8
   }
 }
-// ----- hints and dictionaries: the instance's goes, those of what is inlined stay
+// -----
+// hints and dictionaries: the instance's goes, those of what is inlined stay
 module {
   hw.module @T(in %a : i8, out o : i8) {
     %u.o = hw.instance "u" @P(a: %a: i8) -> (o: i8) {k}
@@ -129,7 +137,8 @@ module {
     hw.output %0 : i8
   }
 }
-// ----- no private module
+// -----
+// no private module
 module {
   hw.module @T(in %a : i8, out o : i8) {
     %u.o = hw.instance "u" @Q(a: %a: i8) -> (o: i8)

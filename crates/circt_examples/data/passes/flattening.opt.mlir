@@ -1,4 +1,4 @@
-// -----
+// two instances of one module, in their places
 module {
   hw.module @T(in %clk : !seq.clock, in %rst : i1, in %en : i1, in %d : i8, out a : i8, out b : i8) {
     %c9_i8 = hw.constant 9 : i8
@@ -9,6 +9,7 @@ module {
   }
 }
 // -----
+// instances three deep, callees first; a module that nothing instances goes
 module {
   hw.module @T(in %clk : !seq.clock, in %d : i8, out q : i8) {
     %u_v_w_r = seq.compreg %d, %clk : i8
@@ -17,6 +18,7 @@ module {
   }
 }
 // -----
+// an instance without a name
 module {
   hw.module @T(in %clk : !seq.clock, in %d : i8, out q : i8) {
     %u__n = seq.compreg %d, %clk : i8
@@ -24,6 +26,7 @@ module {
   }
 }
 // -----
+// a register without a name gets none
 module {
   hw.module @T(in %clk : !seq.clock, in %d : i8, out q : i8) {
     %0 = seq.compreg %d, %clk : i8
@@ -32,6 +35,7 @@ module {
   }
 }
 // -----
+// an output that leads back into its instance through a register
 module {
   hw.module @T(in %clk : !seq.clock, out q : i1) {
     %u_r = seq.compreg %u_r, %clk : i1
@@ -39,12 +43,14 @@ module {
   }
 }
 // -----
+// outputs that are inputs, crossed and in a chain
 module {
   hw.module @T(in %a : i8, in %b : i8, out o : i8, out p : i8) {
     hw.output %a, %b : i8, i8
   }
 }
 // -----
+// values that stand above what they use
 module {
   hw.module @T(in %a : i8, out o : i8) {
     %0 = comb.mul %1, %a : i8
@@ -55,6 +61,7 @@ module {
   }
 }
 // -----
+// instances of public modules stay, also in what is inlined
 module {
   hw.module @T(in %a : i8, out o : i8, out p : i8) {
     %u_w.o = hw.instance "u_w" @Q(a: %a: i8) -> (o: i8)
@@ -66,6 +73,7 @@ module {
   }
 }
 // -----
+// hints and dictionaries: the instance's goes, those of what is inlined stay
 module {
   hw.module @T(in %a : i8, out o : i8) {
     %0 = comb.add %a, %a {j, sv.namehint = "u_sum"} : i8
@@ -73,6 +81,7 @@ module {
   }
 }
 // -----
+// no private module
 module {
   hw.module @T(in %a : i8, out o : i8) {
     %u.o = hw.instance "u" @Q(a: %a: i8) -> (o: i8)

@@ -1,6 +1,5 @@
 // RUN: circt opt --cse
-// ----- Operations that differ.
-// in kind, and in the order of operands
+// operations that differ in kind, in the order and in the number of operands
 module {
   hw.module @T(in %a : i8, in %b : i8, out o : i8, out p : i8, out q : i8, out r : i8) {
     %0 = comb.add %a, %b : i8
@@ -10,7 +9,8 @@ module {
     hw.output %0, %1, %2, %3 : i8, i8, i8, i8
   }
 }
-// ----- in the predicate, `ceq` and `eq` too
+// -----
+// comparisons that differ in the predicate, `ceq` and `eq` too
 module {
   hw.module @T(in %a : i8, in %b : i8, out o : i1, out p : i1, out q : i1, out r : i1, out s : i1) {
     %0 = comb.icmp eq %a, %b : i8
@@ -21,7 +21,8 @@ module {
     hw.output %0, %1, %2, %3, %4 : i1, i1, i1, i1, i1
   }
 }
-// ----- in the bits that are extracted
+// -----
+// extracts that differ in the bits
 module {
   hw.module @T(in %a : i8, out o : i4, out p : i4, out q : i2) {
     %0 = comb.extract %a from 0 : (i8) -> i4
@@ -30,7 +31,8 @@ module {
     hw.output %0, %1, %2 : i4, i4, i2
   }
 }
-// ----- in the type of the result, or the number
+// -----
+// constants that differ in the type or in the number
 module {
   hw.module @T(out o : i8, out p : i9, out q : i8) {
     %c5_i8 = hw.constant 5 : i8
@@ -40,6 +42,7 @@ module {
   }
 }
 // -----
+// copies that differ in their number
 module {
   hw.module @T(in %a : i8, out o : i16, out p : i24) {
     %0 = comb.replicate %a : (i8) -> i16
@@ -47,7 +50,8 @@ module {
     hw.output %0, %1 : i16, i24
   }
 }
-// ----- in the field
+// -----
+// parts that differ in the field
 module {
   hw.module @T(in %s : !hw.struct<x: i8, y: i8>, out o : i8, out p : i8) {
     %0 = hw.struct_extract %s["x"] : !hw.struct<x: i8, y: i8>
@@ -55,7 +59,8 @@ module {
     hw.output %0, %1 : i8, i8
   }
 }
-// ----- in an operand that is another result of one operation
+// -----
+// sums of different results of one operation
 module {
   hw.module @T(in %s : !hw.struct<x: i8, y: i8>, in %a : i8, out o : i8, out p : i8) {
     %0:2 = hw.struct_explode %s : !hw.struct<x: i8, y: i8>
@@ -64,7 +69,8 @@ module {
     hw.output %1, %2 : i8, i8
   }
 }
-// ----- in shifts and quotients with and without sign
+// -----
+// shifts and quotients with and without sign
 module {
   hw.module @T(in %a : i8, in %b : i8, out o : i8, out p : i8, out q : i8, out r : i8) {
     %c3_i8 = hw.constant 3 : i8
@@ -75,7 +81,7 @@ module {
     hw.output %0, %1, %2, %3 : i8, i8, i8, i8
   }
 }
-// ----- Operations that are not pure.
+// -----
 // equal registers both stay, and unused ones
 module {
   hw.module @T(in %clk : !seq.clock, in %d : i1, out o : i1, out p : i1) {
@@ -85,7 +91,8 @@ module {
     hw.output %r, %s : i1, i1
   }
 }
-// ----- equal wires
+// -----
+// equal wires both stay, and unused ones
 module {
   hw.module @T(in %a : i8, out o : i8, out p : i8) {
     %w = hw.wire %a : i8
@@ -94,7 +101,8 @@ module {
     hw.output %w, %x : i8, i8
   }
 }
-// ----- equal instances
+// -----
+// equal instances both stay, and unused ones
 module {
   hw.module @T(in %a : i8, out o : i8, out p : i8) {
     %u.o = hw.instance "u" @U(a: %a: i8) -> (o: i8)

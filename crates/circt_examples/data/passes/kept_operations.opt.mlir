@@ -1,4 +1,4 @@
-// -----
+// operations that differ in kind, in the order and in the number of operands
 module {
   hw.module @T(in %a : i8, in %b : i8, out o : i8, out p : i8, out q : i8, out r : i8) {
     %0 = comb.add %a, %b : i8
@@ -9,6 +9,7 @@ module {
   }
 }
 // -----
+// comparisons that differ in the predicate, `ceq` and `eq` too
 module {
   hw.module @T(in %a : i8, in %b : i8, out o : i1, out p : i1, out q : i1, out r : i1, out s : i1) {
     %0 = comb.icmp eq %a, %b : i8
@@ -20,6 +21,7 @@ module {
   }
 }
 // -----
+// extracts that differ in the bits
 module {
   hw.module @T(in %a : i8, out o : i4, out p : i4, out q : i2) {
     %0 = comb.extract %a from 0 : (i8) -> i4
@@ -29,6 +31,7 @@ module {
   }
 }
 // -----
+// constants that differ in the type or in the number
 module {
   hw.module @T(out o : i8, out p : i9, out q : i8) {
     %c5_i8 = hw.constant 5 : i8
@@ -38,6 +41,7 @@ module {
   }
 }
 // -----
+// copies that differ in their number
 module {
   hw.module @T(in %a : i8, out o : i16, out p : i24) {
     %0 = comb.replicate %a : (i8) -> i16
@@ -46,6 +50,7 @@ module {
   }
 }
 // -----
+// parts that differ in the field
 module {
   hw.module @T(in %s : !hw.struct<x: i8, y: i8>, out o : i8, out p : i8) {
     %0 = hw.struct_extract %s["x"] : !hw.struct<x: i8, y: i8>
@@ -54,6 +59,7 @@ module {
   }
 }
 // -----
+// sums of different results of one operation
 module {
   hw.module @T(in %s : !hw.struct<x: i8, y: i8>, in %a : i8, out o : i8, out p : i8) {
     %0:2 = hw.struct_explode %s : !hw.struct<x: i8, y: i8>
@@ -63,6 +69,7 @@ module {
   }
 }
 // -----
+// shifts and quotients with and without sign
 module {
   hw.module @T(in %a : i8, in %b : i8, out o : i8, out p : i8, out q : i8, out r : i8) {
     %c3_i8 = hw.constant 3 : i8
@@ -74,6 +81,7 @@ module {
   }
 }
 // -----
+// equal registers both stay, and unused ones
 module {
   hw.module @T(in %clk : !seq.clock, in %d : i1, out o : i1, out p : i1) {
     %r = seq.compreg %d, %clk : i1
@@ -83,6 +91,7 @@ module {
   }
 }
 // -----
+// equal wires both stay, and unused ones
 module {
   hw.module @T(in %a : i8, out o : i8, out p : i8) {
     %w = hw.wire %a : i8
@@ -92,6 +101,7 @@ module {
   }
 }
 // -----
+// equal instances both stay, and unused ones
 module {
   hw.module @T(in %a : i8, out o : i8, out p : i8) {
     %u.o = hw.instance "u" @U(a: %a: i8) -> (o: i8)

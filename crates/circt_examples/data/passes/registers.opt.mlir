@@ -1,4 +1,4 @@
-// -----
+// an enable and a reset become muxes, that of the enable first
 module {
   hw.module @T(in %clk : !seq.clock, in %rst : i1, in %en : i1, in %d : i8, out q : i8) {
     %c9_i8 = hw.constant 9 : i8
@@ -9,6 +9,7 @@ module {
   }
 }
 // -----
+// an enable alone, of 128 bits, with a dictionary
 module {
   hw.module @T(in %clk : !seq.clock, in %en : i1, in %d : i128, out q : i128) {
     %0 = comb.mux %en, %d, %r : i128
@@ -17,6 +18,7 @@ module {
   }
 }
 // -----
+// a reset alone, of one bit
 module {
   hw.module @T(in %clk : !seq.clock, in %rst : i1, in %d : i1, in %v : i1, out q : i1) {
     %0 = comb.mux %rst, %v, %d : i1
@@ -25,6 +27,7 @@ module {
   }
 }
 // -----
+// a synchronous reset of a seq.firreg
 module {
   hw.module @T(in %clk : !seq.clock, in %rst : i1, in %d : i8, in %v : i8, out q : i8) {
     %0 = comb.mux %rst, %v, %d : i8
@@ -33,6 +36,7 @@ module {
   }
 }
 // -----
+// registers that take one another's values
 module {
   hw.module @T(in %clk : !seq.clock, in %en : i1, out o : i8, out p : i8) {
     %0 = comb.mux %en, %s, %r : i8
@@ -43,6 +47,7 @@ module {
   }
 }
 // -----
+// a register that is its own enable, and one that is its own value
 module {
   hw.module @T(in %clk : !seq.clock, in %d : i1, out o : i1, out p : i8) {
     %0 = comb.mux %r, %d, %r : i1
@@ -54,6 +59,7 @@ module {
   }
 }
 // -----
+// a register without a name, and a sum of it
 module {
   hw.module @T(in %clk : !seq.clock, in %en : i1, in %d : i8, out o : i8, out p : i8) {
     %0 = comb.mux %en, %d, %1 : i8
@@ -63,6 +69,7 @@ module {
   }
 }
 // -----
+// registers of arrays and structs
 module {
   hw.module @T(in %clk : !seq.clock, in %en : i1, in %a : !hw.array<2xi8>, in %s : !hw.struct<x: i8>, out o : !hw.array<2xi8>, out p : !hw.struct<x: i8>) {
     %0 = comb.mux %en, %a, %r : !hw.array<2xi8>
@@ -73,6 +80,7 @@ module {
   }
 }
 // -----
+// a register of a private module, at its place
 module {
   hw.module @T(in %clk : !seq.clock, in %en : i1, in %d : i8, out q : i8) {
     %u.q = hw.instance "u" @P(clk: %clk: !seq.clock, en: %en: i1, d: %d: i8) -> (q: i8)
@@ -85,6 +93,7 @@ module {
   }
 }
 // -----
+// registers without enable and reset stay
 module {
   hw.module @T(in %clk : !seq.clock, in %d : i8, out o : i8, out p : i8) {
     %r = seq.compreg %d, %clk : i8
@@ -93,6 +102,7 @@ module {
   }
 }
 // -----
+// an asynchronous reset stays
 module {
   hw.module @T(in %clk : !seq.clock, in %rst : i1, in %d : i8, out q : i8) {
     %c9_i8 = hw.constant 9 : i8

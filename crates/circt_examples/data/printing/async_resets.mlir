@@ -1,16 +1,18 @@
-// ----- a dictionary, and a name
+// asynchronous resets, with a dictionary and with a name that is no value's name
 hw.module @T(in %clk : !seq.clock, in %rst : i1, in %d : i8, out q : i8) {
   %0 = hw.constant 9 : i8
   %1 = seq.firreg %d clock %clk reset async %rst, %0 {sv.namehint = "s", k} : i8
   %2 = seq.firreg %1 clock %clk reset async %rst, %0 {name = "x y"} : i8
   hw.output %2 : i8
 }
-// ----- a constant that stands later, and one of an array
+// -----
+// the reset's constant is of an array and stands later
 hw.module @T(in %clk : !seq.clock, in %rst : i1, in %d : !hw.array<2xi8>) {
   %r = seq.firreg %d clock %clk reset async %rst, %k : !hw.array<2xi8>
   %k = hw.aggregate_constant [1 : i8, 2 : i8] : !hw.array<2xi8>
 }
-// ----- the reset through two modules
+// -----
+// the reset goes through two modules
 hw.module private @Reg(in %clk : !seq.clock, in %rst : i1, in %d : i8, out q : i8) {
   %z = hw.constant 9 : i8
   %r = seq.firreg %d clock %clk reset async %rst, %z : i8

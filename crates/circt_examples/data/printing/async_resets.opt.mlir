@@ -1,4 +1,4 @@
-// -----
+// asynchronous resets, with a dictionary and with a name that is no value's name
 module {
   hw.module @T(in %clk : !seq.clock, in %rst : i1, in %d : i8, out q : i8) {
     %c9_i8 = hw.constant 9 : i8
@@ -8,6 +8,7 @@ module {
   }
 }
 // -----
+// the reset's constant is of an array and stands later
 module {
   hw.module @T(in %clk : !seq.clock, in %rst : i1, in %d : !hw.array<2xi8>) {
     %r = seq.firreg %d clock %clk reset async %rst, %0 : !hw.array<2xi8>
@@ -16,6 +17,7 @@ module {
   }
 }
 // -----
+// the reset goes through two modules
 module {
   hw.module private @Reg(in %clk : !seq.clock, in %rst : i1, in %d : i8, out q : i8) {
     %c9_i8 = hw.constant 9 : i8

@@ -1,25 +1,31 @@
+// an empty text
 // -----
-// -----
+// an empty list of modules
 module {
 }
 // -----
+// an empty module
 hw.module @M() {}
 // -----
+// a sum of 8 bits
 hw.module @Add8(in %a : i8, in %b : i8, out c : i8) {
   %0 = comb.add %a, %b : i8
   hw.output %0 : i8
 }
 // -----
+// a constant of 8 bits that is written 255
 hw.module @K(out c : i8) {
   %x = hw.constant 255 : i8
   hw.output %x : i8
 }
 // -----
+// ports with Verilog's reserved words as names
 hw.module @R(in %reg : i1, in %reg_0 : i1, out c : i1) {
   %0 = comb.and %reg, %reg_0 : i1
   hw.output %0 : i1
 }
 // -----
+// an instance whose output is its input, through a register
 hw.module private @D(in %clk : !seq.clock, in %d : i1, out q : i1) {
   %r = seq.compreg %d, %clk : i1
   hw.output %r : i1
@@ -29,6 +35,7 @@ hw.module @P(in %clk : !seq.clock, out o : i1) {
   hw.output %u.q : i1
 }
 // -----
+// two instances of a register with enable and reset, one after the other
 hw.module private @Reg(in %clk : !seq.clock, in %rst : i1, in %en : i1, in %d : i8, out q : i8) {
   %z = hw.constant 9 : i8
   %r = seq.compreg.ce %d, %clk, %en reset %rst, %z : i8
@@ -40,12 +47,14 @@ hw.module @Two(in %clk : !seq.clock, in %rst : i1, in %en : i1, in %d : i8, out 
   hw.output %u1.q, %u2.q : i8, i8
 }
 // -----
+// a struct taken apart below where its fields are used
 hw.module @E(in %s : !hw.struct<x: i8, y: i8>, out c : i8) {
   %1 = comb.sub %f#1, %f#0 : i8
   %f:2 = hw.struct_explode %s : !hw.struct<x: i8, y: i8>
   hw.output %1 : i8
 }
 // -----
+// 16 bits to an array of two and to a struct
 hw.module @B(in %x : i16, out h : i8, out s : !hw.struct<p: i8, q: i8>) {
   %i = hw.constant true
   %0 = hw.bitcast %x : (i16) -> !hw.array<2xi8>
@@ -54,15 +63,18 @@ hw.module @B(in %x : i16, out h : i8, out s : !hw.struct<p: i8, q: i8>) {
   hw.output %1, %2 : i8, !hw.struct<p: i8, q: i8>
 }
 // -----
+// a register of each of two clocks
 hw.module @C(in %c1 : !seq.clock, in %c2 : !seq.clock, in %d : i4, out o : i4) {
   %r = seq.compreg %d, %c1 : i4
   %s = seq.compreg %r, %c2 : i4
   hw.output %s : i4
 }
 // -----
+// two modules, the second private
 hw.module @A() {}
 hw.module private @B() {}
-// ----- modules that double up to the limit
+// -----
+// modules that double up to the limit
 hw.module @M0(in %a : i1, out b : i1) {
   hw.output %a : i1
 }

@@ -1,16 +1,19 @@
-// -----
+// an empty text
 module {
 }
 // -----
+// an empty list of modules
 module {
 }
 // -----
+// an empty module
 module {
   hw.module @M() {
     hw.output
   }
 }
 // -----
+// a sum of 8 bits
 module {
   hw.module @Add8(in %a : i8, in %b : i8, out c : i8) {
     %0 = comb.add %a, %b : i8
@@ -18,6 +21,7 @@ module {
   }
 }
 // -----
+// a constant of 8 bits that is written 255
 module {
   hw.module @K(out c : i8) {
     %c-1_i8 = hw.constant -1 : i8
@@ -25,6 +29,7 @@ module {
   }
 }
 // -----
+// ports with Verilog's reserved words as names
 module {
   hw.module @R(in %reg : i1, in %reg_0 : i1, out c : i1) {
     %0 = comb.and %reg, %reg_0 : i1
@@ -32,6 +37,7 @@ module {
   }
 }
 // -----
+// an instance whose output is its input, through a register
 module {
   hw.module private @D(in %clk : !seq.clock, in %d : i1, out q : i1) {
     %r = seq.compreg %d, %clk : i1
@@ -43,6 +49,7 @@ module {
   }
 }
 // -----
+// two instances of a register with enable and reset, one after the other
 module {
   hw.module private @Reg(in %clk : !seq.clock, in %rst : i1, in %en : i1, in %d : i8, out q : i8) {
     %c9_i8 = hw.constant 9 : i8
@@ -56,6 +63,7 @@ module {
   }
 }
 // -----
+// a struct taken apart below where its fields are used
 module {
   hw.module @E(in %s : !hw.struct<x: i8, y: i8>, out c : i8) {
     %0 = comb.sub %1#1, %1#0 : i8
@@ -64,6 +72,7 @@ module {
   }
 }
 // -----
+// 16 bits to an array of two and to a struct
 module {
   hw.module @B(in %x : i16, out h : i8, out s : !hw.struct<p: i8, q: i8>) {
     %true = hw.constant true
@@ -74,6 +83,7 @@ module {
   }
 }
 // -----
+// a register of each of two clocks
 module {
   hw.module @C(in %c1 : !seq.clock, in %c2 : !seq.clock, in %d : i4, out o : i4) {
     %r = seq.compreg %d, %c1 : i4
@@ -82,6 +92,7 @@ module {
   }
 }
 // -----
+// two modules, the second private
 module {
   hw.module @A() {
     hw.output
@@ -90,7 +101,8 @@ module {
     hw.output
   }
 }
-// ----- modules that double up to the limit
+// -----
+// modules that double up to the limit
 module {
   hw.module @M0(in %a : i1, out b : i1) {
     hw.output %a : i1

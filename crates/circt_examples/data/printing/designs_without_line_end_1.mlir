@@ -1,1 +1,2 @@
+// builtin.module with a name and a dictionary
 builtin.module @W attributes {a = 1} {}

@@ -1,2 +1,3 @@
+// builtin.module with a name and a dictionary
 module {
 }

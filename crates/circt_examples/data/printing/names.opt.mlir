@@ -1,16 +1,18 @@
-// -----
+// ports with numbers as values' names, and with quoted names
 module {
   hw.module @N(in %_0 "0" : i8, in %_x_y "x y" : i8, in %_ "" : i8, in %a : i8, out "o-p" : i8, out q : i8) {
     hw.output %_0, %_x_y : i8, i8
   }
 }
 // -----
+// ports whose names become one name of values
 module {
   hw.module @N(in %a.b : i8, in %a-b : i8, in %_a_b "a b" : i8, in %_a_b_0 "_a_b" : i8) {
     hw.output
   }
 }
 // -----
+// constants, whose names are made of their values, beside ports of such names
 module {
   hw.module @N(in %c5_i8 : i8, in %true : i1, out o : i8) {
     %c5_i8_0 = hw.constant 5 : i8
@@ -24,6 +26,7 @@ module {
   }
 }
 // -----
+// registers and wires with numbers, names, and an empty name
 module {
   hw.module @N(in %clk : !seq.clock, in %d : i8) {
     %r = seq.compreg %d, %clk : i8
@@ -38,6 +41,7 @@ module {
   }
 }
 // -----
+// registers with the names of ports
 module {
   hw.module @N(in %r : i8, in %r_0 : i8, in %clk : !seq.clock) {
     %r_1 = seq.compreg %r, %clk {name = "r"} : i8
@@ -46,6 +50,7 @@ module {
   }
 }
 // -----
+// modules, instances and ports with quoted names, several results by number
 module {
   hw.module @"a b"(in %d : i8, out q : i8, out "p-" : i8) {
     hw.output %d, %d : i8, i8
@@ -62,6 +67,7 @@ module {
   }
 }
 // -----
+// fields with quoted names
 module {
   hw.module @N(in %s : !hw.struct<"a b": i8>, in %t : !hw.struct<x: i8, y: i4>, out o : i8) {
     %0 = hw.struct_explode %s : !hw.struct<"a b": i8>

@@ -1,4 +1,4 @@
-// -----
+// each operation on integers, some with `bin`
 hw.module @I(in %a : i8, in %b : i8, in %c : i1, out o : i8) {
   %c-3_i8 = hw.constant -3 : i8
   %0 = comb.mul %a, %b, %a : i8
@@ -22,6 +22,7 @@ hw.module @I(in %a : i8, in %b : i8, in %c : i1, out o : i8) {
   hw.output %w : i8
 }
 // -----
+// each operation on arrays and structs, with true and false in an aggregate_constant
 hw.module @A(in %r : !hw.array<3xi8>, in %i : i2, in %v : i8, in %s : !hw.struct<x: i8, y: i4>) {
   %0 = hw.array_create %v, %v : i8
   %1 = hw.array_concat %0, %r : !hw.array<2xi8>, !hw.array<3xi8>
@@ -35,6 +36,7 @@ hw.module @A(in %r : !hw.array<3xi8>, in %i : i2, in %v : i8, in %s : !hw.struct
   hw.output
 }
 // -----
+// each operation on arrays and structs, with 255 for -1 and numbers of type i1
 hw.module @A(in %r : !hw.array<3xi8>, in %i : i2, in %v : i8, in %s : !hw.struct<x: i8, y: i4>) {
   %0 = hw.array_create %v, %v : i8
   %1 = hw.array_concat %0, %r : !hw.array<2xi8>, !hw.array<3xi8>
@@ -48,10 +50,12 @@ hw.module @A(in %r : !hw.array<3xi8>, in %i : i2, in %v : i8, in %s : !hw.struct
   hw.output
 }
 // -----
+// a blank before the number of a result
 hw.module @Q(in %x : i8, out o : i8) {
   hw.output %x #0 : i8
 }
 // -----
+// operations at the limits of widths, and registers below their uses
 hw.module @B(in %a : i8, in %w : i128, in %r : !hw.array<1xi8>, in %i : i1, in %clk : !seq.clock) {
   %0 = comb.extract %a from 0 : (i8) -> i8
   %1 = comb.replicate %a : (i8) -> i128
@@ -66,21 +70,25 @@ hw.module @B(in %a : i8, in %w : i128, in %r : !hw.array<1xi8>, in %i : i1, in %
   hw.output
 }
 // -----
+// 32 types in one another
 hw.module @D(in %a : !hw.array<1x!hw.array<1x!hw.array<1x!hw.array<1x!hw.array<1x!hw.array<1x!hw.array<1x!hw.array<1x!hw.array<1x!hw.array<1x!hw.array<1x!hw.array<1x!hw.array<1x!hw.array<1x!hw.array<1x!hw.array<1x!hw.array<1x!hw.array<1x!hw.array<1x!hw.array<1x!hw.array<1x!hw.array<1x!hw.array<1x!hw.array<1x!hw.array<1x!hw.array<1x!hw.array<1x!hw.array<1x!hw.array<1x!hw.array<1x!hw.array<1x!hw.array<1xi8>>>>>>>>>>>>>>>>>>>>>>>>>>>>>>>>) {
 }
 // -----
+// the empty symbol, a blank after a sign, and zeros before a number
 hw.module @""() {
   %a = hw.constant - 5 : i8
   %b = hw.constant -1 : i1
   %c = hw.constant 007 : i8
 }
-// ----- a divisor that stands after
+// -----
+// a divisor that stands after
 hw.module @T(in %a : i8, in %b : i8, out o : i8) {
   %0 = comb.divu %a, %1 : i8
   %1 = hw.constant 3 : i8
   hw.output %0 : i8
 }
-// ----- an operand that stands after
+// -----
+// an operand that stands after
 hw.module @T(in %a : i8, in %b : i8, out o : i8) {
   %0 = comb.xor %1, %a : i8
   %1 = comb.add %a, %b : i8

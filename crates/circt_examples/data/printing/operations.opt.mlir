@@ -1,4 +1,4 @@
-// -----
+// each operation on integers, some with `bin`
 module {
   hw.module @I(in %a : i8, in %b : i8, in %c : i1, out o : i8) {
     %c-3_i8 = hw.constant -3 : i8
@@ -24,6 +24,7 @@ module {
   }
 }
 // -----
+// each operation on arrays and structs, with true and false in an aggregate_constant
 module {
   hw.module @A(in %r : !hw.array<3xi8>, in %i : i2, in %v : i8, in %s : !hw.struct<x: i8, y: i4>) {
     %0 = hw.array_create %v, %v : i8
@@ -39,6 +40,7 @@ module {
   }
 }
 // -----
+// each operation on arrays and structs, with 255 for -1 and numbers of type i1
 module {
   hw.module @A(in %r : !hw.array<3xi8>, in %i : i2, in %v : i8, in %s : !hw.struct<x: i8, y: i4>) {
     %0 = hw.array_create %v, %v : i8
@@ -54,12 +56,14 @@ module {
   }
 }
 // -----
+// a blank before the number of a result
 module {
   hw.module @Q(in %x : i8, out o : i8) {
     hw.output %x : i8
   }
 }
 // -----
+// operations at the limits of widths, and registers below their uses
 module {
   hw.module @B(in %a : i8, in %w : i128, in %r : !hw.array<1xi8>, in %i : i1, in %clk : !seq.clock) {
     %0 = comb.extract %a from 0 : (i8) -> i8
@@ -76,12 +80,14 @@ module {
   }
 }
 // -----
+// 32 types in one another
 module {
   hw.module @D(in %a : !hw.array<1x!hw.array<1x!hw.array<1x!hw.array<1x!hw.array<1x!hw.array<1x!hw.array<1x!hw.array<1x!hw.array<1x!hw.array<1x!hw.array<1x!hw.array<1x!hw.array<1x!hw.array<1x!hw.array<1x!hw.array<1x!hw.array<1x!hw.array<1x!hw.array<1x!hw.array<1x!hw.array<1x!hw.array<1x!hw.array<1x!hw.array<1x!hw.array<1x!hw.array<1x!hw.array<1x!hw.array<1x!hw.array<1x!hw.array<1x!hw.array<1x!hw.array<1xi8>>>>>>>>>>>>>>>>>>>>>>>>>>>>>>>>) {
     hw.output
   }
 }
 // -----
+// the empty symbol, a blank after a sign, and zeros before a number
 module {
   hw.module @""() {
     %c-5_i8 = hw.constant -5 : i8
@@ -90,7 +96,8 @@ module {
     hw.output
   }
 }
-// ----- a divisor that stands after
+// -----
+// a divisor that stands after
 module {
   hw.module @T(in %a : i8, in %b : i8, out o : i8) {
     %0 = comb.divu %a, %c3_i8 : i8
@@ -98,7 +105,8 @@ module {
     hw.output %0 : i8
   }
 }
-// ----- an operand that stands after
+// -----
+// an operand that stands after
 module {
   hw.module @T(in %a : i8, in %b : i8, out o : i8) {
     %0 = comb.xor %1, %a : i8

@@ -1,3 +1,4 @@
+// comments, tabs, line ends within a header, and no blanks
 // a comment
 hw.module	@S ( in %a:i08 ,
  out  o:i8 ){//x

@@ -1,4 +1,4 @@
-// -----
+// comb.mul with `bin`
 module {
   hw.module @M(in %a : i8, in %c : i1, in %clk : !seq.clock, in %i : i2, in %s : !hw.struct<x: i8>, in %v : !hw.array<3xi8>) {
     %0 = comb.mul bin %a, %a : i8
@@ -6,6 +6,7 @@ module {
   }
 }
 // -----
+// comb.sub with a dictionary that has a list in a list
 module {
   hw.module @M(in %a : i8, in %c : i1, in %clk : !seq.clock, in %i : i2, in %s : !hw.struct<x: i8>, in %v : !hw.array<3xi8>) {
     %0 = comb.sub %a, %a {k = [1 : i4, "t", @sym, true, [-2 : i64]], u} : i8
@@ -13,6 +14,7 @@ module {
   }
 }
 // -----
+// comb.icmp with `bin`
 module {
   hw.module @M(in %a : i8, in %c : i1, in %clk : !seq.clock, in %i : i2, in %s : !hw.struct<x: i8>, in %v : !hw.array<3xi8>) {
     %0 = comb.icmp bin slt %a, %a : i8
@@ -20,6 +22,7 @@ module {
   }
 }
 // -----
+// comb.extract
 module {
   hw.module @M(in %a : i8, in %c : i1, in %clk : !seq.clock, in %i : i2, in %s : !hw.struct<x: i8>, in %v : !hw.array<3xi8>) {
     %0 = comb.extract %a from 1 : (i8) -> i4
@@ -27,6 +30,7 @@ module {
   }
 }
 // -----
+// comb.concat of 8 bits and one
 module {
   hw.module @M(in %a : i8, in %c : i1, in %clk : !seq.clock, in %i : i2, in %s : !hw.struct<x: i8>, in %v : !hw.array<3xi8>) {
     %0 = comb.concat %a, %c : i8, i1
@@ -34,6 +38,7 @@ module {
   }
 }
 // -----
+// comb.mux of 8 bits
 module {
   hw.module @M(in %a : i8, in %c : i1, in %clk : !seq.clock, in %i : i2, in %s : !hw.struct<x: i8>, in %v : !hw.array<3xi8>) {
     %0 = comb.mux %c, %a, %a : i8
@@ -41,6 +46,7 @@ module {
   }
 }
 // -----
+// hw.constant true with a dictionary
 module {
   hw.module @M(in %a : i8, in %c : i1, in %clk : !seq.clock, in %i : i2, in %s : !hw.struct<x: i8>, in %v : !hw.array<3xi8>) {
     %true = hw.constant true {e}
@@ -48,6 +54,7 @@ module {
   }
 }
 // -----
+// hw.constant - 1 of type i1
 module {
   hw.module @M(in %a : i8, in %c : i1, in %clk : !seq.clock, in %i : i2, in %s : !hw.struct<x: i8>, in %v : !hw.array<3xi8>) {
     %true = hw.constant true
@@ -55,6 +62,7 @@ module {
   }
 }
 // -----
+// hw.aggregate_constant of a struct with an array in it
 module {
   hw.module @M(in %a : i8, in %c : i1, in %clk : !seq.clock, in %i : i2, in %s : !hw.struct<x: i8>, in %v : !hw.array<3xi8>) {
     %0 = hw.aggregate_constant [-1 : i8, [true]] : !hw.struct<a: i8, b: !hw.array<1xi1>>
@@ -62,6 +70,7 @@ module {
   }
 }
 // -----
+// hw.array_inject
 module {
   hw.module @M(in %a : i8, in %c : i1, in %clk : !seq.clock, in %i : i2, in %s : !hw.struct<x: i8>, in %v : !hw.array<3xi8>) {
     %0 = hw.array_inject %v[%i], %a : !hw.array<3xi8>, i2
@@ -69,6 +78,7 @@ module {
   }
 }
 // -----
+// hw.struct_create with a quoted field name
 module {
   hw.module @M(in %a : i8, in %c : i1, in %clk : !seq.clock, in %i : i2, in %s : !hw.struct<x: i8>, in %v : !hw.array<3xi8>) {
     %0 = hw.struct_create (%a) : !hw.struct<"y y": i8>
@@ -76,6 +86,7 @@ module {
   }
 }
 // -----
+// hw.struct_inject
 module {
   hw.module @M(in %a : i8, in %c : i1, in %clk : !seq.clock, in %i : i2, in %s : !hw.struct<x: i8>, in %v : !hw.array<3xi8>) {
     %0 = hw.struct_inject %s["x"], %a : !hw.struct<x: i8>
@@ -83,6 +94,7 @@ module {
   }
 }
 // -----
+// hw.wire with a name that is no value's name, and a dictionary
 module {
   hw.module @M(in %a : i8, in %c : i1, in %clk : !seq.clock, in %i : i2, in %s : !hw.struct<x: i8>, in %v : !hw.array<3xi8>) {
     %_w_w = hw.wire %a {a, name = "w w", z} : i8
@@ -90,6 +102,7 @@ module {
   }
 }
 // -----
+// hw.instance with a symbol, of a private module with quoted names
 module {
   hw.module private @"O o"(in %a : i8, in %_b_b "b b" : i1, out p : i8, out "q\0A" : i8) {
     hw.output %a, %a : i8, i8
@@ -100,6 +113,7 @@ module {
   }
 }
 // -----
+// seq.compreg.ce with a reset and the name of a port
 module {
   hw.module @M(in %a : i8, in %c : i1, in %clk : !seq.clock, in %i : i2, in %s : !hw.struct<x: i8>, in %v : !hw.array<3xi8>) {
     %a_0 = seq.compreg.ce %a, %clk, %c reset %c, %a {name = "a"} : i8
@@ -107,6 +121,7 @@ module {
   }
 }
 // -----
+// seq.firreg with a synchronous reset and a number as name
 module {
   hw.module @M(in %a : i8, in %c : i1, in %clk : !seq.clock, in %i : i2, in %s : !hw.struct<x: i8>, in %v : !hw.array<3xi8>) {
     %_7 = seq.firreg %a clock %clk reset sync %c, %a {name = "7"} : i8

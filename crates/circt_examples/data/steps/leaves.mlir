@@ -8,7 +8,7 @@
 // RUN: circt translate --export-verilog --hw-lower-aggregates
 // RUN: circt translate --export-verilog --hw-lower-aggregates --hw-flatten-modules --seq-lower-regs
 // RUN: circt translate --export-verilog --canonicalize --seq-lower-regs --hw-lower-aggregates --cse
-// ----- element 0 stands last; the elements from the highest are a, b, 5, 6, 7; c is 1
+// element 0 stands last: the elements from the highest are a, b, 5, 6, 7, and c is 1
 hw.module @T(in %a : i8, in %b : i8, in %c : i8, in %i : i3, out o : i8) {
   %0 = hw.array_create %a, %b : i8
   %1 = hw.aggregate_constant [5 : i8, 6 : i8, 7 : i8] : !hw.array<3xi8>
@@ -17,13 +17,15 @@ hw.module @T(in %a : i8, in %b : i8, in %c : i8, in %i : i3, out o : i8) {
   %4 = comb.add %3, %c : i8
   hw.output %4 : i8
 }
-// ----- the difference of the second and the first field, the struct below
+// -----
+// the difference of the second and the first field, the struct below
 hw.module @T(in %s : !hw.struct<x: i8, y: i8>, out c : i8) {
   %1 = comb.sub %f#1, %f#0 : i8
   %f:2 = hw.struct_explode %s : !hw.struct<x: i8, y: i8>
   hw.output %1 : i8
 }
-// ----- an element of a field, changed by one of two arrays
+// -----
+// an element of a field, changed by one of two arrays
 hw.module @T(in %s : !hw.struct<p: i4, q: !hw.array<2x!hw.struct<x: i8, y: i1>>>, in %i : i1, in %c : i1, in %v : i8, out o : !hw.struct<p: i4, q: !hw.array<2x!hw.struct<x: i8, y: i1>>>) {
   %0 = hw.struct_extract %s["q"] : !hw.struct<p: i4, q: !hw.array<2x!hw.struct<x: i8, y: i1>>>
   %1 = hw.array_get %0[%i] : !hw.array<2x!hw.struct<x: i8, y: i1>>, i1
@@ -35,7 +37,8 @@ hw.module @T(in %s : !hw.struct<p: i4, q: !hw.array<2x!hw.struct<x: i8, y: i1>>>
   %6 = hw.struct_create (%5, %w) : !hw.struct<p: i4, q: !hw.array<2x!hw.struct<x: i8, y: i1>>>
   hw.output %6 : !hw.struct<p: i4, q: !hw.array<2x!hw.struct<x: i8, y: i1>>>
 }
-// ----- an instance before its module, whose leaves' names are taken, and one of that one's; an instance makes a_0, a[1] and a[0] of a[1], a[0] and a_0: twice, a[0], a_0 and a[1]
+// -----
+// an instance before its module, which makes a_0, a[1] and a[0] of a[1], a[0] and a_0, and one of its results
 hw.module @T(in %a : !hw.array<2xi8>, in %b : i8, out o : !hw.array<2xi8>, out p : i8) {
   %u.x, %u.x_0 = hw.instance "u" @C(a: %a: !hw.array<2xi8>, a_0: %b: i8) -> (x: !hw.array<2xi8>, x_0: i8)
   %v.x, %v.x_0 = hw.instance "v" @C(a: %u.x: !hw.array<2xi8>, a_0: %u.x_0: i8) -> (x: !hw.array<2xi8>, x_0: i8)

@@ -1,4 +1,4 @@
-// ----- no reset port is joined to a result, through two instances
+// no reset port is joined to a result, through two instances
 hw.module private @Low(out o : i1, in %c : !seq.clock, in %a : i1, in %b : i1) {
   %true = hw.constant true
   %s = seq.firreg %a clock %c reset async %b, %true : i1
@@ -19,7 +19,8 @@ hw.module @User(in %c : !seq.clock, in %x : i1, in %y : i1) {
   hw.instance "w" @Top(c: %c: !seq.clock, a: %0: i1, b: %x: i1) -> ()
   hw.output
 }
-// ----- in the other text order
+// -----
+// no reset port is joined to a result, in the other text order
 hw.module @User(in %c : !seq.clock, in %x : i1, in %y : i1) {
   %0 = comb.and %x, %y : i1
   %u.o = hw.instance "u" @Low(c: %c: !seq.clock, a: %0: i1, b: %x: i1) -> (o: i1)
@@ -40,7 +41,8 @@ hw.module private @Low(out o : i1, in %c : !seq.clock, in %a : i1, in %b : i1) {
   %s = seq.firreg %a clock %c reset async %b, %true : i1
   hw.output %a : i1
 }
-// ----- one port is joined to both, and the other one to none
+// -----
+// one port is joined to both the data and the reset, and the other one to none
 hw.module private @Low(out o : i1, in %c : !seq.clock, in %a : i1, in %b : i1) {
   %true = hw.constant true
   %s = seq.firreg %a clock %c reset async %b, %true : i1

@@ -1,4 +1,4 @@
-// ----- no reset port is joined to a result, through two instances
+// no reset port is joined to a result, through two instances
 module {
   hw.module private @Low(out o : i1, in %c : !seq.clock, in %a : i1, in %b : i1) {
     %true = hw.constant true
@@ -21,7 +21,8 @@ module {
     hw.output
   }
 }
-// ----- in the other text order
+// -----
+// no reset port is joined to a result, in the other text order
 module {
   hw.module @User(in %c : !seq.clock, in %x : i1, in %y : i1) {
     %0 = comb.and %x, %y : i1
@@ -44,7 +45,8 @@ module {
     hw.output %a : i1
   }
 }
-// ----- one port is joined to both, and the other one to none
+// -----
+// one port is joined to both the data and the reset, and the other one to none
 module {
   hw.module private @Low(out o : i1, in %c : !seq.clock, in %a : i1, in %b : i1) {
     %true = hw.constant true

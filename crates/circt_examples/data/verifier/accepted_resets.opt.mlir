@@ -1,4 +1,4 @@
-// ----- a reset port is joined to an input port, and its module stands later
+// a reset port is joined to an input port, and its module stands later
 module {
   hw.module @T(in %c : !seq.clock, in %d : i1, in %r : i1, out q : i1) {
     %u.q = hw.instance "u" @C(c: %c: !seq.clock, d: %d: i1, r: %r: i1) -> (q: i1)
@@ -10,7 +10,8 @@ module {
     hw.output %d : i1
   }
 }
-// ----- another port is joined to a result
+// -----
+// another port is joined to a result
 module {
   hw.module @T(in %c : !seq.clock, in %d : i1, in %r : i1, out q : i1) {
     %0 = comb.and %d, %r : i1
@@ -23,7 +24,8 @@ module {
     hw.output %d : i1
   }
 }
-// ----- the other port of the module between is the reset port
+// -----
+// the other port of the module between is the reset port
 module {
   hw.module private @C(in %c : !seq.clock, in %d : i1, in %r : i1, out q : i1) {
     %true = hw.constant true

@@ -1,4 +1,4 @@
-// ----- modules that double, the last of them below the limit on weight
+// modules that double, the last of them below the limit on weight
 hw.module @M0(in %a : i1, in %b : i1, out o : i1) {
   hw.output %a : i1
 }

@@ -1,3 +1,4 @@
+// two hundred differences, each on the left of the next
 hw.module @T(in %a : i8, in %b : i8, out o : i8) {
   %0 = comb.sub %a, %b : i8
   %1 = comb.sub %0, %b : i8

@@ -43,7 +43,7 @@ fn flat_modules_are_the_same(rt: HostRuntime) -> Result<(), Fail> {
 }
 
 // What is printed first of the two registers and those with another reset value, which differ where both reset.
-const FRONT: &str = "c1 != c2\nclk = 1'h1\nrst = 1'h1\n";
+const PREFIX: &str = "c1 != c2\nclk = 1'h1\nrst = 1'h1\n";
 
 // The names that are printed below the verdict.
 const NAMES: [&str; 6] = ["clk", "rst", "en", "d", "u1_r", "u2_r"];
@@ -70,7 +70,7 @@ fn next_contents_are_compared(rt: HostRuntime) -> Result<(), Fail> {
     let line = "lec f.mlir g.mlir -c1 Two -c2 Two";
     let run = run_on(&rt, line, TWO_REGISTERS, EIGHT)?;
     let text = str::from_utf8(run.out.contents())?;
-    let is_so = run.code == 3 && text.starts_with(FRONT) && are_named(text, &NAMES);
+    let is_so = run.code == 3 && text.starts_with(PREFIX) && are_named(text, &NAMES);
     assert!(rt; is_so);
     Ok(())
 }

@@ -1,5 +1,6 @@
 -- The divisor of an accepted division is a constant that is not 0 in its type.
-use Rattle.std.proofs.Common.{◌≡◌, ℕ, ℤ, zero, suc, pos, negsuc, ◌-◌, ◌*◌, ◌≤◌, ◌<◌, ◌^◌, Bool, true, false, not, ◌&&◌, List, [], ◌∷◌, map, length, slice_get, Option, Some, None, refl, sym, ap, ◌∙◌, subst, arith, option_map, pow-suc}
+use Rattle.std.proofs.Common.{◌≡◌, ℕ, ℤ, zero, suc, pos, negsuc, ◌-◌, ◌*◌, ◌≤◌, ◌<◌, ◌^◌, Bool, true, false, not, ◌&&◌, List, [], ◌∷◌, map, length, slice_get, Option, Some, None, refl, sym, ap, ◌∙◌}
+use Rattle.std.proofs.Common.{subst, arith, option_map, pow-suc, option_and_then}
 use Rattle.std.specs.Prelude.{nat_eq}
 use Rattle.std.specs.List.{list_any}
 use Rattle.std.proofs.lemmas.Bool.{eqb-true, not-false}
@@ -7,7 +8,6 @@ use Rattle.std.proofs.lemmas.Bool.Decides.{nat_tests}
 use Rattle.bits_core.specs.Word.{number, bits, bits_of_ℤ}
 use Rattle.bits_core.proofs.Numbers.{length-bits, number-bits-below}
 use Rattle.bits_core.proofs.Complement.{number-not}
-use Rattle.wiring.specs.Options.{bind}
 use Rattle.hw_model.specs.Types.{HwType, width}
 use Rattle.hw_model.specs.Types.HwType.{int, clock, array, struct}
 use Rattle.hw_model.specs.Kinds.{Kind}
@@ -153,7 +153,7 @@ constant_division ports os all o tests fits is =
       there = by.there;
       constant = constant_from by.by.kind by.nonzero;
       not_zero = λ t typed. constant_worth by.by.kind by.by.types by.by.results (length by.by.operands) t by.nonzero own.form own.written own.constant (settles by.by.kind by.by.types (types_of by.by.results) own)
-          (ap (λ (x : Option Op). bind x (λ (p : Op). result_type p 0)) (sym by.there)
+          (ap (λ (x : Option Op). option_and_then (λ (p : Op). result_type p 0) x) (sym by.there)
           ∙ second_is (type_in ports os by.dividend) (type_in ports os (result by.divisor 0)) t
           (ap (map (type_in ports os)) (sym by.operands) ∙ division_types o.kind o.types (map (type_in ports os) o.operands) t 0 is (fits 0 t typed)));
     }

@@ -1,7 +1,6 @@
 -- An accepted design without aggregates is exportable.
-use Rattle.std.proofs.Common.{◌≡◌, ℕ, ◌<◌, ◌^◌, false, ◌||◌, List, [], ◌∷◌, length, slice_get, Option, Some, None, refl, ap, ◌∙◌, arith}
+use Rattle.std.proofs.Common.{◌≡◌, ℕ, ◌<◌, ◌^◌, false, ◌||◌, List, [], ◌∷◌, length, slice_get, Option, Some, None, refl, ap, ◌∙◌, arith, option_and_then, option_map}
 use Rattle.std.specs.Prelude.{is_some}
-use Rattle.wiring.specs.Options.{bind, omap}
 use Rattle.hw_model.specs.Kinds.{Kind}
 use Rattle.hw_model.specs.Kinds.Kind.{register, async_firreg}
 use Rattle.hw_model.specs.Design.{Port, OpResult, Op, Module, Design, RegisterForm, register_form, instance_in, is_output_kind, is_instance, is_output_op, result_type}
@@ -39,7 +38,7 @@ register_alone _ f h = cc
 register_kind : (o : Op) (r : Register) → register_in o ≡ Some r → (f : RegisterForm) × (register_form o.kind ≡ Some f)
 register_kind o r h = go (register_form o.kind) h
   where
-    go : (x : Option RegisterForm) → bind x (λ (f : RegisterForm). register_parts f.has_enable f.reset o.operands) ≡ Some r → (f : RegisterForm) × (x ≡ Some f)
+    go : (x : Option RegisterForm) → option_and_then (λ (f : RegisterForm). register_parts f.has_enable f.reset o.operands) x ≡ Some r → (f : RegisterForm) × (x ≡ Some f)
     go None e = cc
     go (Some f) e = (f, refl)
 
@@ -63,7 +62,7 @@ module _ (d : Design) (fine : IsAccepted d) (plain : HasNoAggregates d) (n : ℕ
   clocked_by j o at r is =
       let f = register_kind o r is in
       let x = one j o at (register_alone o.kind f.0 f.1) in
-      let typed : result_type o 0 ≡ Some x.0.type = ap (λ (rs : List OpResult). omap (λ (y : OpResult). y.type) (slice_get rs 0)) x.1 in
+      let typed : result_type o 0 ≡ Some x.0.type = ap (λ (rs : List OpResult). option_map (λ (y : OpResult). y.type) (slice_get rs 0)) x.1 in
       clocked m.ports m.body tests plain_ops port_bits o x.0.type (body_fits j o at) typed r is
 
   exportable_op : (j : ℕ) (o : Op) → slice_get m.body j ≡ Some o → IsExportableOp m.ports m.body o

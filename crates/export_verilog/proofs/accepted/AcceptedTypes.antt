@@ -7,7 +7,7 @@ use Rattle.wiring.specs.Wiring.{In}
 use Rattle.hw_model.specs.Types.{HwType, width}
 use Rattle.hw_model.specs.Types.HwType.{int, clock, array, struct}
 use Rattle.hw_model.specs.Kinds.{Kind}
-use Rattle.hw_model.specs.Kinds.Kind.{variadic, sub, division, shift, icmp, parity, extract, concat, replicate, mux, constant, aggregate_constant, on_array, on_struct, bitcast, wire, instance, output, register, async_firreg}
+use Rattle.hw_model.specs.Kinds.Kind.{variadic, sub, division, shift, extract, concat, replicate, mux, constant, aggregate_constant, on_array, on_struct, bitcast, wire, instance, output, register, async_firreg}
 use Rattle.ir_store.specs.ResultTypes.{first_type, second_type, with_width, joined_width, kept_size, as_int, result_type, result_types}
 use Rattle.op_checks.specs.TypeChecks.{has_bad_part, is_outside, is_clock}
 use Rattle.op_checks.specs.TypeLists.{known_types}
@@ -127,8 +127,6 @@ given (variadic v) ts rs n plain same operands types h wide t here = by_first ts
 given sub ts rs n plain same operands types h wide t here = by_first ts t rs same here
 given (division d) ts rs n plain same operands types h wide t here = by_first ts t rs same here
 given (shift s) ts rs n plain same operands types h wide t here = by_first ts t rs same here
-given (icmp p) ts rs n plain same operands types h wide t here = in_single ts t (Some (int 1)) rs (one_bit ts t) same here
-given parity ts rs n plain same operands types h wide t here = in_single ts t (Some (int 1)) rs (one_bit ts t) same here
 given (extract low) ts rs n plain same operands types h wide t here = by_second ts t rs same here
 given concat ts rs n plain same operands types h wide t here =
     in_single ts t (as_int (joined_width ts)) rs (joined_given ts ts (some_joined (length ts) n operands types) h wide) same here
@@ -146,6 +144,7 @@ given output ts [] n plain same operands types h wide t here = absurd here
 given output ts (r ∷ rs) n plain same operands types h wide t here = cc
 given (register f r) ts rs n plain same operands types h wide t here = by_first ts t rs same here
 given async_firreg ts rs n plain same operands types h wide t here = by_first ts t rs same here
+given _ ts rs n plain same operands types h wide t here = in_single ts t (Some (int 1)) rs (one_bit ts t) same here
 
 -- ---- values
 

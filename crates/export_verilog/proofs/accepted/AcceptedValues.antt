@@ -1,7 +1,6 @@
 -- The values of a module of an accepted design without aggregates: their bits, their clocks, and those of its registers.
-use Rattle.std.proofs.Common.{◌≡◌, ℕ, zero, suc, ◌≤◌, ◌<◌, Bool, true, false, cond, ◌||◌, List, [], ◌∷◌, map, length, slice_get, Option, Some, None, option_map, refl, sym, ap, ◌∙◌, subst, inl, inr, arith}
+use Rattle.std.proofs.Common.{◌≡◌, ℕ, zero, suc, ◌≤◌, ◌<◌, Bool, true, false, cond, ◌||◌, List, [], ◌∷◌, map, length, slice_get, Option, Some, None, option_map, refl, sym, ap, ◌∙◌, subst, inl, inr, arith, option_and_then}
 use Rattle.std.specs.Prelude.{is_some}
-use Rattle.wiring.specs.Options.{bind}
 use Rattle.wiring.specs.Wiring.{In}
 use Rattle.hw_model.specs.Types.{HwType}
 use Rattle.hw_model.specs.Types.HwType.{clock}
@@ -66,7 +65,7 @@ some_from : {A B : Type 0} (f : A → B) (x : Option A) (b : B) → option_map f
 some_from f None b h = cc
 some_from f (Some a) b h = (a, refl, cc)
 
-from_bind : {A B : Type 0} (f : A → Option B) (x : Option A) (b : B) → bind x f ≡ Some b → (a : A) × (x ≡ Some a) × (f a ≡ Some b)
+from_bind : {A B : Type 0} (f : A → Option B) (x : Option A) (b : B) → option_and_then f x ≡ Some b → (a : A) × (x ≡ Some a) × (f a ≡ Some b)
 from_bind f None b h = cc
 from_bind f (Some a) b h = (a, refl, h)
 

@@ -9,7 +9,7 @@ use Rattle.hw_model.specs.Types.HwType.{int, clock, array, struct}
 use Rattle.hw_model.specs.Kinds.{Kind}
 use Rattle.hw_model.specs.Kinds.RegisterOp.{firreg}
 use Rattle.hw_model.specs.Kinds.Reset.{sync_reset}
-use Rattle.hw_model.specs.Kinds.Kind.{variadic, sub, division, shift, icmp, parity, extract, concat, replicate, mux, constant, aggregate_constant, on_array, on_struct, bitcast, wire, instance, output, register, async_firreg}
+use Rattle.hw_model.specs.Kinds.Kind.{mux, aggregate_constant, on_array, on_struct, wire, instance, register, async_firreg}
 use Rattle.hw_model.specs.Design.{Port, Op, Module, Design, instance_in, is_instance, is_register, is_output_op}
 use Rattle.hw_model.specs.Design.Ref.{result}
 use Rattle.hw_model.specs.Weight.{leaf_count, reset_weight, register_weight, kind_weight, body_weight, weight_of, module_weight, weight}
@@ -63,27 +63,15 @@ module _ (inner : Name → ℕ) where
   weighs : (kind : Kind) (ts : List HwType) (n : ℕ) → is_aggregate_kind kind ≡ false → list_any is_aggregate ts ≡ false → length ts ≡ type_count kind n
       → 1 ≤ kind_weight inner kind ts n
   unfolding type_count
-  weighs (variadic v) ts n kind plain types = omega arith
-  weighs sub ts n kind plain types = omega arith
-  weighs (division d) ts n kind plain types = omega arith
-  weighs (shift s) ts n kind plain types = omega arith
-  weighs (icmp p) ts n kind plain types = omega arith
-  weighs parity ts n kind plain types = omega arith
-  weighs (extract low) ts n kind plain types = omega arith
-  weighs concat ts n kind plain types = omega arith
-  weighs replicate ts n kind plain types = omega arith
   weighs mux ts n kind plain types = some_times 4 (leaf_count ts) (omega arith) (leaves_of_all ts plain ∙ types)
-  weighs (constant z) ts n kind plain types = omega arith
   weighs (aggregate_constant ls) ts n kind plain types = cc
   weighs (on_array a) ts n kind plain types = cc
   weighs (on_struct s) ts n kind plain types = cc
-  weighs bitcast ts n kind plain types = omega arith
   weighs wire ts n kind plain types = some_times 2 (leaf_count ts) (omega arith) (leaves_of_all ts plain ∙ types)
-  weighs (instance i) ts n kind plain types = omega arith
-  weighs output ts n kind plain types = omega arith
   weighs (register f r) ts n kind plain types =
       some_times (register_weight f + reset_weight r) (leaf_count ts) (let some = register_weighs f in omega (arith, some)) (leaves_of_all ts plain ∙ types)
   weighs async_firreg ts n kind plain types = some_times (register_weight firreg + reset_weight sync_reset) (leaf_count ts) (omega arith) (leaves_of_all ts plain ∙ types)
+  weighs _ ts n kind plain types = omega arith
 
   -- an instance weighs more than its results are
   instance_weighs : (kind : Kind) (ts : List HwType) (n count : ℕ) → is_some (instance_in kind) ≡ true → list_any is_aggregate ts ≡ false → count ≡ result_count kind ts
@@ -118,7 +106,8 @@ identifiers_weigh inner ports os i o tests plain = go (is_instance o) refl
     go true e =
         let p = some_identifiers (is_register o) (is_output_op o) (is_wire_kind o.kind) (spilled ports os (result i 0)) i o in
         let q : length (op_identifiers ports os i o) ≤ 1 + length o.results =
-        subst (λ (b : Bool). length (identifiers_of (cond (is_register o) as_reg (cond b as_instance (cond (is_output_op o) inline (cond (is_wire_kind o.kind) as_wire (cond (spilled ports os (result i 0)) as_wire inline))))) i o) ≤ 1 + length o.results) (sym e) p in
+        subst (λ (b : Bool). length (identifiers_of (cond (is_register o) as_reg (cond b as_instance
+        (cond (is_output_op o) inline (cond (is_wire_kind o.kind) as_wire (cond (spilled ports os (result i 0)) as_wire inline))))) i o) ≤ 1 + length o.results) (sym e) p in
         let r = instance_weighs inner o.kind o.types (length o.operands) (length o.results) e plain.types (result_number ports os o tests) in
         omega (arith, q, r)
     go false e =

@@ -1,10 +1,9 @@
 -- An accepted design without values of aggregate types has no operations on aggregates, and writes no such types.
-use Rattle.std.proofs.Common.{◌≡◌, ℕ, zero, suc, ◌≤◌, Bool, true, false, cond, not, ◌||◌, List, [], ◌∷◌, map, take, drop, length, slice_get, Option, Some, None, is_some, refl, sym, ap, ap₂, ◌∙◌, subst, arith}
+use Rattle.std.proofs.Common.{◌≡◌, ℕ, zero, suc, ◌≤◌, Bool, true, false, cond, not, ◌||◌, List, [], ◌∷◌, map, take, drop, length, slice_get, Option, Some, None, is_some, refl, sym, ap, ap₂, ◌∙◌, subst, arith, option_and_then, option_map}
 use Rattle.std.specs.Prelude.{slice_index_or}
 use Rattle.std.specs.List.{list_any}
 use Rattle.std.proofs.lemmas.Bool.{not-false}
 use Rattle.std.proofs.lemmas.Option.{slice_get-map}
-use Rattle.wiring.specs.Options.{bind, omap}
 use Rattle.wiring.proofs.Members.{In-slice_get}
 use Rattle.hw_model.specs.Types.{HwType}
 use Rattle.hw_model.specs.Types.HwType.{int, clock, array, struct}
@@ -13,7 +12,7 @@ use Rattle.hw_model.specs.Kinds.{Kind, Literals, ArrayOp, StructOp}
 use Rattle.hw_model.specs.Kinds.Literal.{parts as literal_parts}
 use Rattle.hw_model.specs.Kinds.ArrayOp.{array_create, array_concat, array_get, array_slice, array_inject}
 use Rattle.hw_model.specs.Kinds.StructOp.{struct_create, struct_extract, struct_inject, struct_explode}
-use Rattle.hw_model.specs.Kinds.Kind.{variadic, sub, division, shift, icmp, parity, extract, concat, replicate, mux, constant, aggregate_constant, on_array, on_struct, bitcast, wire, instance, output, register, async_firreg}
+use Rattle.hw_model.specs.Kinds.Kind.{mux, aggregate_constant, on_array, on_struct, bitcast, wire, instance, output, register, async_firreg}
 use Rattle.hw_model.specs.Design.{Ref, Port, OpResult, Op, Module, Design, result_type}
 use Rattle.hw_model.specs.Design.Ref.{port, result, undefined}
 use Rattle.hw_model.specs.Sound.{input_type, type_in}
@@ -218,16 +217,6 @@ module _ (ts us rs : List HwType) (named : ℕ) (is_known : Bool) (plain : AllPl
 
   by_kind : (kind : Kind) → own_cause kind ts rs named (known_types us) is_known ≡ None → Tested kind → IsPlainKind kind ts
   unfolding has_other_form has_other_operand type_count result_types settled_result operands_written operand_count result_count
-  by_kind (variadic v) own h = (refl, ints_plain ts h.form)
-  by_kind sub own h = (refl, ints_plain ts h.form)
-  by_kind (division v) own h = (refl, ints_plain ts h.form)
-  by_kind (shift v) own h = (refl, ints_plain ts h.form)
-  by_kind (icmp p) own h = (refl, ints_plain ts h.form)
-  by_kind parity own h = (refl, ints_plain ts h.form)
-  by_kind (extract low) own h = (refl, ints_plain ts h.form)
-  by_kind concat own h = (refl, ints_plain ts h.form)
-  by_kind replicate own h = (refl, ints_plain ts h.form)
-  by_kind (constant z) own h = (refl, ints_plain ts h.form)
   by_kind mux own h = (refl, one_typed ts rs h.types h.results h.result shown)
   by_kind wire own h = (refl, one_typed ts rs h.types h.results h.result shown)
   by_kind (register f r) own h = (refl, one_typed ts rs h.types h.results h.result shown)
@@ -240,6 +229,7 @@ module _ (ts us rs : List HwType) (named : ℕ) (is_known : Bool) (plain : AllPl
   by_kind (aggregate_constant ls) own h = constant_type ls ts rs h.types h.results h.operand h.result shown
   by_kind (on_array a) own h = by_array a h
   by_kind (on_struct s) own h = by_struct s h
+  by_kind _ own h = (refl, ints_plain ts h.form)
 
 plain_kind : (kind : Kind) (ts us rs : List HwType) (named : ℕ) (is_known : Bool) → own_cause kind ts rs named (known_types us) is_known ≡ None → AllPlain us → AllPlain rs → IsPlainKind kind ts
 plain_kind kind ts us rs named is_known own plain shown =
@@ -305,7 +295,7 @@ module _ (ports : List Port) (os : List Op) (tests : (j : ℕ) (o : Op) → slic
   settled_good (result j k) = go (slice_get os j) (λ o at. tests j o at)
     where
       go : (x : Option Op) → ((o : Op) → x ≡ Some o → NoCauseAlone ports os o)
-          → bind x (λ (o : Op). slice_index_or (settled_by o) k None) ≡ bind x (λ (o : Op). result_type o k)
+          → option_and_then (λ (o : Op). slice_index_or (settled_by o) k None) x ≡ option_and_then (λ (o : Op). result_type o k) x
       go None tested = refl
       go (Some o) tested =
           ap (λ xs. slice_index_or xs k None) (settles o.kind o.types (types_of o.results) (tested o refl))
@@ -329,13 +319,13 @@ module _ (ports : List Port) (os : List Op) (tests : (j : ℕ) (o : Op) → slic
       go (Some p) at e = pick p at p.is_output e
   value_plain (result j k) t is = go (slice_get os j) refl is
     where
-      pick : (o : Op) → slice_get os j ≡ Some o → (x : Option OpResult) → slice_get o.results k ≡ x → omap (λ (r : OpResult). r.type) x ≡ Some t → is_aggregate t ≡ false
+      pick : (o : Op) → slice_get os j ≡ Some o → (x : Option OpResult) → slice_get o.results k ≡ x → option_map (λ (r : OpResult). r.type) x ≡ Some t → is_aggregate t ≡ false
       pick o at None there e = cc
       pick o at (Some r) there e =
           let same : r.type ≡ t = cc in
           sym (ap is_aggregate same) ∙ none_of (λ (y : OpResult). is_aggregate y.type) o.results (results_are j o at) r (In-slice_get r o.results k there)
 
-      go : (x : Option Op) → slice_get os j ≡ x → bind x (λ (o : Op). result_type o k) ≡ Some t → is_aggregate t ≡ false
+      go : (x : Option Op) → slice_get os j ≡ x → option_and_then (λ (o : Op). result_type o k) x ≡ Some t → is_aggregate t ≡ false
       go None at e = cc
       go (Some o) at e = pick o at (slice_get o.results k) refl e
   value_plain undefined t is = cc

@@ -6,7 +6,7 @@ use Rattle.hw_model.specs.Design.{Port, Module, Design}
 use Rattle.verilog_model.specs.Hierarchy.{range_width}
 use Rattle.verilog_model.specs.Behaviour.{shown_port, IsPartner, UnlessPrivate, HavePartners}
 use Rattle.name_legalise.proofs.Legals.{legal_count}
-use Rattle.verilog_expr.specs.Numerals.{high_of}
+use Rattle.verilog_model.specs.Digits.{high_of}
 use Rattle.export_verilog.specs.Exported.{symbol_names, symbol_name, vmodule, vports, tree_of}
 use Rattle.export_verilog.specs.Layout.{verilog_text}
 use Rattle.export_verilog.specs.Written.{ports_named}

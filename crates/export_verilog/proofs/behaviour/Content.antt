@@ -1,5 +1,6 @@
 -- The register content of a tree is laid out as that of its design.
-use Rattle.std.proofs.Common.{◌≡◌, ℕ, zero, suc, ◌+◌, ◌<◌, Bool, true, false, cond, is_some, List, [], ◌∷◌, ◌++◌, length, take, slice_get, Option, Some, None, refl, sym, ◌∙◌, ap, ap₂, subst, inl, inr, zero-add, add-zero, suc-add, add-suc, append_assoc, arith}
+use Rattle.std.proofs.Common.{◌≡◌, ℕ, zero, suc, ◌+◌, ◌<◌, Bool, true, false, cond, is_some, List, [], ◌∷◌, ◌++◌, length, take, slice_get, Option, Some, None, refl, sym, ◌∙◌, ap, ap₂, subst, inl, inr}
+use Rattle.std.proofs.Common.{zero-add, add-zero, suc-add, add-suc, append_assoc, arith, option_and_then}
 use Rattle.std.proofs.lemmas.List.{length-map}
 use Rattle.wiring.specs.Wiring.{In}
 use Rattle.hw_model.specs.Types.{Name}
@@ -89,7 +90,7 @@ module _ (d : Design) (x : Setting d) (s : Name) (m : Module) (is : find_module 
       → width_in (vmodule d m) (identifier_text m (value_identifier i 0)) ≡ held_width o
   variable_width i o there emission =
       width_under x.say d m (module_ok d x s m is) are (result_at_first d x s m is) (value_identifier i 0) (variable_in m i o there emission)
-      ∙ ap (λ z. width_of (Rattle.wiring.specs.Options.bind z (λ (o : Op). result_type o 0))) there
+      ∙ ap (λ z. width_of (option_and_then (λ (o : Op). result_type o 0) z)) there
 
   module _ (f g : Name → ℕ) (agree : (i : ℕ) (o : Op) (c : Called d m o) → slice_get m.body i ≡ Some o → f (symbol_name d c.kind.symbol) ≡ g c.kind.symbol) where
     state_of_op : (i : ℕ) (o : Op) → slice_get m.body i ≡ Some o → items_state f (vmodule d m) (states d m i o) ≡ op_state g o

@@ -1,8 +1,7 @@
 -- The maps between the nets of a design and those of its tree, and that they keep maps settled.
-use Rattle.std.proofs.Common.{◌≡◌, ℕ, ◌⊎◌, Bool, true, false, cond, is_some, List, [], ◌∷◌, map, length, take, slice_get, Option, Some, None, refl, sym, ◌∙◌, ap, ap₂, subst, inl, inr}
+use Rattle.std.proofs.Common.{◌≡◌, ℕ, ◌⊎◌, Bool, true, false, cond, is_some, List, [], ◌∷◌, map, length, take, slice_get, Option, Some, None, refl, sym, ◌∙◌, ap, ap₂, subst, inl, inr, option_and_then}
 use Rattle.wiring.specs.Wiring.{In}
-use Rattle.wiring.specs.Options.{bind}
-use Rattle.wiring.proofs.Options.{bind_some, bind_none}
+use Rattle.wiring.proofs.Options.{and_then_some, and_then_none}
 use Rattle.wiring.proofs.Members.{In-map, map_same}
 use Rattle.bits_core.specs.Word.{Word, bits_of_ℤ}
 use Rattle.hw_model.specs.Types.{Name, HwType, width}
@@ -34,7 +33,8 @@ use Rattle.export_verilog.proofs.items.Writable.NamedAs.{by_port, by_value}
 use Rattle.export_verilog.proofs.behaviour.Places.{vpath_of, further}
 use Rattle.export_verilog.proofs.behaviour.Nets.{identifier_drive, width_here}
 use Rattle.export_verilog.proofs.items.Operands.{output_type_at, none_at}
-use Rattle.export_verilog.proofs.behaviour.NetValues.{own, given, evaluated, evaluated_as, HaveWords, IsGood, symbol_there, found_there, can_write, own_named, own_absent, own_unnamed, made_worth, net_given, given_long, joined_is, constant_form, ShowOutputs, output_agrees, value_agrees}
+use Rattle.export_verilog.proofs.behaviour.NetValues.{own, given, evaluated, evaluated_as, HaveWords, IsGood, symbol_there, found_there, can_write, own_named, own_absent, own_unnamed, made_worth}
+use Rattle.export_verilog.proofs.behaviour.NetValues.{net_given, given_long, joined_is, constant_form, ShowOutputs, output_agrees, value_agrees}
 
 clash : {A : Type 0} (o : Option A) → is_some o ≡ true → o ≡ None → ⊥
 clash o some none = let h : true ≡ false = sym some ∙ ap is_some none in cc
@@ -77,7 +77,7 @@ module _ (d : Design) (x : Setting d) (top : Name) (inputs content : Word) (m0 :
           by_way false h = cc
 
   absent_result : (τ : Net → Word) (p : Path) (m : Module) (here : module_at d top p ≡ Some m) (i k : ℕ) (z : Option Op) → slice_get m.body i ≡ z
-      → bind z (λ (o : Op). result_type o k) ≡ None → got τ p (result i k) ≡ []
+      → option_and_then (λ (o : Op). result_type o k) z ≡ None → got τ p (result i k) ≡ []
   absent_result τ p m here i k None there none = evaluated_as d x top inputs content τ p (result i k) nowhere (no_op_from d top p m here i k there)
   absent_result τ p m here i k (Some o) there none = by_sort (sort_of o.kind) where
     from : source d top (at p (result i k)) ≡ nowhere → got τ p (result i k) ≡ []
@@ -88,7 +88,7 @@ module _ (d : Design) (x : Setting d) (top : Name) (inputs content : Word) (m0 :
     by_sort (is_an_instance y r n u) =
         let c : Called d m o = called_by d x (symbol_there d x top inputs content p m here) m (found_there d x top inputs content p m here) i o there y n in
         from (instance_from d top p m here i k o y there r n
-        ∙ ap (copy_of (length (instances (take i m.body)) ∷ p)) (ap (λ z. bind z (λ (c : Module). slice_get (output_refs c.body) k)) (callee_is d m o c)
+        ∙ ap (copy_of (length (instances (take i m.body)) ∷ p)) (ap (λ z. option_and_then (λ (c : Module). slice_get (output_refs c.body) k) z) (callee_is d m o c)
         ∙ none_at (type_in c.module_of.ports c.module_of.body) (output_refs c.module_of.body) (output_types c.module_of.ports) k (module_sound d x c.kind.symbol c.module_of c.there).outputs
         (output_type_at d m o c k ∙ none)))
     by_sort (an_output r n u) = from (rest_from d top p m here i k o there r n ∙ ap (λ b. cond b nowhere (made_of p o k (result_type o k))) u)
@@ -105,17 +105,17 @@ module _ (d : Design) (x : Setting d) (top : Name) (inputs content : Word) (m0 :
   missing_value τ p (result i k) none = evaluated_as d x top inputs content τ p (result i k) nowhere (ap (result_source d top p i k) none)
   missing_value τ [] (port j) none = absurd (let h : None ≡ Some m0 = sym none ∙ top_is in cc)
   missing_value τ (u ∷ p) (port j) none =
-      evaluated_as d x top inputs content τ (u ∷ p) (port j) nowhere (ap (copy_of p) (outer (bind_none (module_at d top p) (λ (m : Module). bind (slice_get (instances m.body) u) (callee d)) none))) where
+      evaluated_as d x top inputs content τ (u ∷ p) (port j) nowhere (ap (copy_of p) (outer (and_then_none (module_at d top p) (λ (m : Module). option_and_then (callee d) (slice_get (instances m.body) u)) none))) where
         called : (o : Op) → callee d o ≡ None → joined_ref d j o ≡ None
-        called o e = ap (λ z. bind z (λ (c : Module). Rattle.hw_model.specs.Flat.port_ref c.ports o.operands j)) e
+        called o e = ap (λ z. option_and_then (λ (c : Module). Rattle.hw_model.specs.Flat.port_ref c.ports o.operands j) z) e
 
         inner : (m : Module) → (slice_get (instances m.body) u ≡ None) ⊎ ((o : Op) × (slice_get (instances m.body) u ≡ Some o) × (callee d o ≡ None)) → joined_at d u j m ≡ None
-        inner m (inl e) = ap (λ z. bind z (joined_ref d j)) e
-        inner m (inr h) = ap (λ z. bind z (joined_ref d j)) h.1 ∙ called h.0 h.2
+        inner m (inl e) = ap (λ z. option_and_then (joined_ref d j) z) e
+        inner m (inr h) = ap (λ z. option_and_then (joined_ref d j) z) h.1 ∙ called h.0 h.2
 
-        outer : (module_at d top p ≡ None) ⊎ ((m : Module) × (module_at d top p ≡ Some m) × (bind (slice_get (instances m.body) u) (callee d) ≡ None)) → bind (module_at d top p) (joined_at d u j) ≡ None
-        outer (inl e) = ap (λ z. bind z (joined_at d u j)) e
-        outer (inr h) = ap (λ z. bind z (joined_at d u j)) h.1 ∙ inner h.0 (bind_none (slice_get (instances h.0.body) u) (callee d) h.2)
+        outer : (module_at d top p ≡ None) ⊎ ((m : Module) × (module_at d top p ≡ Some m) × (option_and_then (callee d) (slice_get (instances m.body) u) ≡ None)) → option_and_then (joined_at d u j) (module_at d top p) ≡ None
+        outer (inl e) = ap (λ z. option_and_then (joined_at d u j) z) e
+        outer (inr h) = ap (λ z. option_and_then (joined_at d u j) z) h.1 ∙ inner h.0 (and_then_none (slice_get (instances h.0.body) u) (callee d) h.2)
 
   -- ---- a value without a name
 
@@ -139,7 +139,7 @@ module _ (d : Design) (x : Setting d) (top : Name) (inputs content : Word) (m0 :
     by_ref : (z : Ref) (t : HwType) → r ≡ z → type_in m.ports m.body z ≡ Some t → worth σ p m r ≡ got τ p r
     by_ref (port j) t same typed = absurd (clash (value_name m (port j)) ((can_write d x top inputs content p m here).inputs j t typed) (ap (value_name m) (sym same) ∙ unnamed))
     by_ref undefined t same typed = cc
-    by_ref (result i k) t same typed = let h = bind_some (slice_get m.body i) (λ (o : Op). result_type o k) typed in by_pure i k h.0 t same h.1 h.2 (is_pure h.0) refl
+    by_ref (result i k) t same typed = let h = and_then_some (slice_get m.body i) (λ (o : Op). result_type o k) typed in by_pure i k h.0 t same h.1 h.2 (is_pure h.0) refl
 
     by_type : (t : Option HwType) → type_in m.ports m.body r ≡ t → worth σ p m r ≡ got τ p r
     by_type None none = own_absent d x top inputs content p m here σ good.words r none unnamed ∙ sym (absent_value τ p m here r none)

@@ -1,9 +1,8 @@
 -- What the nets of a tree are worth under a map: what their sources give in the design.
-use Rattle.std.proofs.Common.{◌≡◌, ℕ, ℤ, ◌+◌, ◌-◌, ◌⊎◌, Bool, true, false, cond, List, [], ◌∷◌, length, drop, map, take, slice_get, Option, Some, None, refl, sym, ◌∙◌, ap, ap₂, subst, inl, inr, arith}
+use Rattle.std.proofs.Common.{◌≡◌, ℕ, ℤ, ◌+◌, ◌-◌, ◌⊎◌, Bool, true, false, cond, List, [], ◌∷◌, length, drop, map, take, slice_get, Option, Some, None, refl, sym, ◌∙◌, ap, ap₂, subst, inl, inr, arith, option_and_then, option_map}
 use Rattle.std.proofs.lemmas.List.{length-drop, length-append}
 use Rattle.std.proofs.lemmas.List.{length-replicate}
 use Rattle.wiring.specs.Wiring.{In, IsAcyclic}
-use Rattle.wiring.specs.Options.{bind, omap}
 use Rattle.wiring.proofs.Members.{map_same}
 use Rattle.bits_core.specs.Word.{Word}
 use Rattle.bits_core.proofs.First.{length-first}
@@ -13,7 +12,8 @@ use Rattle.hw_model.specs.Kinds.Kind.{constant}
 use Rattle.hw_model.specs.Design.{Ref, Port, OpResult, Op, Module, Design, find_module, instance_in, register_form, is_output_kind, result_type, output_refs}
 use Rattle.hw_model.specs.Design.Ref.{port, result}
 use Rattle.hw_model.specs.Value.{op_value}
-use Rattle.hw_model.specs.Flat.{Path, Net, net as at, Source, source, module_at, instances, width_of, base, body_state, state, offset, input_count, input_width, input_of, input_source, copy_of, joined_ref, joined_at, port_ref, operand_for, held_of}
+use Rattle.hw_model.specs.Flat.{Path, Net, net as at, Source, source, module_at, instances, width_of, base, body_state, state, offset, input_count, input_width, input_of, input_source, copy_of}
+use Rattle.hw_model.specs.Flat.{joined_ref, joined_at, port_ref, operand_for, held_of}
 use Rattle.hw_model.specs.Flat.Source.{nowhere, input as from_input, held as from_held, copy, op_result}
 use Rattle.hw_model.specs.Meaning.{needs_of, value_of}
 use Rattle.hw_model.specs.Sound.{type_in, input_type, output_types}
@@ -108,13 +108,13 @@ module _ (d : Design) (x : Setting d) (top : Name) (inputs content : Word) where
     are_exprs = expressions_hold (value_name m) m.ports m.body can_write no_inner_cycle
 
     pub port_width_is : (j : ℕ) (y : Port) → slice_get m.ports j ≡ Some y → identifier_width m (port_identifier j) ≡ width y.type
-    port_width_is j y there = ap (λ z. width_of (omap (λ (q : Port). q.type) z)) there
+    port_width_is j y there = ap (λ z. width_of (option_map (λ (q : Port). q.type) z)) there
 
     pub input_width_is : (j : ℕ) (y : Port) → slice_get m.ports j ≡ Some y → y.is_output ≡ false → value_width m.ports m.body (port j) ≡ width y.type
     input_width_is j y there inward = ap (λ z. width_of (input_type z)) there ∙ ap (λ b. width_of (cond b None (Some y.type))) inward
 
     pub result_width_is : (i k : ℕ) (o : Op) (t : HwType) → slice_get m.body i ≡ Some o → result_type o k ≡ Some t → identifier_width m (value_identifier i k) ≡ width t
-    result_width_is i k o t there typed = ap (λ z. width_of (bind z (λ (o : Op). result_type o k))) there ∙ ap width_of typed
+    result_width_is i k o t there typed = ap (λ z. width_of (option_and_then (λ (o : Op). result_type o k) z)) there ∙ ap width_of typed
 
     module _ (σ : VNet → Word) (words : HaveWords σ) where
       names_fit : AreNamed (value_name m) m.ports m.body (width_in (vmodule d m)) (names_at (vpath_of d top p) σ)
@@ -189,7 +189,8 @@ module _ (d : Design) (x : Setting d) (top : Name) (inputs content : Word) where
     -- what drives a thing's net gives as many bits as it has
     pub given_long : (σ : VNet → Word) (k : Identifier) → In k (module_identifiers m) → length (given σ p m k) ≡ identifier_width m k
     given_long σ k within = go (owner_of m k within) where
-      by_drive : (l : Identifier) → k ≡ l → (w : Drive) → identifier_drive d x top p m l ≡ w → length (drive_value (tree_of d) (symbol_name d top) inputs content σ (identifier_width m l) w) ≡ identifier_width m l → length (given σ p m k) ≡ identifier_width m k
+      by_drive : (l : Identifier) → k ≡ l → (w : Drive) → identifier_drive d x top p m l ≡ w → length (drive_value (tree_of d) (symbol_name d top) inputs content σ (identifier_width m l) w)
+          ≡ identifier_width m l → length (given σ p m k) ≡ identifier_width m k
       by_drive l same w drives long = ap (λ z. length (given σ p m z)) same ∙ ap (λ z. length (drive_value (tree_of d) (symbol_name d top) inputs content σ (identifier_width m l) z)) drives
           ∙ long ∙ sym (ap (identifier_width m) same)
 
@@ -216,11 +217,11 @@ module _ (d : Design) (x : Setting d) (top : Name) (inputs content : Word) where
       go (a_net i o there emission same) = by_drive (value_identifier i 0) same (driven_by (vpath_of d top p) (assigned_expr m (result i 0))) (drive_net d x top p m here i o there emission)
           (assigned_long (width_at (vmodule_at (tree_of d) (symbol_name d top) (vpath_of d top p))) (names_at (vpath_of d top p) σ) (identifier_width m (value_identifier i 0)) (assigned_expr m (result i 0)))
       go (a_variable i o there emission same) = by_drive (value_identifier i 0) same (held (base d top p + body_state (state d) (take i m.body)) (width_of (result_type o 0))) (drive_variable d x top p m here i o there emission)
-          (length-first (width_of (result_type o 0)) (drop (base d top p + body_state (state d) (take i m.body)) content) ∙ sym (ap (λ z. width_of (bind z (λ (o : Op). result_type o 0))) there))
+          (length-first (width_of (result_type o 0)) (drop (base d top p + body_state (state d) (take i m.body)) content) ∙ sym (ap (λ z. width_of (option_and_then (λ (o : Op). result_type o 0) z)) there))
       go (an_instance i o there emission same) = by_drive (instance_identifier i) same nothing (drive_instance d x top p m here i o there emission) refl
       go (a_result i l o r there emission found same) =
           let c = called_by_emission d x symbol_there m found_there i o there emission in
-          let typed : slice_get (output_types c.module_of.ports) l ≡ Some r.type = output_type_at d m o c l ∙ ap (omap (λ (z : OpResult). z.type)) found in
+          let typed : slice_get (output_types c.module_of.ports) l ≡ Some r.type = output_type_at d m o c l ∙ ap (option_map (λ (z : OpResult). z.type)) found in
           let e = output_of_number c.module_of.ports l r.type typed in
           by_drive (value_identifier i l) same (driven_from (vnet (vpath_of d top (number_of m.body i ∷ p)) (identifier_text c.module_of (port_identifier e.place)))) (drive_result d x top p m here i l o r c there emission found e)
           (low_long (identifier_width m (value_identifier i l)) false (σ (vnet (vpath_of d top (number_of m.body i ∷ p)) (identifier_text c.module_of (port_identifier e.place)))))
@@ -229,9 +230,9 @@ module _ (d : Design) (x : Setting d) (top : Name) (inputs content : Word) where
   pub joined_is : (u : ℕ) (p : Path) (m : Module) → (f : Further d x top p u m) → (j : ℕ) (z : Option Ref)
       → operand_for (slice_get m.ports j) f.op.operands (input_count (take j m.ports)) ≡ z → source d top (at (u ∷ p) (port j)) ≡ copy_of p z
   joined_is u p m f j z joins =
-      ap (copy_of p) (ap (λ y. bind y (joined_at d u j)) f.here
-      ∙ ap (λ y. bind y (joined_ref d j)) instance_is
-      ∙ ap (λ y. bind y (λ (c : Module). port_ref c.ports f.op.operands j)) (callee_is d f.outer f.op f.called)
+      ap (copy_of p) (ap (λ y. option_and_then (joined_at d u j) y) f.here
+      ∙ ap (λ y. option_and_then (joined_ref d j) y) instance_is
+      ∙ ap (λ y. option_and_then (λ (c : Module). port_ref c.ports f.op.operands j) y) (callee_is d f.outer f.op f.called)
       ∙ ap (λ (c : Module). port_ref c.ports f.op.operands j) f.inside ∙ joins) where
         instance_is : slice_get (instances f.outer.body) u ≡ Some f.op
         instance_is = ap (slice_get (instances f.outer.body)) (sym f.is_number) ∙ instance_found f.outer.body f.place f.op f.called.kind f.there f.called.is_kind
@@ -283,7 +284,7 @@ module _ (d : Design) (x : Setting d) (top : Name) (inputs content : Word) where
     first_type : (p : Path) (m : Module) (here : module_at d top p ≡ Some m) (i : ℕ) (o : Op) → slice_get m.body i ≡ Some o
         → (emission_of m.ports m.body i o ≡ as_wire) ⊎ (emission_of m.ports m.body i o ≡ as_reg) → (t : HwType) × (result_type o 0 ≡ Some t)
     first_type p m here i o there emission = let h = first_result d x (symbol_there p m here) m (found_there p m here) i o there emission in
-        (h.0.type, ap (λ rs. omap (λ (z : OpResult). z.type) (slice_get rs 0)) h.1)
+        (h.0.type, ap (λ rs. option_map (λ (z : OpResult). z.type) (slice_get rs 0)) h.1)
 
     net_agrees : (p : Path) (m : Module) (here : module_at d top p ≡ Some m) (i : ℕ) (o : Op) → slice_get m.body i ≡ Some o → emission_of m.ports m.body i o ≡ as_wire
         → ((r : Ref) → own σ p m r ≡ τ (at p r)) → given σ p m (value_identifier i 0) ≡ evaluated τ p (result i 0)
@@ -299,7 +300,8 @@ module _ (d : Design) (x : Setting d) (top : Name) (inputs content : Word) where
     variable_agrees p m here i o there emission =
         let t = first_type p m here i o there (inr emission) in
         let h = register_of_emission m.ports m.body i o emission in
-        ap (drive_value (tree_of d) (symbol_name d top) inputs content σ (identifier_width m (value_identifier i 0))) (drive_variable d x top p m here i o there emission ∙ ap (λ z. held (base d top p + body_state (state d) (take i m.body)) (width_of z)) t.1)
+        ap (drive_value (tree_of d) (symbol_name d top) inputs content σ (identifier_width m (value_identifier i 0)))
+        (drive_variable d x top p m here i o there emission ∙ ap (λ z. held (base d top p + body_state (state d) (take i m.body)) (width_of z)) t.1)
         ∙ sym (evaluated_as τ p (result i 0) (from_held (offset d top p m i) (width t.0))
         (register_from d top p m here i 0 o h.0 there h.1 ∙ ap (held_of (offset d top p m i)) t.1))
 
@@ -307,13 +309,13 @@ module _ (d : Design) (x : Setting d) (top : Name) (inputs content : Word) where
         → slice_get o.results k ≡ Some r → ShowOutputs → given σ p m (value_identifier i k) ≡ evaluated τ p (result i k)
     result_agrees p m here i k o r there emission found shows =
         let c = called_by_emission d x (symbol_there p m here) m (found_there p m here) i o there emission in
-        let typed : slice_get (output_types c.module_of.ports) k ≡ Some r.type = output_type_at d m o c k ∙ ap (omap (λ (z : OpResult). z.type)) found in
+        let typed : slice_get (output_types c.module_of.ports) k ≡ Some r.type = output_type_at d m o c k ∙ ap (option_map (λ (z : OpResult). z.type)) found in
         by_output c (output_of_number c.module_of.ports k r.type typed) where
           by_output : (c : Called d m o) → OutputAt c.module_of.ports k r.type → given σ p m (value_identifier i k) ≡ evaluated τ p (result i k)
           by_output c e =
               let inside = inside_instance d x top p m here i o c there in
               let g = output_ref_at d c.module_of (module_sound d x c.kind.symbol c.module_of c.there) e.place e.port e.there e.out in
-              let w : identifier_width m (value_identifier i k) ≡ width r.type = result_width_is p m here i k o r.type there (ap (omap (λ (z : OpResult). z.type)) found) in
+              let w : identifier_width m (value_identifier i k) ≡ width r.type = result_width_is p m here i k o r.type there (ap (option_map (λ (z : OpResult). z.type)) found) in
               let long : length (σ (vnet (vpath_of d top (number_of m.body i ∷ p)) (identifier_text c.module_of (port_identifier e.place)))) ≡ width r.type =
               good.words (number_of m.body i ∷ p) c.module_of inside.0 (port_identifier e.place) (port_in c.module_of e.place e.port e.there)
               ∙ port_width_is (number_of m.body i ∷ p) c.module_of inside.0 e.place e.port e.there ∙ ap width e.type in
@@ -323,7 +325,7 @@ module _ (d : Design) (x : Setting d) (top : Name) (inputs content : Word) where
               ∙ shows (number_of m.body i ∷ p) c.module_of inside.0 e.place e.port g.0 e.there e.out g.1
               ∙ sym (evaluated_as τ p (result i k) (copy (at (number_of m.body i ∷ p) g.0))
               (instance_from d top p m here i k o k'.0 there k'.1 k'.2
-              ∙ ap (copy_of (number_of m.body i ∷ p)) (ap (λ y. bind y (λ (c : Module). slice_get (output_refs c.body) k)) (callee_is d m o c)
+              ∙ ap (copy_of (number_of m.body i ∷ p)) (ap (λ y. option_and_then (λ (c : Module). slice_get (output_refs c.body) k) y) (callee_is d m o c)
               ∙ ap (slice_get (output_refs c.module_of.body)) (sym e.number) ∙ g.1)))
 
     -- a named value

@@ -1,16 +1,16 @@
 -- What drives the nets of a tree, place by place.
-use Rattle.std.proofs.Common.{◌≡◌, ℕ, zero, suc, ◌+◌, Bool, true, false, cond, List, [], ◌∷◌, take, slice_get, Some, None, refl, sym, ◌∙◌, ap, ap₂, subst, zero-add, add-zero, suc-add, add-suc, arith}
+use Rattle.std.proofs.Common.{◌≡◌, ℕ, zero, suc, ◌+◌, Bool, true, false, cond, List, [], ◌∷◌, take, slice_get, Some, None, refl, sym, ◌∙◌, ap, ap₂, subst, zero-add, add-zero, suc-add, add-suc, arith, option_and_then, option_map}
 use Rattle.wiring.specs.Wiring.{In}
-use Rattle.wiring.specs.Options.{bind, omap}
 use Rattle.hw_model.specs.Types.{Name, width}
 use Rattle.hw_model.specs.Design.{Port, OpResult, Op, Module, Design, same_name, find_module, instance_in, result_type, output_refs}
 use Rattle.hw_model.specs.Design.Ref.{result}
 use Rattle.hw_model.specs.Equality.{name_self, name_from}
 use Rattle.hw_model.specs.Flat.{Path, module_at, width_of, base, body_state, state, input_count, input_width}
 use Rattle.verilog_model.specs.Tree.{Expr, VModule}
-use Rattle.verilog_model.specs.Hierarchy.{VPath, vnet, Drive, drive, drive_at, drive_in, inner_drive, drive_or_nothing, input_drive, connection_drive, drive_of_connection, find_port, find_instance, find_connection, vmodule_at, width_in, width_at, range_width, input_width_before}
+use Rattle.verilog_model.specs.Hierarchy.{VPath, vnet, Drive, drive, drive_at, drive_in, inner_drive, drive_or_nothing, input_drive, connection_drive, drive_of_connection, find_port, find_instance}
+use Rattle.verilog_model.specs.Hierarchy.{find_connection, vmodule_at, width_in, width_at, range_width, input_width_before}
 use Rattle.verilog_model.specs.Hierarchy.Drive.{nothing, input, held, expression as driven_by, net as driven_from}
-use Rattle.verilog_expr.specs.Numerals.{high_of}
+use Rattle.verilog_model.specs.Digits.{high_of}
 use Rattle.export_verilog.specs.Identifiers.{Identifier, each, emission_of, module_identifiers, identifier_text}
 use Rattle.export_verilog.specs.Identifiers.Identifier.{port_identifier, value_identifier, instance_identifier}
 use Rattle.export_verilog.specs.Identifiers.Emission.{as_wire, as_reg, as_instance}
@@ -31,7 +31,8 @@ inputs_before : (m : Module) (j : ℕ) (ps : List Port) (n : ℕ) (p : Port) →
     → input_width_before (identifier_text m (port_identifier (j + n))) (each (vport m) j ps) ≡ input_width (take n ps)
 inputs_before m j [] n p there each_ok = cc
 inputs_before m j (x ∷ ps) zero p there each_ok =
-    ap (λ b. cond b 0 (cond x.is_output (input_width_before (identifier_text m (port_identifier (j + 0))) (each (vport m) (suc j) ps)) (range_width (high_of (width x.type)) + input_width_before (identifier_text m (port_identifier (j + 0))) (each (vport m) (suc j) ps))))
+    ap (λ b. cond b 0 (cond x.is_output (input_width_before (identifier_text m (port_identifier (j + 0))) (each (vport m) (suc j) ps))
+    (range_width (high_of (width x.type)) + input_width_before (identifier_text m (port_identifier (j + 0))) (each (vport m) (suc j) ps))))
     (ap (λ a. same_name (identifier_text m (port_identifier j)) (identifier_text m (port_identifier a))) (add-zero j) ∙ name_self (identifier_text m (port_identifier j)))
 inputs_before m j (x ∷ ps) (suc n) p there each_ok =
     ap (λ b. cond b 0 (rest_of (input_width_before (identifier_text m (port_identifier (j + suc n))) (each (vport m) (suc j) ps)))) other
@@ -45,7 +46,8 @@ inputs_before m j (x ∷ ps) (suc n) p there each_ok =
       other = go (same_name (identifier_text m (port_identifier j)) (identifier_text m (port_identifier (j + suc n)))) refl where
         go : (b : Bool) → same_name (identifier_text m (port_identifier j)) (identifier_text m (port_identifier (j + suc n))) ≡ b → b ≡ false
         go false e = refl
-        go true e = absurd (let h : 0 ≡ suc n = (each_ok 0 x refl).0 (ap (λ a. identifier_text m (port_identifier a)) (add-zero j) ∙ name_from (identifier_text m (port_identifier j)) (identifier_text m (port_identifier (j + suc n))) e) in omega arith)
+        go true e = absurd (let h : 0 ≡ suc n = (each_ok 0 x refl).0 (ap (λ a. identifier_text m (port_identifier a)) (add-zero j)
+            ∙ name_from (identifier_text m (port_identifier j)) (identifier_text m (port_identifier (j + suc n))) e) in omega arith)
 
       later : (a : ℕ) (q : Port) → slice_get ps a ≡ Some q → (identifier_text m (port_identifier (suc j + a)) ≡ identifier_text m (port_identifier (suc j + n)) → a ≡ n) × (range_width (high_of (width q.type)) ≡ width q.type)
       later a q at = let h = each_ok (suc a) q at in
@@ -116,22 +118,24 @@ module _ (d : Design) (x : Setting d) (top : Name) where
     port_here : (j : ℕ) (y : Port) → slice_get m.ports j ≡ Some y
         → identifier_drive p m (port_identifier j) ≡ drive_in (tree_of d) (symbol_name d top) (vpath_of d top p) (vmodule d m) (identifier_text m (port_identifier j)) (Some (vport_at m j y))
     port_here j y there = drive_of_identifier (port_identifier j) (port_in m j y there)
-        ∙ ap (λ z. drive_in (tree_of d) (symbol_name d top) (vpath_of d top p) (vmodule d m) (identifier_text m (port_identifier j)) (omap (vport_at m j) z)) there
+        ∙ ap (λ z. drive_in (tree_of d) (symbol_name d top) (vpath_of d top p) (vmodule d m) (identifier_text m (port_identifier j)) (option_map (vport_at m j) z)) there
 
     pub drive_output : (j : ℕ) (y : Port) → slice_get m.ports j ≡ Some y → y.is_output ≡ true
         → identifier_drive p m (port_identifier j) ≡ driven_by (vpath_of d top p) (expr_for (expression m) (slice_get (output_refs m.body) (output_count (take j m.ports))))
     drive_output j y there out =
         port_here j y there
-        ∙ ap (λ b. cond b (inner_drive (tree_of d) (symbol_name d top) (vpath_of d top p) (vmodule d m) (identifier_text m (port_identifier j))) (input_drive (tree_of d) (symbol_name d top) (vpath_of d top p) (vmodule d m) (vport_at m j y))) out
+        ∙ ap (λ b. cond b (inner_drive (tree_of d) (symbol_name d top) (vpath_of d top p) (vmodule d m) (identifier_text m (port_identifier j)))
+        (input_drive (tree_of d) (symbol_name d top) (vpath_of d top p) (vmodule d m) (vport_at m j y))) out
         ∙ inner_of_identifier (port_identifier j) (port_in m j y there)
-        ∙ ap (λ z. drive_or_nothing (bind z (λ (y : Port). cond y.is_output (Some (driven_by (vpath_of d top p) (expr_for (expression m) (slice_get (output_refs m.body) (output_count (take j m.ports)))))) None))) there
+        ∙ ap (λ z. drive_or_nothing (option_and_then (λ (y : Port). cond y.is_output (Some (driven_by (vpath_of d top p) (expr_for (expression m) (slice_get (output_refs m.body) (output_count (take j m.ports)))))) None) z)) there
         ∙ ap (λ b. drive_or_nothing (cond b (Some (driven_by (vpath_of d top p) (expr_for (expression m) (slice_get (output_refs m.body) (output_count (take j m.ports)))))) None)) out
 
     pub drive_input : (j : ℕ) (y : Port) → slice_get m.ports j ≡ Some y → y.is_output ≡ false
         → identifier_drive p m (port_identifier j) ≡ input_drive (tree_of d) (symbol_name d top) (vpath_of d top p) (vmodule d m) (vport_at m j y)
     drive_input j y there out =
         port_here j y there
-        ∙ ap (λ b. cond b (inner_drive (tree_of d) (symbol_name d top) (vpath_of d top p) (vmodule d m) (identifier_text m (port_identifier j))) (input_drive (tree_of d) (symbol_name d top) (vpath_of d top p) (vmodule d m) (vport_at m j y))) out
+        ∙ ap (λ b. cond b (inner_drive (tree_of d) (symbol_name d top) (vpath_of d top p) (vmodule d m) (identifier_text m (port_identifier j)))
+        (input_drive (tree_of d) (symbol_name d top) (vpath_of d top p) (vmodule d m) (vport_at m j y))) out
 
   -- an input of the top: its bits of the inputs
   pub drive_top_input : (m : Module) → (here : module_at d top [] ≡ Some m) → (j : ℕ) (y : Port) → slice_get m.ports j ≡ Some y → y.is_output ≡ false
@@ -148,7 +152,8 @@ module _ (d : Design) (x : Setting d) (top : Name) where
         ports_ok a q at = (same_place, port_width x.say d m ok names a q at) where
           same_place : identifier_text m (port_identifier (0 + a)) ≡ identifier_text m (port_identifier (0 + j)) → a ≡ j
           same_place e =
-              let texts : identifier_text m (port_identifier a) ≡ identifier_text m (port_identifier j) = ap (λ z. identifier_text m (port_identifier z)) (sym (zero-add a)) ∙ e ∙ ap (λ z. identifier_text m (port_identifier z)) (zero-add j) in
+              let texts : identifier_text m (port_identifier a) ≡ identifier_text m (port_identifier j) = ap (λ z. identifier_text m (port_identifier z)) (sym (zero-add a)) ∙ e
+              ∙ ap (λ z. identifier_text m (port_identifier z)) (zero-add j) in
               let identifiers : port_identifier a ≡ port_identifier j = texts_apart m names (port_identifier a) (port_identifier j) (port_in m a q at) (port_in m j y there) texts in
               let places : a ≡ j = cc in places
 
@@ -160,7 +165,7 @@ module _ (d : Design) (x : Setting d) (top : Name) where
       → identifier_drive (u ∷ p) m (port_identifier j) ≡ driven_by (vpath_of d top p) (expr_for (expression f.outer) (slice_get f.op.operands (input_count (take j m.ports))))
   drive_inner_input u p m here f j y there out =
       drive_input (u ∷ p) m here j y there out
-      ∙ ap (λ z. connection_drive (vpath_of d top p) (identifier_text m (port_identifier j)) (bind z (λ (v : VModule). find_instance v.items (step_name (module_at d top p) u)))) (vplace d x top p f.outer f.here)
+      ∙ ap (λ z. connection_drive (vpath_of d top p) (identifier_text m (port_identifier j)) (option_and_then (λ (v : VModule). find_instance v.items (step_name (module_at d top p) u)) z)) (vplace d x top p f.outer f.here)
       ∙ ap (λ z. connection_drive (vpath_of d top p) (identifier_text m (port_identifier j)) (find_instance (vitems d f.outer) z)) step
       ∙ ap (connection_drive (vpath_of d top p) (identifier_text m (port_identifier j))) found
       ∙ ap (λ z. drive_of_connection (vpath_of d top p) (find_connection (connections_to z f.outer f.place f.op) (identifier_text m (port_identifier j)))) f.called.there
@@ -173,8 +178,8 @@ module _ (d : Design) (x : Setting d) (top : Name) where
 
         found : find_instance (vitems d f.outer) (identifier_text f.outer (instance_identifier f.place)) ≡ Some (instance_of_kind d f.outer f.place f.op f.called.kind)
         found = instance_under d f.outer names (instance_identifier f.place) (instance_in_identifiers f.outer f.place f.op f.there f.emission)
-            ∙ ap (λ z. bind z (λ (o : Op). omap (instance_of_kind d f.outer f.place o) (instance_in o.kind))) f.there
-            ∙ ap (omap (instance_of_kind d f.outer f.place f.op)) f.called.is_kind
+            ∙ ap (λ z. option_and_then (λ (o : Op). option_map (instance_of_kind d f.outer f.place o) (instance_in o.kind)) z) f.there
+            ∙ ap (option_map (instance_of_kind d f.outer f.place f.op)) f.called.is_kind
 
         joined_own : slice_get f.called.module_of.ports j ≡ Some y
             → drive_of_connection (vpath_of d top p) (find_connection (connections_of f.called.module_of f.outer f.place 0 0 f.called.module_of.ports f.op.operands) (identifier_text f.called.module_of (port_identifier j)))
@@ -182,11 +187,14 @@ module _ (d : Design) (x : Setting d) (top : Name) where
         joined_own at =
             ap (drive_of_connection (vpath_of d top p))
             (connection_under f.called.module_of f.outer f.place f.op (x.names f.called.kind.symbol f.called.module_of f.called.there) (port_identifier j) (port_in f.called.module_of j y at)
-            ∙ ap (omap (λ q. connection_of f.called.module_of f.outer f.place j 0 (take j f.called.module_of.ports) q f.op.operands)) at)
-            ∙ ap (λ b. driven_by (vpath_of d top p) (cond b (Rattle.verilog_model.specs.Tree.Expr.name (identifier_text f.outer (value_identifier f.place (0 + output_count (take j f.called.module_of.ports))))) (expr_for (expression f.outer) (slice_get f.op.operands (input_count (take j f.called.module_of.ports)))))) out
+            ∙ ap (option_map (λ q. connection_of f.called.module_of f.outer f.place j 0 (take j f.called.module_of.ports) q f.op.operands)) at)
+            ∙ ap (λ b. driven_by (vpath_of d top p) (cond b (Rattle.verilog_model.specs.Tree.Expr.name
+            (identifier_text f.outer (value_identifier f.place (0 + output_count (take j f.called.module_of.ports)))))
+            (expr_for (expression f.outer) (slice_get f.op.operands (input_count (take j f.called.module_of.ports)))))) out
 
         joined : (z : Module) → f.called.module_of ≡ z → slice_get z.ports j ≡ Some y
             → drive_of_connection (vpath_of d top p) (find_connection (connections_of f.called.module_of f.outer f.place 0 0 f.called.module_of.ports f.op.operands) (identifier_text z (port_identifier j)))
             ≡ driven_by (vpath_of d top p) (expr_for (expression f.outer) (slice_get f.op.operands (input_count (take j z.ports))))
-        joined z same = subst (λ y'. slice_get y'.ports j ≡ Some y → drive_of_connection (vpath_of d top p) (find_connection (connections_of f.called.module_of f.outer f.place 0 0 f.called.module_of.ports f.op.operands) (identifier_text y' (port_identifier j)))
+        joined z same = subst (λ y'. slice_get y'.ports j ≡ Some y → drive_of_connection (vpath_of d top p)
+            (find_connection (connections_of f.called.module_of f.outer f.place 0 0 f.called.module_of.ports f.op.operands) (identifier_text y' (port_identifier j)))
             ≡ driven_by (vpath_of d top p) (expr_for (expression f.outer) (slice_get f.op.operands (input_count (take j y'.ports))))) same joined_own

@@ -1,10 +1,9 @@
 -- The places of a design and of its tree: paths by numbers of instances, and paths by their names.
-use Rattle.std.proofs.Common.{◌≡◌, ℕ, zero, suc, ◌⊎◌, Bool, true, false, List, [], ◌∷◌, length, take, slice_get, Option, Some, None, refl, sym, ◌∙◌, ap, ap₂, subst, inl, inr, arith}
+use Rattle.std.proofs.Common.{◌≡◌, ℕ, zero, suc, ◌⊎◌, Bool, true, false, List, [], ◌∷◌, length, take, slice_get, Option, Some, None, refl, sym, ◌∙◌, ap, ap₂, subst, inl, inr, arith, option_and_then, option_map}
 use Rattle.std.proofs.lemmas.List.{length-take}
 use Rattle.std.proofs.lemmas.Option.{slice_get_within}
 use Rattle.wiring.specs.Wiring.{In}
-use Rattle.wiring.specs.Options.{bind, omap}
-use Rattle.wiring.proofs.Options.{bind_some}
+use Rattle.wiring.proofs.Options.{and_then_some}
 use Rattle.hw_model.specs.Types.{Name}
 use Rattle.hw_model.specs.Kinds.{Instance}
 use Rattle.hw_model.specs.Design.{Op, Module, Design, same_name, find_module, instance_in, callee}
@@ -101,9 +100,9 @@ module _ (d : Design) (x : Setting d) (top : Name) where
 
   pub further : (u : ℕ) (p : Path) (c : Module) → module_at d top (u ∷ p) ≡ Some c → Further p u c
   further u p c is =
-      let outer = bind_some (module_at d top p) (λ (y : Module). bind (slice_get (instances y.body) u) (callee d)) is in
-      let inner = bind_some (slice_get (instances outer.0.body) u) (callee d) outer.2 in
-      let kind = bind_some (instance_in inner.0.kind) (λ (i : Instance). find_module d i.symbol) inner.2 in
+      let outer = and_then_some (module_at d top p) (λ (y : Module). option_and_then (callee d) (slice_get (instances y.body) u)) is in
+      let inner = and_then_some (slice_get (instances outer.0.body) u) (callee d) outer.2 in
+      let kind = and_then_some (instance_in inner.0.kind) (λ (i : Instance). find_module d i.symbol) inner.2 in
       let place = number_place outer.0.body u inner.0 inner.1 in
       go outer.0 outer.1 inner.0 kind.0 kind.1 kind.2 place.0 place.1 where
         go : (m : Module) → module_at d top p ≡ Some m → (o : Op) (k : Instance) → instance_in o.kind ≡ Some k → find_module d k.symbol ≡ Some c
@@ -111,7 +110,7 @@ module _ (d : Design) (x : Setting d) (top : Name) where
         go m here o k kind found there number =
             let at = symbol_at_path p m here in
             let called : Called d m o = called_by d x at.0 m at.1 (place_of m.body u) o there k kind in
-            let same : Some called.module_of ≡ Some c = sym (callee_is d m o called) ∙ ap (λ z. bind z (λ (i : Instance). find_module d i.symbol)) kind ∙ found in
+            let same : Some called.module_of ≡ Some c = sym (callee_is d m o called) ∙ ap (λ z. option_and_then (λ (i : Instance). find_module d i.symbol) z) kind ∙ found in
             record {
               outer = m;
               here = here;
@@ -139,8 +138,8 @@ module _ (d : Design) (x : Setting d) (top : Name) where
       → find_instance (vitems d m) (identifier_text m (instance_identifier i)) ≡ Some (instance_of_kind d m i o c.kind)
   instance_there m are i o c there emission =
       instance_under d m are (instance_identifier i) (instance_in_identifiers m i o there emission)
-      ∙ ap (λ z. bind z (λ (o : Op). omap (instance_of_kind d m i o) (instance_in o.kind))) there
-      ∙ ap (omap (instance_of_kind d m i o)) c.is_kind
+      ∙ ap (λ z. option_and_then (λ (o : Op). option_map (instance_of_kind d m i o) (instance_in o.kind)) z) there
+      ∙ ap (option_map (instance_of_kind d m i o)) c.is_kind
 
   -- what stands at the end of a path of the tree
   pub vplace : (p : Path) (m : Module) → module_at d top p ≡ Some m → vmodule_at (tree_of d) (symbol_name d top) (vpath_of d top p) ≡ Some (vmodule d m)
@@ -150,8 +149,8 @@ module _ (d : Design) (x : Setting d) (top : Name) where
         → vmodule_at (tree_of d) (symbol_name d top) (vpath_of d top (u ∷ p)) ≡ Some (vmodule d m)
     step f rest =
         ap (vmodule_at (tree_of d) (symbol_name d top)) (name_of_step u p m f)
-        ∙ ap (λ z. bind z (λ (v : VModule). bind (find_instance v.items (identifier_text f.outer (instance_identifier f.place))) (λ (i : VInstance). find_vmodule (tree_of d) i.module_name))) (rest f.outer f.here)
-        ∙ ap (λ z. bind z (λ (i : VInstance). find_vmodule (tree_of d) i.module_name)) (instance_there f.outer (names_at_path p f.outer f.here) f.place f.op f.called f.there f.emission)
+        ∙ ap (λ z. option_and_then (λ (v : VModule). option_and_then (λ (i : VInstance). find_vmodule (tree_of d) i.module_name) (find_instance v.items (identifier_text f.outer (instance_identifier f.place)))) z) (rest f.outer f.here)
+        ∙ ap (λ z. option_and_then (λ (i : VInstance). find_vmodule (tree_of d) i.module_name) z) (instance_there f.outer (names_at_path p f.outer f.here) f.place f.op f.called f.there f.emission)
         ∙ vmodule_found d x.ok x.symbols f.called.kind.symbol f.called.module_of f.called.there
         ∙ ap (λ y. Some (vmodule d y)) f.inside
 
@@ -159,8 +158,8 @@ module _ (d : Design) (x : Setting d) (top : Name) where
   pub inside_instance : (p : Path) (m : Module) → module_at d top p ≡ Some m → (i : ℕ) (o : Op) (c : Called d m o) → slice_get m.body i ≡ Some o
       → (module_at d top (number_of m.body i ∷ p) ≡ Some c.module_of) × (vpath_of d top (number_of m.body i ∷ p) ≡ identifier_text m (instance_identifier i) ∷ vpath_of d top p)
   inside_instance p m here i o c there = (
-    ap (λ z. bind z (λ (y : Module). bind (slice_get (instances y.body) (number_of m.body i)) (callee d))) here
-        ∙ ap (λ z. bind z (callee d)) (instance_found m.body i o c.kind there c.is_kind) ∙ callee_is d m o c,
+    ap (λ z. option_and_then (λ (y : Module). option_and_then (callee d) (slice_get (instances y.body) (number_of m.body i))) z) here
+        ∙ ap (λ z. option_and_then (callee d) z) (instance_found m.body i o c.kind there c.is_kind) ∙ callee_is d m o c,
     ap (λ z. step_name z (number_of m.body i) ∷ vpath_of d top p) here
         ∙ ap (λ z. identifier_text m (instance_identifier z) ∷ vpath_of d top p) (place_number m.body i o c.kind there c.is_kind),
   )
@@ -199,14 +198,14 @@ module _ (d : Design) (x : Setting d) (top : Name) where
     path_of [] = a_path [] m0 top_is refl
     path_of (n ∷ q) = go (path_of q) where
       go : PathOf q → PathOf (n ∷ q)
-      go (no_path none) = no_path (ap (λ z. bind z (λ (v : VModule). bind (find_instance v.items n) (λ (i : VInstance). find_vmodule (tree_of d) i.module_name))) none)
+      go (no_path none) = no_path (ap (λ z. option_and_then (λ (v : VModule). option_and_then (λ (i : VInstance). find_vmodule (tree_of d) i.module_name) (find_instance v.items n)) z) none)
       go (a_path p m here same) = by_identifier (identifier_of_name m n (module_identifiers m)) where
         at : vmodule_at (tree_of d) (symbol_name d top) q ≡ Some (vmodule d m)
         at = ap (vmodule_at (tree_of d) (symbol_name d top)) (sym same) ∙ vplace p m here
 
         nowhere : find_instance (vitems d m) n ≡ None → PathOf (n ∷ q)
-        nowhere none = no_path (ap (λ z. bind z (λ (v : VModule). bind (find_instance v.items n) (λ (i : VInstance). find_vmodule (tree_of d) i.module_name))) at
-            ∙ ap (λ z. bind z (λ (i : VInstance). find_vmodule (tree_of d) i.module_name)) none)
+        nowhere none = no_path (ap (λ z. option_and_then (λ (v : VModule). option_and_then (λ (i : VInstance). find_vmodule (tree_of d) i.module_name) (find_instance v.items n)) z) at
+            ∙ ap (λ z. option_and_then (λ (i : VInstance). find_vmodule (tree_of d) i.module_name) z) none)
 
         by_owner : (k : Identifier) → In k (module_identifiers m) → n ≡ identifier_text m k → Owner m k → PathOf (n ∷ q)
         by_owner k within is (an_instance i o there emission same_identifier) =

@@ -1,6 +1,5 @@
 -- The registers of a tree whose second event comes take what those of its design do whose asynchronous reset rises.
-use Rattle.std.proofs.Common.{◌≡◌, ℕ, cond, List, slice_get, Option, Some, None, refl, ◌∙◌, ap, ap₂, inr}
-use Rattle.wiring.specs.Options.{omap}
+use Rattle.std.proofs.Common.{◌≡◌, ℕ, cond, List, slice_get, Option, Some, None, refl, ◌∙◌, ap, ap₂, inr, option_map}
 use Rattle.wiring.specs.Wiring.{In}
 use Rattle.wiring.proofs.Members.{In-slice_get}
 use Rattle.bits_core.specs.Word.{Word}
@@ -59,7 +58,7 @@ module _ (d : Design) (x : Setting d) (top : Name) (m0 : Module) (top_is : find_
   slot_rise_is s v is old =
       let h = symbol_at_path d x top s.path is.m is.here in
       let r = first_result d x h.0 is.m h.1 is.place s.op is.there (inr is.emission) in
-      let typed : result_type s.op 0 ≡ Some r.0.type = ap (λ rs. omap (λ (z : OpResult). z.type) (slice_get rs 0)) r.1 in
+      let typed : result_type s.op 0 ≡ Some r.0.type = ap (λ rs. option_map (λ (z : OpResult). z.type) (slice_get rs 0)) r.1 in
       let g = typed_register d x h.0 is.m h.1 is.place s.op is.there is.emission r.0.type typed in
       ap₂ (λ k (z : VSlot). event_value (second_event z.block) earlier now k old z) (slot_width_is d x top inputs content m0 top_is ρ settled s v is ∙ ap width_of typed) is.same
       ∙ event_is s.path is.m is.here is.place s.op is.parts g.0 r.0.type (In-slice_get s.op is.m.body is.place is.there) g.1 g.2 (async_reset_in s.op) refl old

@@ -1,7 +1,6 @@
 -- A register with enable and reset meets what the theorem asks, and so behaves in Verilog as it does.
-use Rattle.std.proofs.Common.{◌≡◌, ℕ, zero, suc, ◌+◌, ◌<◌, ◌≤◌, ◌^◌, Bool, true, false, cond, [], ◌∷◌, length, slice_get, Option, Some, None, pos, refl, sym, ◌∙◌, ap, subst, inl, inr, arith, codes}
+use Rattle.std.proofs.Common.{◌≡◌, ℕ, zero, suc, ◌+◌, ◌<◌, ◌≤◌, ◌^◌, Bool, true, false, cond, [], ◌∷◌, length, slice_get, Option, Some, None, pos, refl, sym, ◌∙◌, ap, subst, inl, inr, arith, codes, option_and_then}
 use Rattle.wiring.specs.Wiring.{In}
-use Rattle.wiring.specs.Options.{bind}
 use Rattle.hw_model.specs.Types.{Name, HwType, width}
 use Rattle.hw_model.specs.Types.HwType.{int, clock}
 use Rattle.hw_model.specs.Kinds.RegisterOp.{compreg_ce}
@@ -91,10 +90,10 @@ finite a (k, (c, need, chain)) = subst (In c) (no_calls a) need
 module _ (top : Name) where
   no_module : (u : ℕ) (p : Path) → module_at one_register top (u ∷ p) ≡ None
   no_module u [] = go (same_name (codes "Reg") top) where
-    go : (b : Bool) → bind (cond b (Some register_module) None) (λ (m : Module). bind (slice_get (instances m.body) u) (callee one_register)) ≡ None
+    go : (b : Bool) → option_and_then (λ (m : Module). option_and_then (callee one_register) (slice_get (instances m.body) u)) (cond b (Some register_module) None) ≡ None
     go true = refl
     go false = refl
-  no_module u (v ∷ p) = ap (λ z. bind z (λ (m : Module). bind (slice_get (instances m.body) u) (callee one_register))) (no_module v p)
+  no_module u (v ∷ p) = ap (λ z. option_and_then (λ (m : Module). option_and_then (callee one_register) (slice_get (instances m.body) u)) z) (no_module v p)
 
   no_needs : (p : Path) (r : Ref) → needs_of (source_at one_register top p r) ≡ []
   no_needs p undefined = refl
@@ -108,10 +107,10 @@ module _ (top : Name) where
     go true (suc (suc (suc (suc zero)))) = refl
     go true (suc (suc (suc (suc (suc j))))) = refl
   no_needs (u ∷ []) (port j) = go (same_name (codes "Reg") top) where
-    go : (b : Bool) → needs_of (copy_of [] (bind (cond b (Some register_module) None) (joined_at one_register u j))) ≡ []
+    go : (b : Bool) → needs_of (copy_of [] (option_and_then (joined_at one_register u j) (cond b (Some register_module) None))) ≡ []
     go true = refl
     go false = refl
-  no_needs (u ∷ v ∷ p) (port j) = ap (λ z. needs_of (copy_of (v ∷ p) (bind z (joined_at one_register u j)))) (no_module v p)
+  no_needs (u ∷ v ∷ p) (port j) = ap (λ z. needs_of (copy_of (v ∷ p) (option_and_then (joined_at one_register u j) z))) (no_module v p)
   no_needs (u ∷ p) (result i k) = ap (λ z. needs_of (result_source one_register top (u ∷ p) i k z)) (no_module u p)
   no_needs [] (result i k) = go (same_name (codes "Reg") top) i k where
     go : (b : Bool) (i k : ℕ) → needs_of (result_source one_register top [] i k (cond b (Some register_module) None)) ≡ []
@@ -184,11 +183,11 @@ clock_bit : SizeOf clock
 clock_bit = (omega arith, omega arith)
 
 each_port : (j : ℕ) (p : Port) → slice_get register_module.ports j ≡ Some p → SizeOf p.type
-each_port zero p is = subst SizeOf (let e : Some clock ≡ Some p.type = ap (λ z. bind z (λ (y : Port). Some y.type)) is in let f : clock ≡ p.type = cc in f) clock_bit
-each_port (suc zero) p is = subst SizeOf (let e : Some (int 1) ≡ Some p.type = ap (λ z. bind z (λ (y : Port). Some y.type)) is in let f : int 1 ≡ p.type = cc in f) one_bit
-each_port (suc (suc zero)) p is = subst SizeOf (let e : Some (int 1) ≡ Some p.type = ap (λ z. bind z (λ (y : Port). Some y.type)) is in let f : int 1 ≡ p.type = cc in f) one_bit
-each_port (suc (suc (suc zero))) p is = subst SizeOf (let e : Some (int 8) ≡ Some p.type = ap (λ z. bind z (λ (y : Port). Some y.type)) is in let f : int 8 ≡ p.type = cc in f) eight_bits
-each_port (suc (suc (suc (suc zero)))) p is = subst SizeOf (let e : Some (int 8) ≡ Some p.type = ap (λ z. bind z (λ (y : Port). Some y.type)) is in let f : int 8 ≡ p.type = cc in f) eight_bits
+each_port zero p is = subst SizeOf (let e : Some clock ≡ Some p.type = ap (λ z. option_and_then (λ (y : Port). Some y.type) z) is in let f : clock ≡ p.type = cc in f) clock_bit
+each_port (suc zero) p is = subst SizeOf (let e : Some (int 1) ≡ Some p.type = ap (λ z. option_and_then (λ (y : Port). Some y.type) z) is in let f : int 1 ≡ p.type = cc in f) one_bit
+each_port (suc (suc zero)) p is = subst SizeOf (let e : Some (int 1) ≡ Some p.type = ap (λ z. option_and_then (λ (y : Port). Some y.type) z) is in let f : int 1 ≡ p.type = cc in f) one_bit
+each_port (suc (suc (suc zero))) p is = subst SizeOf (let e : Some (int 8) ≡ Some p.type = ap (λ z. option_and_then (λ (y : Port). Some y.type) z) is in let f : int 8 ≡ p.type = cc in f) eight_bits
+each_port (suc (suc (suc (suc zero)))) p is = subst SizeOf (let e : Some (int 8) ≡ Some p.type = ap (λ z. option_and_then (λ (y : Port). Some y.type) z) is in let f : int 8 ≡ p.type = cc in f) eight_bits
 each_port (suc (suc (suc (suc (suc j))))) p is = cc
 
 nothing_wide : 0 < 2 ^ 64

@@ -1,7 +1,6 @@
 -- A settled map of a design goes over to a settled map of its tree, and each settled map of the tree comes from one.
-use Rattle.std.proofs.Common.{◌≡◌, ℕ, ◌⊎◌, Bool, true, false, cond, [], map, length, slice_get, Option, Some, None, refl, sym, ◌∙◌, ap, subst, inl, inr}
+use Rattle.std.proofs.Common.{◌≡◌, ℕ, ◌⊎◌, Bool, true, false, cond, [], map, length, slice_get, Option, Some, None, refl, sym, ◌∙◌, ap, subst, inl, inr, option_and_then, option_map}
 use Rattle.wiring.specs.Wiring.{In}
-use Rattle.wiring.specs.Options.{bind, omap}
 use Rattle.wiring.proofs.Heights.{by_heights}
 use Rattle.bits_core.specs.Word.{Word}
 use Rattle.hw_model.specs.Types.{Name, HwType, width}
@@ -60,8 +59,8 @@ module _ (d : Design) (x : Setting d) (top : Name) (inputs content : Word) (m0 :
     result_long : (p : Path) (m : Module) (i k : ℕ) (o : Op) (t : HwType) → module_at d top p ≡ Some m → slice_get m.body i ≡ Some o → result_type o k ≡ Some t
         → length (ρ (at p (result i k))) ≡ identifier_width m (value_identifier i k)
     result_long p m i k o t here there typed =
-        typed_long p m (result i k) t here (ap (λ z. bind z (λ (o : Op). result_type o k)) there ∙ typed)
-        ∙ sym (ap (λ z. width_of (bind z (λ (o : Op). result_type o k))) there ∙ ap width_of typed)
+        typed_long p m (result i k) t here (ap (λ z. option_and_then (λ (o : Op). result_type o k) z) there ∙ typed)
+        ∙ sym (ap (λ z. width_of (option_and_then (λ (o : Op). result_type o k) z)) there ∙ ap width_of typed)
 
     over_words : HaveWords d x top inputs content (over ρ)
     over_words p m here k within = ap length (over_identifier ρ p m here k within) ∙ go (owner_of m k within) where
@@ -81,14 +80,14 @@ module _ (d : Design) (x : Setting d) (top : Name) (inputs content : Word) (m0 :
       first_long : (i : ℕ) (o : Op) → slice_get m.body i ≡ Some o → (emission_of m.ports m.body i o ≡ as_wire) ⊎ (emission_of m.ports m.body i o ≡ as_reg) → length (ρ (at p (result i 0))) ≡ identifier_width m (value_identifier i 0)
       first_long i o there emission =
           let h = first_result d x (symbol_there d x top inputs content p m here) m (found_there d x top inputs content p m here) i o there emission in
-          result_long p m i 0 o h.0.type here there (ap (λ rs. omap (λ (z : OpResult). z.type) (slice_get rs 0)) h.1)
+          result_long p m i 0 o h.0.type here there (ap (λ rs. option_map (λ (z : OpResult). z.type) (slice_get rs 0)) h.1)
 
       go : Owner m k → length (ρ (at p (shown_ref d x top m0 top_is m k))) ≡ identifier_width m k
       go (a_port j y there same) = moved (port_identifier j) same (by_way j y there y.is_output refl)
       go (a_net i o there emission same) = moved (value_identifier i 0) same (first_long i o there (inl emission))
       go (a_variable i o there emission same) = moved (value_identifier i 0) same (first_long i o there (inr emission))
       go (an_instance i o there emission same) = moved (instance_identifier i) same (ap length (settled (at p undefined)))
-      go (a_result i l o r there emission found same) = moved (value_identifier i l) same (result_long p m i l o r.type here there (ap (omap (λ (z : OpResult). z.type)) found))
+      go (a_result i l o r there emission found same) = moved (value_identifier i l) same (result_long p m i l o r.type here there (ap (option_map (λ (z : OpResult). z.type)) found))
 
     -- a name shows its value
     pub name_shows : (p : Path) (m : Module) (here : module_at d top p ≡ Some m) (r : Ref) (n : Name)

@@ -1,6 +1,6 @@
 -- The registers of a design and those of its tree stand in the same order, and load the same values.
-use Rattle.std.proofs.Common.{◌≡◌, ℕ, zero, suc, ◌+◌, Bool, true, false, cond, ◌||◌, is_some, List, [], ◌∷◌, ◌++◌, map, length, take, drop, slice_get, Option, Some, None, refl, sym, ◌∙◌, ap, ap₂, subst, inr, zero-add, add-zero, suc-add, add-suc, append_assoc, append-nil, arith}
-use Rattle.wiring.specs.Options.{omap}
+use Rattle.std.proofs.Common.{◌≡◌, ℕ, zero, suc, ◌+◌, Bool, true, false, cond, ◌||◌, is_some, List, [], ◌∷◌, ◌++◌, map, length, take, drop, slice_get, Option, Some, None, refl, sym, ◌∙◌, ap, ap₂}
+use Rattle.std.proofs.Common.{subst, inr, zero-add, add-zero, suc-add, add-suc, append_assoc, append-nil, arith, option_map}
 use Rattle.wiring.specs.Wiring.{In}
 use Rattle.wiring.proofs.Members.{In-slice_get}
 use Rattle.bits_core.specs.Word.{Word, first}
@@ -10,7 +10,8 @@ use Rattle.hw_model.specs.Design.{Ref, Port, OpResult, Op, Module, Design, find_
 use Rattle.hw_model.specs.Design.Ref.{result}
 use Rattle.hw_model.specs.Value.{op_value, is_high}
 use Rattle.hw_model.specs.Flat.Source.{op_result}
-use Rattle.hw_model.specs.Flat.{Path, Net, net as at, module_at, instances, width_of, held_width, Slot, Register, ResetBy, register_in, async_reset_in, instance_registers, op_registers, body_registers, registers_of, module_registers, registers, depth}
+use Rattle.hw_model.specs.Flat.{Path, Net, net as at, module_at, instances, width_of, held_width, Slot, Register, ResetBy, register_in, async_reset_in, instance_registers, op_registers}
+use Rattle.hw_model.specs.Flat.{body_registers, registers_of, module_registers, registers, depth}
 use Rattle.hw_model.specs.Meaning.{value_if_enabled, reset, next_value, map_slots, next_in, next_content}
 use Rattle.hw_model.specs.Sound.{type_in}
 use Rattle.hw_model.proofs.Sorts.{Sort, sort_of}
@@ -30,7 +31,8 @@ use Rattle.export_verilog.specs.Identifiers.{Emission, each, emission_of, identi
 use Rattle.export_verilog.specs.Identifiers.Identifier.{port_identifier, value_identifier, instance_identifier}
 use Rattle.export_verilog.specs.Identifiers.Emission.{inline, as_wire, as_reg, as_instance}
 use Rattle.export_verilog.specs.Exportable.{IsClocked}
-use Rattle.export_verilog.specs.Exported.{symbol_name, expression, assigned_expr, result_wires, declared_as, declares, loads, block_of, module_block, always_of, instance_of, stated_as, states, output_assigns, expr_or_none, others, vitems, vmodule, tree_of}
+use Rattle.export_verilog.specs.Exported.{symbol_name, expression, assigned_expr, result_wires, declared_as, declares, loads, block_of, module_block, always_of, instance_of, stated_as, states}
+use Rattle.export_verilog.specs.Exported.{output_assigns, expr_or_none, others, vitems, vmodule, tree_of}
 use Rattle.export_verilog.proofs.names.IdentifiersOf.{emission_of_register, emission_of_instance, emission_of_output, emission_of_made}
 use Rattle.export_verilog.proofs.names.Symbols.{vmodule_found}
 use Rattle.export_verilog.proofs.items.Settings.{Setting, module_ok, called_by_emission, first_result}
@@ -87,7 +89,8 @@ number_next (y ∷ ys) zero o is = ap (λ (z : Op). length (cond (is_instance z)
   go false = refl
 number_next (y ∷ ys) (suc j) o is = go (is_instance y) (is_instance o) (number_next ys j o is) where
   go : (b c : Bool) → number_of ys (suc j) ≡ cond c (suc (number_of ys j)) (number_of ys j)
-      → length (cond b (y ∷ instances (take (suc j) ys)) (instances (take (suc j) ys))) ≡ cond c (suc (length (cond b (y ∷ instances (take j ys)) (instances (take j ys))))) (length (cond b (y ∷ instances (take j ys)) (instances (take j ys))))
+      → length (cond b (y ∷ instances (take (suc j) ys)) (instances (take (suc j) ys))) ≡ cond c (suc (length (cond b (y ∷ instances (take j ys)) (instances (take j ys)))))
+      (length (cond b (y ∷ instances (take j ys)) (instances (take j ys))))
   go true true rest = ap suc rest
   go true false rest = ap suc rest
   go false true rest = rest
@@ -253,7 +256,8 @@ module _ (d : Design) (x : Setting d) (top : Name) (inputs content : Word) (m0 :
       go (Some e) ee None fe = ap₂ (λ b w. cond b w old) (holds_is e (typed.enable e ee)) next_is
       go None ee (Some f) fe = ap₂ (λ b (w : Word × Word). cond b w.0 w.1) (holds_is f.signal (typed.signal f fe)) (ap₂ (λ v w. (v, w)) (reset_is f fe) next_is)
       go (Some e) ee (Some f) fe =
-          ap₂ (λ b v. cond b v (cond (holds (vmodule d m) (names_at (vpath_of d top p) over) (expression m e)) (load_value (vmodule d m) (names_at (vpath_of d top p) over) (width t) (loads (identifier_text m (value_identifier i 0)) (expression m g.next))) old))
+          ap₂ (λ b v. cond b v (cond (holds (vmodule d m) (names_at (vpath_of d top p) over) (expression m e))
+          (load_value (vmodule d m) (names_at (vpath_of d top p) over) (width t) (loads (identifier_text m (value_identifier i 0)) (expression m g.next))) old))
           (holds_is f.signal (typed.signal f fe)) (reset_is f fe)
           ∙ ap₂ (λ b v. cond (is_high (ρ (at p f.signal))) (ρ (at p f.value)) (cond b v old)) (holds_is e (typed.enable e ee)) next_is
 
@@ -330,7 +334,7 @@ module _ (d : Design) (x : Setting d) (top : Name) (inputs content : Word) (m0 :
   slot_is s v is old =
       let h = symbol_at_path d x top s.path is.m is.here in
       let r = first_result d x h.0 is.m h.1 is.place s.op is.there (inr is.emission) in
-      let typed : result_type s.op 0 ≡ Some r.0.type = ap (λ rs. omap (λ (z : OpResult). z.type) (slice_get rs 0)) r.1 in
+      let typed : result_type s.op 0 ≡ Some r.0.type = ap (λ rs. option_map (λ (z : OpResult). z.type) (slice_get rs 0)) r.1 in
       let g = typed_register d x h.0 is.m h.1 is.place s.op is.there is.emission r.0.type typed in
       let parts : Some is.parts ≡ Some g.0 = sym is.is_parts ∙ g.1 in
       let one : is.parts ≡ g.0 = cc in

@@ -1,6 +1,5 @@
 -- Where the nets of a design come from, by what stands at the end of a path.
-use Rattle.std.proofs.Common.{◌≡◌, ℕ, zero, suc, Bool, true, false, cond, List, [], ◌∷◌, map, length, take, slice_get, is_some, Option, Some, None, refl, sym, ◌∙◌, ap, subst}
-use Rattle.wiring.specs.Options.{omap}
+use Rattle.std.proofs.Common.{◌≡◌, ℕ, zero, suc, Bool, true, false, cond, List, [], ◌∷◌, map, length, take, slice_get, is_some, Option, Some, None, refl, sym, ◌∙◌, ap, subst, option_map}
 use Rattle.wiring.specs.Wiring.{In, Chain, IsAcyclic}
 use Rattle.wiring.proofs.Members.{In-map}
 use Rattle.hw_model.specs.Types.{Name, HwType}
@@ -71,7 +70,7 @@ module _ (d : Design) (s : Name) (m : Module) (is : find_module d s ≡ Some m)
     pure_need o there true pure within =
         let h = pure_sort o pure in
         let r = one i o there h.1 h.2 in
-        let typed : result_type o 0 ≡ Some r.0.type = ap (λ (rs : List OpResult). omap (λ (z : OpResult). z.type) (slice_get rs 0)) r.1 in
+        let typed : result_type o 0 ≡ Some r.0.type = ap (λ (rs : List OpResult). option_map (λ (z : OpResult). z.type) (slice_get rs 0)) r.1 in
         subst (λ z. In (net [] b) (needs_of z)) (sym (made_from d s [] m is i 0 o r.0.type there h.0 h.1 h.2 typed)) (In-map (net []) b o.operands within)
 
     go : (o : Option Op) → slice_get m.body i ≡ o → In b (inner_of o) → In (net [] b) (needs d s (net [] (result i 0)))

@@ -46,7 +46,12 @@ outputs_show σ ρ m type_of j (y ∷ ps) rs typed shows =
           → ((ws : List Ref) → map type_of ws ≡ map (λ (t : HwType). Some t) (output_types ps)
           → ((a : ℕ) (z : Port) (r : Ref) → slice_get ps a ≡ Some z → z.is_output ≡ true → slice_get ws (output_count (take a ps)) ≡ Some r → σ (vnet [] (identifier_text m (port_identifier (suc j + a)))) ≡ ρ (at [] r))
           → map (λ (v : VPort). σ (vnet [] v.name)) (output_ports (each (vport m) (suc j) ps)) ≡ map (λ r. ρ (at [] r)) ws)
-          → map (λ (v : VPort). σ (vnet [] v.name)) (cond b (record { is_output = y.is_output; high = Rattle.verilog_expr.specs.Numerals.high_of (Rattle.hw_model.specs.Types.width y.type); name = identifier_text m (port_identifier j) } ∷ output_ports (each (vport m) (suc j) ps)) (output_ports (each (vport m) (suc j) ps)))
+          → map (λ (v : VPort). σ (vnet [] v.name)) (cond b (record {
+            is_output = y.is_output;
+            high = Rattle.verilog_model.specs.Digits.high_of
+                (Rattle.hw_model.specs.Types.width y.type);
+            name = identifier_text m (port_identifier j);
+          } ∷ output_ports (each (vport m) (suc j) ps)) (output_ports (each (vport m) (suc j) ps)))
           ≡ map (λ r. ρ (at [] r)) zs
       go true out [] same later first rest = cc
       go true out (r ∷ zs) same later first rest =

@@ -7,10 +7,11 @@ use Rattle.hw_model.specs.Design.{Port, OpResult, Op, Module, Design, find_modul
 use Rattle.hw_model.specs.Flat.{width_of}
 use Rattle.verilog_model.specs.Tree.{VPort, Item, VModule}
 use Rattle.verilog_model.specs.Tree.Item.{wire, reg}
-use Rattle.verilog_model.specs.Checks.{Declared, declared_by, declared_ports, declared_items, declared_in, port_role, high_checks, names_check, ports_check, items_check, each_driven, driver_count, drivers_due, clocks_check, nesting_checks, module_checks, modules_check, tree_checks}
+use Rattle.verilog_model.specs.Checks.{Declared, declared_by, declared_ports, declared_items, declared_in, port_role, high_checks, names_check, ports_check, items_check, each_driven, driver_count}
+use Rattle.verilog_model.specs.Checks.{drivers_due, clocks_check, nesting_checks, module_checks, modules_check, tree_checks}
 use Rattle.verilog_model.specs.Checks.Role.{block_name}
 use Rattle.verilog_model.proofs.Numerals.{and_intro}
-use Rattle.verilog_expr.specs.Numerals.{high_of}
+use Rattle.verilog_model.specs.Digits.{high_of}
 use Rattle.export_verilog.specs.Identifiers.{Identifier, each, emission_of, result_identifiers, identifier_text, module_identifiers}
 use Rattle.export_verilog.specs.Identifiers.Identifier.{port_identifier, value_identifier, instance_identifier}
 use Rattle.export_verilog.specs.Identifiers.Emission.{as_wire, as_reg, as_instance}
@@ -156,7 +157,8 @@ module _ (d : Design) (x : Setting d) (s : Name) (m : Module) (is : find_module 
       and_intro (names_check (map (λ (y : Declared). y.name) (declared_in (vmodule d m))) && ports_check (vports m))
       (items_check (tree_of d) (declared_ports (vports m)) (vitems d m) && (each_driven (tree_of d) (vitems d m) (declared_in (vmodule d m)) && (clocks_check (tree_of d) (vports m) (vitems d m) && nesting_checks (tree_of d) (vmodule d m))))
       (and_intro (names_check (map (λ (y : Declared). y.name) (declared_in (vmodule d m)))) (ports_check (vports m)) (names_are_checked m d (x.names s m is)) (ports_checked (vports m) (λ p h. h)))
-      (and_intro (items_check (tree_of d) (declared_ports (vports m)) (vitems d m)) (each_driven (tree_of d) (vitems d m) (declared_in (vmodule d m)) && (clocks_check (tree_of d) (vports m) (vitems d m) && nesting_checks (tree_of d) (vmodule d m)))
+      (and_intro (items_check (tree_of d) (declared_ports (vports m)) (vitems d m)) (each_driven (tree_of d) (vitems d m) (declared_in (vmodule d m)) &&
+      (clocks_check (tree_of d) (vports m) (vitems d m) && nesting_checks (tree_of d) (vmodule d m)))
       (items_are_checked d x s m is)
       (and_intro (each_driven (tree_of d) (vitems d m) (declared_in (vmodule d m))) (clocks_check (tree_of d) (vports m) (vitems d m) && nesting_checks (tree_of d) (vmodule d m)) (all_driven (declared_in (vmodule d m)) (λ y h. h))
       (and_intro (clocks_check (tree_of d) (vports m) (vitems d m)) (nesting_checks (tree_of d) (vmodule d m)) (clocks_are_checked d x s m is) (nesting_is_checked d x s m is))))

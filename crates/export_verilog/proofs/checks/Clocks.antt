@@ -1,7 +1,6 @@
 -- The clocks and the asynchronous resets of an exported tree come from the inputs at the top.
-use Rattle.std.proofs.Common.{◌≡◌, ℕ, zero, suc, ◌+◌, ◌⊎◌, Bool, true, false, not, cond, ◌&&◌, ◌||◌, List, [], ◌∷◌, take, length, slice_get, Option, Some, None, refl, sym, ◌∙◌, ap, subst, inl, inr, zero-add}
+use Rattle.std.proofs.Common.{◌≡◌, ℕ, zero, suc, ◌+◌, ◌⊎◌, Bool, true, false, not, cond, ◌&&◌, ◌||◌, List, [], ◌∷◌, take, length, slice_get, Option, Some, None, refl, sym, ◌∙◌, ap, subst, inl, inr, zero-add, option_map}
 use Rattle.std.proofs.lemmas.Bool.{false≢true, or_cases}
-use Rattle.wiring.specs.Options.{omap}
 use Rattle.wiring.specs.Wiring.{In}
 use Rattle.wiring.proofs.Members.{In-slice_get}
 use Rattle.hw_model.specs.Types.{Name, HwType}
@@ -113,7 +112,8 @@ module _ (d : Design) (x : Setting d) where
   same_port : (m : Module) (o : Op) (c : Called d m o) (i : ℕ) (j : ℕ) (p : Port) → slice_get c.module_of.ports j ≡ Some p → IsClockInput c.module_of (identifier_text c.module_of (port_identifier j))
       → (p.is_output ≡ false) × IsEventPort c.module_of j p
   same_port m o c i j p there k =
-      let e : port_identifier j ≡ port_identifier k.number = texts_apart c.module_of (x.names c.kind.symbol c.module_of c.there) (port_identifier j) (port_identifier k.number) (port_in c.module_of j p there) (port_in c.module_of k.number k.port_of k.there) k.called in
+      let e : port_identifier j ≡ port_identifier k.number = texts_apart c.module_of (x.names c.kind.symbol c.module_of c.there) (port_identifier j) (port_identifier k.number)
+      (port_in c.module_of j p there) (port_in c.module_of k.number k.port_of k.there) k.called in
       let f : j ≡ k.number = cc in
       let g : Some p ≡ Some k.port_of = sym there ∙ ap (slice_get c.module_of.ports) f ∙ k.there in
       let q : p ≡ k.port_of = cc in
@@ -131,18 +131,20 @@ module _ (d : Design) (x : Setting d) where
         in_register : (i : ℕ) (o : Op) (r : Register) → slice_get c.body i ≡ Some o → emission_of c.ports c.body i o ≡ as_reg → register_in o ≡ Some r → same_name (name_or_nothing (value_name c r.clock)) a ≡ true → IsClockInput c a
         in_register i o r there emission at same =
             let first = result_at_first d x s c is i o there (inr emission) in
-            let typed = typed_register d x s c is i o there emission first.0.type (ap (omap (λ (z : OpResult). z.type)) first.1) in
+            let typed = typed_register d x s c is i o there emission first.0.type (ap (option_map (λ (z : OpResult). z.type)) first.1) in
             let e : Some typed.0 ≡ Some r = sym typed.1 ∙ at in
             let f : typed.0 ≡ r = cc in
             let k = clock_ref s c is r.clock (ap (λ (z : Register). type_in c.ports c.body z.clock) (sym f) ∙ typed.2.clocked) in
             let g = ((module_ok d x s c is).ops i o there).clocked r at in
-            let clock_name : name_or_nothing (value_name c r.clock) ≡ identifier_text c (port_identifier g.number) = ap (λ z. name_or_nothing (value_name c z)) g.is_port ∙ ap name_or_nothing (named_input d x s c is g.number g.clock g.there g.input) in
+            let clock_name : name_or_nothing (value_name c r.clock) ≡ identifier_text c (port_identifier g.number) = ap (λ z. name_or_nothing (value_name c z)) g.is_port
+            ∙ ap name_or_nothing (named_input d x s c is g.number g.clock g.there g.input) in
             record {
               number = g.number;
               port_of = g.clock;
               there = g.there;
               input = g.input;
-              type = inl (let t : Some g.clock.type ≡ Some clock = sym (ap (λ b. cond b None (Some g.clock.type)) g.input) ∙ sym (ap input_type g.there) ∙ ap (type_in c.ports c.body) (sym g.is_port) ∙ ap (λ (z : Register). type_in c.ports c.body z.clock) (sym f) ∙ typed.2.clocked in
+              type = inl (let t : Some g.clock.type ≡ Some clock = sym (ap (λ b. cond b None (Some g.clock.type)) g.input) ∙ sym (ap input_type g.there)
+                  ∙ ap (type_in c.ports c.body) (sym g.is_port) ∙ ap (λ (z : Register). type_in c.ports c.body z.clock) (sym f) ∙ typed.2.clocked in
                   let u : g.clock.type ≡ clock = cc in u);
               called = sym (name_from (name_or_nothing (value_name c r.clock)) a same) ∙ clock_name;
             }
@@ -185,14 +187,17 @@ module _ (d : Design) (x : Setting d) where
               called = sym (name_from (identifier_text c (port_identifier g.2.number)) a (ap (is_name a) (sym value) ∙ u.1));
             }
 
-        in_connections : (i : ℕ) (o : Op) → In o c.body → (y : Called d c o) (es : List Connection) → ((e : Connection) → In e es → (j : ℕ) × (p : Port) × (slice_get y.module_of.ports j ≡ Some p) × (e ≡ connection_of y.module_of c i j 0 (take j y.module_of.ports) p o.operands))
+        in_connections : (i : ℕ) (o : Op) → In o c.body → (y : Called d c o) (es : List Connection)
+            → ((e : Connection) → In e es → (j : ℕ) × (p : Port) × (slice_get y.module_of.ports j ≡ Some p) × (e ≡ connection_of y.module_of c i j 0 (take j y.module_of.ports) p o.operands))
             → ((t : Name) (z : Module) → find_module d t ≡ Some z → (w : Name) → is_clock n (tree_of d) (symbol_name d t) w ≡ true → IsClockInput z w)
             → inner_clock inner a (symbol_name d y.kind.symbol) es ≡ true → IsClockInput c a
         in_connections i o within y [] from below h = absurd (false≢true h)
-        in_connections i o within y (e ∷ es) from below h = go (or_cases (inner (symbol_name d y.kind.symbol) e.port && is_name a e.value) (inner_clock inner a (symbol_name d y.kind.symbol) es) h) (in_connections i o within y es (λ f w. from f (inr w)) below) where
-          go : ((inner (symbol_name d y.kind.symbol) e.port && is_name a e.value) ≡ true) ⊎ (inner_clock inner a (symbol_name d y.kind.symbol) es ≡ true) → (inner_clock inner a (symbol_name d y.kind.symbol) es ≡ true → IsClockInput c a) → IsClockInput c a
-          go (inl u) rest = let f = from e (inl refl) in in_connection i o within y f.0 f.1 f.2 e f.3 below u
-          go (inr u) rest = rest u
+        in_connections i o within y (e ∷ es) from below h = go (or_cases (inner (symbol_name d y.kind.symbol) e.port && is_name a e.value) (inner_clock inner a (symbol_name d y.kind.symbol) es) h)
+            (in_connections i o within y es (λ f w. from f (inr w)) below) where
+              go : ((inner (symbol_name d y.kind.symbol) e.port && is_name a e.value) ≡ true) ⊎ (inner_clock inner a (symbol_name d y.kind.symbol) es ≡ true)
+                  → (inner_clock inner a (symbol_name d y.kind.symbol) es ≡ true → IsClockInput c a) → IsClockInput c a
+              go (inl u) rest = let f = from e (inl refl) in in_connection i o within y f.0 f.1 f.2 e f.3 below u
+              go (inr u) rest = rest u
 
         in_item : (y : Item) → From d c y → ((t : Name) (z : Module) → find_module d t ≡ Some z → (w : Name) → is_clock n (tree_of d) (symbol_name d t) w ≡ true → IsClockInput z w)
             → uses_clock inner a y ≡ true → IsClockInput c a
@@ -224,12 +229,13 @@ module _ (d : Design) (x : Setting d) where
       → (not (is_clock (suc (length (tree_of d))) (tree_of d) (symbol_name d y.kind.symbol) e.port) || is_input_name (vports m) e.value) ≡ true
   connection_clock s m is i o within y j p there e as_it = go (is_clock (suc (length (tree_of d))) (tree_of d) (symbol_name d y.kind.symbol) e.port) refl where
     is_input : (n : ℕ) (q : Port) → slice_get m.ports n ≡ Some q → q.is_output ≡ false → is_input_name (vports m) (name (identifier_text m (port_identifier n))) ≡ true
-    is_input n q at out = simp (port_under m (x.names s m is) (port_identifier n) (port_in m n q at) ∙ ap (omap (vport_at m n)) at, out) refl
+    is_input n q at out = simp (port_under m (x.names s m is) (port_identifier n) (port_in m n q at) ∙ ap (option_map (vport_at m n)) at, out) refl
 
     go : (b : Bool) → is_clock (suc (length (tree_of d))) (tree_of d) (symbol_name d y.kind.symbol) e.port ≡ b → (not b || is_input_name (vports m) e.value) ≡ true
     go false used = refl
     go true used =
-        let k : IsClockInput y.module_of (identifier_text y.module_of (port_identifier j)) = subst (IsClockInput y.module_of) (ap (λ (z : Connection). z.port) as_it) (clock_input (suc (length (tree_of d))) y.kind.symbol y.module_of y.there e.port used) in
+        let k : IsClockInput y.module_of (identifier_text y.module_of (port_identifier j)) = subst (IsClockInput y.module_of) (ap (λ (z : Connection). z.port) as_it)
+        (clock_input (suc (length (tree_of d))) y.kind.symbol y.module_of y.there e.port used) in
         let q = same_port m o y i j p there k in
         let g = joined_clock s m is o within y j p there q.0 q.1 in
         let value : e.value ≡ name (identifier_text m (port_identifier g.2.number)) = ap (λ (z : Connection). z.value) as_it
@@ -238,7 +244,8 @@ module _ (d : Design) (x : Setting d) where
         ap (is_input_name (vports m)) value ∙ is_input g.2.number g.2.port_of g.2.there g.2.input
 
   module _ (s : Name) (m : Module) (is : find_module d s ≡ Some m) where
-    connections_clocked : (i : ℕ) (o : Op) → In o m.body → (y : Called d m o) (es : List Connection) → ((e : Connection) → In e es → (j : ℕ) × (p : Port) × (slice_get y.module_of.ports j ≡ Some p) × (e ≡ connection_of y.module_of m i j 0 (take j y.module_of.ports) p o.operands))
+    connections_clocked : (i : ℕ) (o : Op) → In o m.body → (y : Called d m o) (es : List Connection)
+        → ((e : Connection) → In e es → (j : ℕ) × (p : Port) × (slice_get y.module_of.ports j ≡ Some p) × (e ≡ connection_of y.module_of m i j 0 (take j y.module_of.ports) p o.operands))
         → clocks_joined (tree_of d) (vports m) (symbol_name d y.kind.symbol) es ≡ true
     connections_clocked i o within y [] from = refl
     connections_clocked i o within y (e ∷ es) from = let f = from e (inl refl) in

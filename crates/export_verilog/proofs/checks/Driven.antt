@@ -1,7 +1,6 @@
 -- Each thing that an exported tree declares has the drivers that are due.
-use Rattle.std.proofs.Common.{◌≡◌, ℕ, zero, suc, ◌+◌, ◌⊎◌, Bool, true, false, cond, List, [], ◌∷◌, ◌++◌, map, slice_get, Some, refl, sym, ◌∙◌, ap, ap₂, subst, inl, inr, arith, zero-add, add-zero, suc-add, add-suc}
+use Rattle.std.proofs.Common.{◌≡◌, ℕ, zero, suc, ◌+◌, ◌⊎◌, Bool, true, false, cond, List, [], ◌∷◌, ◌++◌, map, slice_get, Some, refl, sym, ◌∙◌, ap, ap₂, subst, inl, inr, arith, zero-add, add-zero, suc-add, add-suc, option_map}
 use Rattle.std.proofs.lemmas.Bool.{false≢true}
-use Rattle.wiring.specs.Options.{omap}
 use Rattle.wiring.specs.Wiring.{In}
 use Rattle.hw_model.specs.Types.{Name}
 use Rattle.hw_model.specs.Design.{Ref, Port, OpResult, Op, Module, Design, same_name, find_module, output_refs}
@@ -17,7 +16,8 @@ use Rattle.verilog_model.specs.Checks.{outputs_joined, driver_count}
 use Rattle.export_verilog.specs.Identifiers.{Identifier, Emission, same_identifier, value_name, name_or_nothing, each, emission_of, result_identifiers, identifier_text, module_identifiers}
 use Rattle.export_verilog.specs.Identifiers.Identifier.{port_identifier, value_identifier}
 use Rattle.export_verilog.specs.Identifiers.Emission.{inline, as_wire, as_reg, as_instance}
-use Rattle.export_verilog.specs.Exported.{symbol_name, expression, assigned_expr, expr_or_none, others, vports, vitems, tree_of, result_wires, declared_as, declares, module_block, always_of, connections_of, connections_to, instance_of, stated_as, states, output_assigns}
+use Rattle.export_verilog.specs.Exported.{symbol_name, expression, assigned_expr, expr_or_none, others, vports, vitems, tree_of, result_wires, declared_as, declares, module_block, always_of}
+use Rattle.export_verilog.specs.Exported.{connections_of, connections_to, instance_of, stated_as, states, output_assigns}
 use Rattle.export_verilog.proofs.names.IdentifierNames.{AreNames, identifier_self, identifier_from, texts_apart}
 use Rattle.export_verilog.proofs.names.IdentifiersOf.{in_results, port_in, net_in, variable_in, result_in_identifiers}
 use Rattle.export_verilog.proofs.names.Apart.{AreApart, joined_apart}
@@ -139,7 +139,7 @@ module _ (d : Design) (x : Setting d) (s : Name) (m : Module) (is : find_module 
         at_here = sym (stands 0 ∙ ap (slice_get c.ports) (add-zero j))
 
         port_here : find_port (vports c) (identifier_text c (port_identifier j)) ≡ Some (vport_at c j p)
-        port_here = port_under c names (port_identifier j) (port_in c j p at_here) ∙ ap (omap (vport_at c j)) at_here
+        port_here = port_under c names (port_identifier j) (port_in c j p at_here) ∙ ap (option_map (vport_at c j)) at_here
 
         head : Expr → Connection
         head e = record { port = identifier_text c (port_identifier j); value = e }
@@ -155,9 +155,11 @@ module _ (d : Design) (x : Setting d) (s : Name) (m : Module) (is : find_module 
         silent_head out e cs = simp (port_here, out) refl
 
         go : (b : Bool) → p.is_output ≡ b → ((a : Identifier) → In a (cond b (value_identifier i l ∷ out_identifiers i (suc l) ps) (out_identifiers i l ps)) → In a (module_identifiers m))
-            → (((a : Identifier) → In a (out_identifiers i (suc l) ps) → In a (module_identifiers m)) → outputs_joined (identifier_text m k) (vports c) (connections_of c m i (suc j) (suc l) ps rs) ≡ identifier_count k (out_identifiers i (suc l) ps))
+            → (((a : Identifier) → In a (out_identifiers i (suc l) ps) → In a (module_identifiers m)) → outputs_joined (identifier_text m k) (vports c) (connections_of c m i (suc j) (suc l) ps rs)
+            ≡ identifier_count k (out_identifiers i (suc l) ps))
             → (((a : Identifier) → In a (out_identifiers i l ps) → In a (module_identifiers m)) → outputs_joined (identifier_text m k) (vports c) (connections_of c m i (suc j) l ps (others rs)) ≡ identifier_count k (out_identifiers i l ps))
-            → outputs_joined (identifier_text m k) (vports c) (cond b (head (name (identifier_text m (value_identifier i l))) ∷ connections_of c m i (suc j) (suc l) ps rs) (head (expr_or_none (expression m) rs) ∷ connections_of c m i (suc j) l ps (others rs)))
+            → outputs_joined (identifier_text m k) (vports c) (cond b (head (name (identifier_text m (value_identifier i l))) ∷ connections_of c m i (suc j) (suc l) ps rs)
+            (head (expr_or_none (expression m) rs) ∷ connections_of c m i (suc j) l ps (others rs)))
             ≡ identifier_count k (cond b (value_identifier i l ∷ out_identifiers i (suc l) ps) (out_identifiers i l ps))
         go true out all first second =
             driven_head out (all (value_identifier i l) (inl refl)) (connections_of c m i (suc j) (suc l) ps rs)
@@ -199,7 +201,8 @@ module _ (d : Design) (x : Setting d) (s : Name) (m : Module) (is : find_module 
   output_identifiers j [] = []
   output_identifiers j (p ∷ ps) = cond p.is_output (port_identifier j ∷ output_identifiers (suc j) ps) (output_identifiers (suc j) ps)
 
-  outputs_drive : (j : ℕ) (ps : List Port) (rs : List Ref) → ((a : Identifier) → In a (output_identifiers j ps) → In a (module_identifiers m)) → driver_count t (identifier_text m k) (output_assigns m j ps rs) ≡ identifier_count k (output_identifiers j ps)
+  outputs_drive : (j : ℕ) (ps : List Port) (rs : List Ref) → ((a : Identifier) → In a (output_identifiers j ps) → In a (module_identifiers m))
+      → driver_count t (identifier_text m k) (output_assigns m j ps rs) ≡ identifier_count k (output_identifiers j ps)
   outputs_drive j [] rs within = refl
   outputs_drive j (p ∷ ps) rs within = go p.is_output within (λ h. outputs_drive (suc j) ps (others rs) h) (λ h. outputs_drive (suc j) ps rs h) where
     by_identifier : (b c : Bool) → b ≡ c → cond b 1 0 ≡ once_if c

@@ -16,7 +16,8 @@ use Rattle.verilog_expr.proofs.Fit.{depth_fits, own_fits}
 use Rattle.export_verilog.specs.Identifiers.{Emission, each, emission_of, identifier_text, name_or_nothing, value_name}
 use Rattle.export_verilog.specs.Identifiers.Identifier.{port_identifier, value_identifier}
 use Rattle.export_verilog.specs.Identifiers.Emission.{inline, as_wire, as_reg, as_instance}
-use Rattle.export_verilog.specs.Exported.{expression, assigned_expr, expr_or_none, others, result_wires, declared_as, declares, always_of, block_of, connections_of, connections_to, instance_of, stated_as, states, output_assigns, vitems, vmodule, tree_of}
+use Rattle.export_verilog.specs.Exported.{expression, assigned_expr, expr_or_none, others, result_wires, declared_as, declares, always_of, block_of, connections_of, connections_to, instance_of}
+use Rattle.export_verilog.specs.Exported.{stated_as, states, output_assigns, vitems, vmodule, tree_of}
 
 expression_fits : (m : Module) (r : Ref) → fits (expression m r) ≡ true
 expression_fits m r = depth_fits (value_name m) m.ports m.body (suc height_limit) r
@@ -55,7 +56,8 @@ declares_fit m i o = go (emission_of m.ports m.body i o) where
 connections_fit_all : (c m : Module) (i j k : ℕ) (ps : List Port) (rs : List Ref) → connections_fit (connections_of c m i j k ps rs) ≡ true
 connections_fit_all c m i j k [] rs = refl
 connections_fit_all c m i j k (p ∷ ps) rs =
-    go p.is_output (connections_fit_all c m i (suc j) (suc k) ps rs) (and_intro (fits (expr_or_none (expression m) rs)) (connections_fit (connections_of c m i (suc j) k ps (others rs))) (expr_fits m rs) (connections_fit_all c m i (suc j) k ps (others rs))) where
+    go p.is_output (connections_fit_all c m i (suc j) (suc k) ps rs) (and_intro (fits (expr_or_none (expression m) rs)) (connections_fit (connections_of c m i (suc j) k ps (others rs)))
+    (expr_fits m rs) (connections_fit_all c m i (suc j) k ps (others rs))) where
       head : Expr → Connection
       head e = record { port = identifier_text c (port_identifier j); value = e }
 

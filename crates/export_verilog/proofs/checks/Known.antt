@@ -1,6 +1,5 @@
 -- What a module's tree declares before its statements, and that the expressions of the statements meet the checks.
-use Rattle.std.proofs.Common.{◌≡◌, ℕ, ◌⊎◌, not, ◌&&◌, List, [], ◌∷◌, ◌++◌, slice_get, Option, Some, None, refl, sym, ◌∙◌, ap, ap₂, subst, inl, inr, zero-add, IsTrue}
-use Rattle.wiring.specs.Options.{bind, omap}
+use Rattle.std.proofs.Common.{◌≡◌, ℕ, ◌⊎◌, not, ◌&&◌, List, [], ◌∷◌, ◌++◌, slice_get, Option, Some, None, refl, sym, ◌∙◌, ap, ap₂, subst, inl, inr, zero-add, IsTrue, option_and_then, option_map}
 use Rattle.wiring.specs.Wiring.{In}
 use Rattle.wiring.proofs.Members.{In-append_left, In-append_right, In-map, from_In-map}
 use Rattle.hw_model.specs.Types.{Name, width}
@@ -17,7 +16,7 @@ use Rattle.verilog_model.specs.Checks.{contains_name, starts_name, is_identifier
 use Rattle.verilog_model.specs.Checks.Role.{variable as variable_role, net as net_role}
 use Rattle.verilog_model.proofs.Numerals.{and_first, and_second}
 use Rattle.verilog_model.proofs.Reread.{all_name_bytes}
-use Rattle.verilog_expr.specs.Numerals.{high_of}
+use Rattle.verilog_model.specs.Digits.{high_of}
 use Rattle.verilog_expr.proofs.TextRead.{IsWord}
 use Rattle.export_verilog.specs.Identifiers.{Identifier, Emission, each, emission_of, identifier_text, module_identifiers}
 use Rattle.export_verilog.specs.Identifiers.Identifier.{port_identifier, value_identifier, instance_identifier}
@@ -64,8 +63,8 @@ abbrev pub declared_result : Module → ℕ → ℕ → Op → OpResult → Decl
 declared_result m i k o r = record { name = identifier_text m (value_identifier i k); role = result_emission (emission_of m.ports m.body i o); high = high_of (width r.type) }
 
 abbrev pub declared_value : Module → Identifier → Option Declared
-declared_value m (port_identifier j) = omap (declared_port m j) (slice_get m.ports j)
-declared_value m (value_identifier i k) = bind (slice_get m.body i) (λ (o : Op). omap (declared_result m i k o) (slice_get o.results k))
+declared_value m (port_identifier j) = option_map (declared_port m j) (slice_get m.ports j)
+declared_value m (value_identifier i k) = option_and_then (λ (o : Op). option_map (declared_result m i k o) (slice_get o.results k)) (slice_get m.body i)
 declared_value m (instance_identifier i) = None
 
 pub in_declared_items : (y : Declared) (is : List Item) → In y (declared_items is) → (z : Item) × In z is × In y (declared_by z)
@@ -87,10 +86,10 @@ module _ (d : Design) (x : Setting d) (s : Name) (m : Module) (is : find_module 
   Backed n c = (k : Identifier) × In k (module_identifiers m) × (n ≡ identifier_text m k) × (declared_value m k ≡ Some c)
 
   value_of_result : (i k : ℕ) (o : Op) (r : OpResult) → slice_get m.body i ≡ Some o → slice_get o.results k ≡ Some r → declared_value m (value_identifier i k) ≡ Some (declared_result m i k o r)
-  value_of_result i k o r there found_so = ap (λ z. bind z (λ (q : Op). omap (declared_result m i k q) (slice_get q.results k))) there ∙ ap (omap (declared_result m i k o)) found_so
+  value_of_result i k o r there found_so = ap (λ z. option_and_then (λ (q : Op). option_map (declared_result m i k q) (slice_get q.results k)) z) there ∙ ap (option_map (declared_result m i k o)) found_so
 
   high_first : (o : Op) (r : OpResult) → slice_get o.results 0 ≡ Some r → high_of (width_of (result_type o 0)) ≡ high_of (width r.type)
-  high_first o r e = ap (λ z. high_of (width_of (omap (λ (q : OpResult). q.type) z))) e
+  high_first o r e = ap (λ z. high_of (width_of (option_map (λ (q : OpResult). q.type) z))) e
 
   items_back : (n : Name) (y c : Declared) → (z : Item) → In z (declarations m) → In y (declared_by z) → y.name ≡ n → y ≡ c → Backed n c
   unfolding Backed
@@ -127,7 +126,7 @@ module _ (d : Design) (x : Setting d) (s : Name) (m : Module) (is : find_module 
         go : {v : VPort} (j : ℕ) (p : Port) → slice_get m.ports j ≡ Some p → In v (vport m j p) → y ≡ record { name = v.name; role = port_role v.is_output; high = v.high } → Backed n c
         go j p there (inl e) as_it =
             let own : y ≡ declared_port m j p = as_it ∙ ap (λ (v : VPort). record { name = v.name; role = port_role v.is_output; high = v.high }) e in
-            (port_identifier j, port_in m j p there, sym called ∙ ap (λ (q : Declared). q.name) own, ap (omap (declared_port m j)) there ∙ ap (λ (q : Declared). Some q) (sym own ∙ same))
+            (port_identifier j, port_in m j p there, sym called ∙ ap (λ (q : Declared). q.name) own, ap (option_map (declared_port m j)) there ∙ ap (λ (q : Declared). Some q) (sym own ∙ same))
         go j p there (inr never) as_it = absurd never
 
   known_back : (n : Name) (y c : Declared) → In y (known_first m) → when (same_name y.name n) y ≡ Some c → Backed n c
@@ -157,7 +156,8 @@ module _ (d : Design) (x : Setting d) (s : Name) (m : Module) (is : find_module 
     own i n o r there found_so e within =
         forth_as k c (declared_result m i n o r) within (ap (identifier_text m) (sym e)) (same_value (value_identifier i n) (declared_result m i n o r) e (value_of_result i n o r there found_so))
 
-    emission_at : (i n : ℕ) (o : Op) (r : OpResult) (q : Emission) → emission_of m.ports m.body i o ≡ q → record { name = identifier_text m (value_identifier i n); role = result_emission q; high = high_of (width r.type) } ≡ declared_result m i n o r
+    emission_at : (i n : ℕ) (o : Op) (r : OpResult) (q : Emission) → emission_of m.ports m.body i o ≡ q
+        → record { name = identifier_text m (value_identifier i n); role = result_emission q; high = high_of (width r.type) } ≡ declared_result m i n o r
     emission_at i n o r q e = ap (λ w. record { name = identifier_text m (value_identifier i n); role = result_emission w; high = high_of (width r.type) }) (sym e)
 
     go : Owner m k → Forth k c
@@ -165,14 +165,16 @@ module _ (d : Design) (x : Setting d) (s : Name) (m : Module) (is : find_module 
         forth_as k c (declared_port m j p)
         (In-append_left (declared_port m j p) (declared_ports (vports m)) (declared_items (declarations m))
         (In-map (λ (q : VPort). record { name = q.name; role = port_role q.is_output; high = q.high }) (vport_at m j p) (vports m) (into_each (vport m) m.ports (vport_at m j p) j p there (inl refl))))
-        (ap (identifier_text m) (sym e)) (same_value (port_identifier j) (declared_port m j p) e (ap (omap (declared_port m j)) there))
+        (ap (identifier_text m) (sym e)) (same_value (port_identifier j) (declared_port m j p) e (ap (option_map (declared_port m j)) there))
     go (a_net i o there emission e) = let r = result_at_first d x s m is i o there (inl emission) in
         own i 0 o r.0 there r.1 e (among_items (declared_result m i 0 o r.0) (wire (high_of (width_of (result_type o 0))) (identifier_text m (value_identifier i 0)))
-        (into_each (declares m) m.body (wire (high_of (width_of (result_type o 0))) (identifier_text m (value_identifier i 0))) i o there (subst (λ q. In (wire (high_of (width_of (result_type o 0))) (identifier_text m (value_identifier i 0))) (declared_as m i o q)) (sym emission) (inl refl)))
+        (into_each (declares m) m.body (wire (high_of (width_of (result_type o 0))) (identifier_text m (value_identifier i 0))) i o there
+        (subst (λ q. In (wire (high_of (width_of (result_type o 0))) (identifier_text m (value_identifier i 0))) (declared_as m i o q)) (sym emission) (inl refl)))
         (inl (sym (emission_at i 0 o r.0 as_wire emission) ∙ ap (λ h. record { name = identifier_text m (value_identifier i 0); role = net_role; high = h }) (sym (high_first o r.0 r.1)))))
     go (a_variable i o there emission e) = let r = result_at_first d x s m is i o there (inr emission) in
         own i 0 o r.0 there r.1 e (among_items (declared_result m i 0 o r.0) (reg (high_of (width_of (result_type o 0))) (identifier_text m (value_identifier i 0)))
-        (into_each (declares m) m.body (reg (high_of (width_of (result_type o 0))) (identifier_text m (value_identifier i 0))) i o there (subst (λ q. In (reg (high_of (width_of (result_type o 0))) (identifier_text m (value_identifier i 0))) (declared_as m i o q)) (sym emission) (inl refl)))
+        (into_each (declares m) m.body (reg (high_of (width_of (result_type o 0))) (identifier_text m (value_identifier i 0))) i o there
+        (subst (λ q. In (reg (high_of (width_of (result_type o 0))) (identifier_text m (value_identifier i 0))) (declared_as m i o q)) (sym emission) (inl refl)))
         (inl (sym (emission_at i 0 o r.0 as_reg emission) ∙ ap (λ h. record { name = identifier_text m (value_identifier i 0); role = variable_role; high = h }) (sym (high_first o r.0 r.1)))))
     go (owns_instance i o there emission e) = let g : None ≡ Some c = sym (ap (declared_value m) e) ∙ value_is in cc
     go (a_result i n o r there emission found_so e) =

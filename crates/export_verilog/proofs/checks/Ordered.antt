@@ -1,6 +1,5 @@
 -- The items of a module's tree meet the checks in their order.
-use Rattle.std.proofs.Common.{◌≡◌, ℕ, ◌+◌, Bool, true, false, ◌&&◌, ◌||◌, List, [], ◌∷◌, ◌++◌, map, take, slice_get, Some, is_some, refl, ◌∙◌, ap, ap₂, inl, inr, zero-add}
-use Rattle.wiring.specs.Options.{omap}
+use Rattle.std.proofs.Common.{◌≡◌, ℕ, ◌+◌, Bool, true, false, ◌&&◌, ◌||◌, List, [], ◌∷◌, ◌++◌, map, take, slice_get, Some, is_some, refl, ◌∙◌, ap, ap₂, inl, inr, zero-add, option_map}
 use Rattle.wiring.specs.Wiring.{In}
 use Rattle.wiring.proofs.Members.{In-append_right}
 use Rattle.hw_model.specs.Types.{Name, width}
@@ -44,7 +43,7 @@ module _ (d : Design) (x : Setting d) (s : Name) (m : Module) (is : find_module 
         there j q at (inl e) =
             ap (λ (z : VPort). is_some (find_connection cs z.name)) e
             ∙ ap is_some (connection_under c.module_of m i o (x.names c.kind.symbol c.module_of c.there) (port_identifier j) (port_in c.module_of j q at)
-            ∙ ap (omap (λ z. connection_of c.module_of m i j 0 (take j c.module_of.ports) z o.operands)) at)
+            ∙ ap (option_map (λ z. connection_of c.module_of m i j 0 (take j c.module_of.ports) z o.operands)) at)
         there j q at (inr never) = absurd never
 
         joined : (j : ℕ) × (q : Port) × (slice_get c.module_of.ports j ≡ Some q) × In p (vport c.module_of j q) → is_some (find_connection cs p.name) ≡ true

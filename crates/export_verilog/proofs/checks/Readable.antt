@@ -1,6 +1,5 @@
 -- The names of a module's values are known with all their bits, so its expressions meet the checks.
-use Rattle.std.proofs.Common.{◌≡◌, ℕ, ◌-◌, ◌<◌, ◌^◌, ◌==◌, nat_le, Bool, true, false, ◌&&◌, cond, List, slice_get, decimal, Some, None, refl, sym, ◌∙◌, ap, ap₂, subst, inl, inr, arith, le-leb, eqb-true}
-use Rattle.wiring.specs.Options.{bind, omap}
+use Rattle.std.proofs.Common.{◌≡◌, ℕ, ◌-◌, ◌<◌, ◌^◌, ◌==◌, nat_le, Bool, true, false, ◌&&◌, cond, List, slice_get, decimal, Some, None, refl, sym, ◌∙◌, ap, ap₂, subst, inl, inr, arith, le-leb, eqb-true, option_and_then, option_map}
 use Rattle.wiring.specs.Wiring.{In}
 use Rattle.hw_model.specs.Types.{Name, HwType, width}
 use Rattle.hw_model.specs.Design.{Ref, Port, OpResult, Op, Module, Design, find_module, result_type}
@@ -10,7 +9,7 @@ use Rattle.hw_model.specs.Sound.{type_in, input_type}
 use Rattle.verilog_model.specs.Tree.Expr.{name}
 use Rattle.verilog_model.specs.Checks.{Declared, find_declared, can_read, has_role, within, has_bit, port_role}
 use Rattle.verilog_model.proofs.Numerals.{decimal_number-decimal}
-use Rattle.verilog_expr.specs.Numerals.{high_of}
+use Rattle.verilog_model.specs.Digits.{high_of}
 use Rattle.verilog_expr.specs.Expressions.{value_width}
 use Rattle.verilog_expr.proofs.Checked.{IsWell, IsWide}
 use Rattle.verilog_expr.proofs.BodiesChecked.{AreKnown, body_well, own_well}
@@ -37,13 +36,13 @@ module _ (d : Design) (x : Setting d) (s : Name) (m : Module) (is : find_module 
 
   pub found_port : (j : ℕ) (p : Port) → slice_get m.ports j ≡ Some p → find_declared known (identifier_text m (port_identifier j)) ≡ Some (declared_port m j p)
   unfolding KnowsAll
-  found_port j p there = knows (port_identifier j) (declared_port m j p) (port_in m j p there) (ap (omap (declared_port m j)) there)
+  found_port j p there = knows (port_identifier j) (declared_port m j p) (port_in m j p there) (ap (option_map (declared_port m j)) there)
 
   pub found_result : (i k : ℕ) (o : Op) (r : OpResult) → In (value_identifier i k) (module_identifiers m) → slice_get m.body i ≡ Some o → slice_get o.results k ≡ Some r
       → find_declared known (identifier_text m (value_identifier i k)) ≡ Some (declared_result m i k o r)
   unfolding KnowsAll
   found_result i k o r here there at =
-      knows (value_identifier i k) (declared_result m i k o r) here (ap (λ z. bind z (λ (q : Op). omap (declared_result m i k q) (slice_get q.results k))) there ∙ ap (omap (declared_result m i k o)) at)
+      knows (value_identifier i k) (declared_result m i k o r) here (ap (λ z. option_and_then (λ (q : Op). option_map (declared_result m i k q) (slice_get q.results k)) z) there ∙ ap (option_map (declared_result m i k o)) at)
 
   readable : (q : Emission) → can_read (result_emission q) ≡ true
   readable inline = refl
@@ -99,7 +98,7 @@ module _ (d : Design) (x : Setting d) (s : Name) (m : Module) (is : find_module 
 
   width_of_result : (i k : ℕ) (r : ResultAt i k) → value_width m.ports m.body (result i k) ≡ width r.result_of.type
   width_of_result i k r =
-      ap (λ o. width_of (bind o (λ (q : Op). result_type q k))) r.there ∙ ap (λ o. width_of (omap (λ (q : OpResult). q.type) o)) r.at
+      ap (λ o. width_of (option_and_then (λ (q : Op). result_type q k) o)) r.there ∙ ap (λ o. width_of (option_map (λ (q : OpResult). q.type) o)) r.at
 
   width_of_port : (j : ℕ) (p : Port) → slice_get m.ports j ≡ Some p → p.is_output ≡ false → value_width m.ports m.body (port j) ≡ width p.type
   width_of_port j p there out = ap (λ o. width_of (input_type o)) there ∙ ap (λ b. width_of (cond b None (Some p.type))) out

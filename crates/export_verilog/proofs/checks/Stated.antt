@@ -1,6 +1,6 @@
 -- The statements of a module's tree meet the checks, after its declarations.
-use Rattle.std.proofs.Common.{◌≡◌, ℕ, zero, suc, ◌+◌, ◌-◌, ◌<◌, ◌^◌, ◌==◌, Bool, true, false, cond, ◌&&◌, List, [], ◌∷◌, ◌++◌, map, take, slice_get, decimal, Option, Some, None, refl, sym, ◌∙◌, ap, subst, inl, inr, zero-add, arith, append_assoc, append-nil}
-use Rattle.wiring.specs.Options.{bind, omap}
+use Rattle.std.proofs.Common.{◌≡◌, ℕ, zero, suc, ◌+◌, ◌-◌, ◌<◌, ◌^◌, ◌==◌, Bool, true, false, cond, ◌&&◌, List, [], ◌∷◌, ◌++◌, map, take, slice_get, decimal, Option, Some, None, refl, sym, ◌∙◌, ap}
+use Rattle.std.proofs.Common.{subst, inl, inr, zero-add, arith, append_assoc, append-nil, option_and_then, option_map}
 use Rattle.wiring.specs.Wiring.{In}
 use Rattle.wiring.proofs.Members.{In-slice_get}
 use Rattle.hw_model.specs.Types.{Name, HwType, width}
@@ -13,9 +13,10 @@ use Rattle.verilog_model.specs.Tree.{Expr, Connection, Item, Tree}
 use Rattle.verilog_model.specs.Tree.Expr.{name}
 use Rattle.verilog_model.specs.Tree.Item.{assign}
 use Rattle.verilog_model.specs.Hierarchy.{find_port, block_target}
-use Rattle.verilog_model.specs.Checks.{Declared, find_declared, can_assign, is_variable, is_input, has_role, expr_checks, load_checks, block_checks, joins_net, connection_checks, connections_check, high_checks, item_checks, declared_by, items_check, port_role, declared_items}
+use Rattle.verilog_model.specs.Checks.{Declared, find_declared, can_assign, is_variable, is_input, has_role, expr_checks, load_checks, block_checks, joins_net, connection_checks, connections_check}
+use Rattle.verilog_model.specs.Checks.{high_checks, item_checks, declared_by, items_check, port_role, declared_items}
 use Rattle.verilog_model.proofs.Numerals.{and_intro, is_decimal-decimal}
-use Rattle.verilog_expr.specs.Numerals.{high_of}
+use Rattle.verilog_model.specs.Digits.{high_of}
 use Rattle.verilog_expr.specs.Expressions.{constant_expr}
 use Rattle.verilog_expr.specs.Values.{gives_values}
 use Rattle.export_verilog.specs.Identifiers.{Emission, each, emission_of, identifier_text, value_name, name_or_nothing}
@@ -77,14 +78,14 @@ module _ (d : Design) (x : Setting d) (s : Name) (m : Module) (is : find_module 
   t = tree_of d
 
   typed_first : (o : Op) (r : OpResult) → slice_get o.results 0 ≡ Some r → result_type o 0 ≡ Some r.type
-  typed_first o r e = ap (omap (λ (z : OpResult). z.type)) e
+  typed_first o r e = ap (option_map (λ (z : OpResult). z.type)) e
 
   pub result_small : (i k : ℕ) (o : Op) (r : OpResult) → slice_get m.body i ≡ Some o → slice_get o.results k ≡ Some r → width r.type < 2 ^ 64
   result_small i k o r there at =
-      subst (λ z. width_of z < 2 ^ 64) (ap (λ z. bind z (λ (q : Op). result_type q k)) there ∙ ap (omap (λ (z : OpResult). z.type)) at) ((module_ok d x s m is).narrow (result i k))
+      subst (λ z. width_of z < 2 ^ 64) (ap (λ z. option_and_then (λ (q : Op). result_type q k) z) there ∙ ap (option_map (λ (z : OpResult). z.type)) at) ((module_ok d x s m is).narrow (result i k))
 
   pub first_small : (i : ℕ) (o : Op) → slice_get m.body i ≡ Some o → width_of (result_type o 0) < 2 ^ 64
-  first_small i o there = subst (λ z. width_of z < 2 ^ 64) (ap (λ z. bind z (λ (q : Op). result_type q 0)) there) ((module_ok d x s m is).narrow (result i 0))
+  first_small i o there = subst (λ z. width_of z < 2 ^ 64) (ap (λ z. option_and_then (λ (q : Op). result_type q 0) z) there) ((module_ok d x s m is).narrow (result i 0))
 
   -- a declaration meets the checks whatever is known
   pub declaration_checks : (y : Item) (kn : List Declared) → In y (each (declares m) 0 m.body) → item_checks t kn y ≡ true
@@ -154,14 +155,16 @@ module _ (d : Design) (x : Setting d) (s : Name) (m : Module) (is : find_module 
         let same : typed.0 ≡ r = (let e : Some typed.0 ≡ Some r = sym typed.1 ∙ is_register_of in let f : typed.0 ≡ r = cc in f) in
         let are : AreOperands (type_in m.ports m.body) first.0.type r = subst (AreOperands (type_in m.ports m.body) first.0.type) same typed.2 in
         let c = ((module_ok d x s m is).ops i o there).clocked r is_register_of in
-        let clock_name : name_or_nothing (value_name m r.clock) ≡ identifier_text m (port_identifier c.number) = ap (λ z. name_or_nothing (value_name m z)) c.is_port ∙ ap name_or_nothing (named_input d x s m is c.number c.clock c.there c.input) in
+        let clock_name : name_or_nothing (value_name m r.clock) ≡ identifier_text m (port_identifier c.number) = ap (λ z. name_or_nothing (value_name m z)) c.is_port
+        ∙ ap name_or_nothing (named_input d x s m is c.number c.clock c.there c.input) in
         let q = identifier_text m (value_identifier i 0) in
         let b = module_block m q r (async_reset_in o) in
         let target : block_target b ≡ q = module_block_target m q r (async_reset_in o) in
         and_intro (has_role is_input (find_declared known (name_or_nothing (value_name m r.clock)))) (has_role is_variable (find_declared known (block_target b)) && block_checks known (block_target b) b)
         (ap (λ n. has_role is_input (find_declared known n)) clock_name ∙ ap (has_role is_input) (found_port d x s m is known knows c.number c.clock c.there) ∙ ap (λ z. is_input (port_role z)) c.input)
         (and_intro (has_role is_variable (find_declared known (block_target b))) (block_checks known (block_target b) b)
-        (ap (λ n. has_role is_variable (find_declared known n)) target ∙ ap (has_role is_variable) (found_result d x s m is known knows i 0 o first.0 (variable_in m i o there emission) there first.1) ∙ ap (λ z. is_variable (result_emission z)) emission)
+        (ap (λ n. has_role is_variable (find_declared known n)) target ∙ ap (has_role is_variable)
+        (found_result d x s m is known knows i 0 o first.0 (variable_in m i o there emission) there first.1) ∙ ap (λ z. is_variable (result_emission z)) emission)
         (ap (λ n. block_checks known n b) target ∙ any_good q o first.0.type r (async_reset_in o) (In-slice_get o m.body i there) is_register_of refl are))
 
     -- ---- wires and outputs
@@ -203,7 +206,7 @@ module _ (d : Design) (x : Setting d) (s : Name) (m : Module) (is : find_module 
     connection_good i o there emission c j p at e same =
         ap (λ (z : Connection). connection_checks known (find_port (vports c.module_of) z.port) z.value) same
         ∙ ap (λ z. connection_checks known z (connection_of c.module_of m i j 0 (take j c.module_of.ports) p o.operands).value)
-        (port_under c.module_of (x.names c.kind.symbol c.module_of c.there) (port_identifier j) (port_in c.module_of j p at) ∙ ap (omap (vport_at c.module_of j)) at)
+        (port_under c.module_of (x.names c.kind.symbol c.module_of c.there) (port_identifier j) (port_in c.module_of j p at) ∙ ap (option_map (vport_at c.module_of j)) at)
         ∙ go p.is_output refl where
           n : ℕ
           n = output_count (take j c.module_of.ports)

@@ -1,8 +1,7 @@
 -- What drives each name of a module: the connections of instances, the assignments and the registers.
-use Rattle.std.proofs.Common.{◌≡◌, ℕ, zero, suc, pred, ◌+◌, Bool, true, false, cond, List, [], ◌∷◌, map, take, slice_get, Option, Some, None, refl, sym, ◌∙◌, ap, ap₂, subst, inl, inr, zero-add}
+use Rattle.std.proofs.Common.{◌≡◌, ℕ, zero, suc, pred, ◌+◌, Bool, true, false, cond, List, [], ◌∷◌, map, take, slice_get, Option, Some, None, refl, sym, ◌∙◌, ap, ap₂, subst, inl, inr, zero-add, option_and_then, option_map}
 use Rattle.wiring.specs.Wiring.{In}
-use Rattle.wiring.specs.Options.{bind, omap}
-use Rattle.wiring.proofs.Options.{omap_some}
+use Rattle.wiring.proofs.Options.{option_map_some}
 use Rattle.hw_model.specs.Types.{Name, HwType}
 use Rattle.hw_model.specs.Design.{Port, OpResult, Op, Module, Design, same_name, find_module, output_refs, callee}
 use Rattle.hw_model.specs.Design.Ref.{result}
@@ -41,22 +40,22 @@ first_from {A} {B} f (x ∷ xs) b is = go (f x) refl is (first_from f xs b) wher
 -- the position of the k-th output
 abbrev pub output_place : ℕ → List Port → Option ℕ
 output_place k [] = None
-output_place k (p ∷ ps) = cond p.is_output (if_zero k (Some 0) (omap suc (output_place (pred k) ps))) (omap suc (output_place k ps))
+output_place k (p ∷ ps) = cond p.is_output (if_zero k (Some 0) (option_map suc (output_place (pred k) ps))) (option_map suc (output_place k ps))
 
 pub place_of_output : (ps : List Port) (j : ℕ) (p : Port) → slice_get ps j ≡ Some p → p.is_output ≡ true
     → (output_place (output_count (take j ps)) ps ≡ Some j) × (slice_get (output_types ps) (output_count (take j ps)) ≡ Some p.type)
 place_of_output [] j p is out = cc
 place_of_output (x ∷ ps) zero p is out = let e : x ≡ p = cc in let way : x.is_output ≡ true = ap (λ (z : Port). z.is_output) e ∙ out in (
-  ap (λ b. cond b (Some 0) (omap suc (output_place 0 ps))) way,
+  ap (λ b. cond b (Some 0) (option_map suc (output_place 0 ps))) way,
   ap (λ b. slice_get (cond b (x.type ∷ output_types ps) (output_types ps)) 0) way ∙ ap (λ (z : Port). Some z.type) e,
 )
 place_of_output (x ∷ ps) (suc j) p is out = go x.is_output refl (place_of_output ps j p is out) where
   go : (b : Bool) → x.is_output ≡ b → (output_place (output_count (take j ps)) ps ≡ Some j) × (slice_get (output_types ps) (output_count (take j ps)) ≡ Some p.type)
-      → (cond b (if_zero (cond b (suc (output_count (take j ps))) (output_count (take j ps))) (Some 0) (omap suc (output_place (pred (cond b (suc (output_count (take j ps))) (output_count (take j ps)))) ps)))
-      (omap suc (output_place (cond b (suc (output_count (take j ps))) (output_count (take j ps))) ps)) ≡ Some (suc j))
+      → (cond b (if_zero (cond b (suc (output_count (take j ps))) (output_count (take j ps))) (Some 0) (option_map suc (output_place (pred (cond b (suc (output_count (take j ps))) (output_count (take j ps)))) ps)))
+      (option_map suc (output_place (cond b (suc (output_count (take j ps))) (output_count (take j ps))) ps)) ≡ Some (suc j))
       × (slice_get (cond b (x.type ∷ output_types ps) (output_types ps)) (cond b (suc (output_count (take j ps))) (output_count (take j ps))) ≡ Some p.type)
-  go true way rest = (ap (omap suc) rest.0, rest.1)
-  go false way rest = (ap (omap suc) rest.0, rest.1)
+  go true way rest = (ap (option_map suc) rest.0, rest.1)
+  go false way rest = (ap (option_map suc) rest.0, rest.1)
 
 pub record OutputAt (ps : List Port) (k : ℕ) (t : HwType) : Type 0 where
   pub place : ℕ
@@ -84,10 +83,12 @@ module _ (c m : Module) (are : AreNames c) (i : ℕ) (o : Op) (q : VPath) (u n :
   output_drive j = driven_from (vnet (u ∷ q) (identifier_text c (port_identifier j)))
 
   joined_at : (j : ℕ) (p : Port) → slice_get c.ports j ≡ Some p → joined_output q u n (vports c) (connection_of c m i j 0 (take j c.ports) p o.operands)
-      ≡ cond p.is_output (when (is_name n (cond p.is_output (name (identifier_text m (value_identifier i (0 + output_count (take j c.ports))))) (expr_for (expression m) (slice_get o.operands (input_count (take j c.ports)))))) (output_drive j)) None
+      ≡ cond p.is_output (when (is_name n (cond p.is_output (name (identifier_text m (value_identifier i (0 + output_count (take j c.ports)))))
+      (expr_for (expression m) (slice_get o.operands (input_count (take j c.ports)))))) (output_drive j)) None
   joined_at j p there =
-      ap (λ z. bind z (λ (y : VPort). cond y.is_output (when (is_name n (cond p.is_output (name (identifier_text m (value_identifier i (0 + output_count (take j c.ports))))) (expr_for (expression m) (slice_get o.operands (input_count (take j c.ports)))))) (driven_from (vnet (u ∷ q) y.name))) None))
-      (port_under c are (port_identifier j) (port_in c j p there) ∙ ap (omap (vport_at c j)) there)
+      ap (λ z. option_and_then (λ (y : VPort). cond y.is_output (when (is_name n (cond p.is_output (name (identifier_text m (value_identifier i (0 + output_count (take j c.ports)))))
+      (expr_for (expression m) (slice_get o.operands (input_count (take j c.ports)))))) (driven_from (vnet (u ∷ q) y.name))) None) z)
+      (port_under c are (port_identifier j) (port_in c j p there) ∙ ap (option_map (vport_at c j)) there)
 
   pub joined_gives : (y : Connection) (w : Drive) → In y (connections_of c m i 0 0 c.ports o.operands) → joined_output q u n (vports c) y ≡ Some w
       → (j : ℕ) × (p : Port) × (slice_get c.ports j ≡ Some p) × (p.is_output ≡ true) × (n ≡ identifier_text m (value_identifier i (output_count (take j c.ports)))) × (output_drive j ≡ w)
@@ -96,7 +97,8 @@ module _ (c m : Module) (are : AreNames c) (i : ℕ) (o : Op) (q : VPath) (u n :
       let same : y ≡ connection_of c m i e.0 0 (take e.0 c.ports) e.1 o.operands = e.3 ∙ ap (λ a. connection_of c m i a 0 (take e.0 c.ports) e.1 o.operands) (zero-add e.0) in
       go e.0 e.1 e.2 e.1.is_output refl (sym (joined_at e.0 e.1 e.2) ∙ sym (ap (joined_output q u n (vports c)) same) ∙ gives) where
         go : (j : ℕ) (p : Port) → slice_get c.ports j ≡ Some p → (b : Bool) → p.is_output ≡ b
-            → cond b (when (is_name n (cond b (name (identifier_text m (value_identifier i (0 + output_count (take j c.ports))))) (expr_for (expression m) (slice_get o.operands (input_count (take j c.ports)))))) (output_drive j)) None ≡ Some w
+            → cond b (when (is_name n (cond b (name (identifier_text m (value_identifier i (0 + output_count (take j c.ports)))))
+            (expr_for (expression m) (slice_get o.operands (input_count (take j c.ports)))))) (output_drive j)) None ≡ Some w
             → (j : ℕ) × (p : Port) × (slice_get c.ports j ≡ Some p) × (p.is_output ≡ true) × (n ≡ identifier_text m (value_identifier i (output_count (take j c.ports)))) × (output_drive j ≡ w)
         go j p there true way is =
             let h = when_some (same_name (identifier_text m (value_identifier i (0 + output_count (take j c.ports)))) n) (output_drive j) w is in
@@ -107,7 +109,8 @@ module _ (c m : Module) (are : AreNames c) (i : ℕ) (o : Op) (q : VPath) (u n :
       → joined_output q u n (vports c) (connection_of c m i j 0 (take j c.ports) p o.operands) ≡ Some (output_drive j)
   output_joined j p there out called =
       joined_at j p there
-      ∙ ap (λ b. cond b (when (is_name n (cond b (name (identifier_text m (value_identifier i (0 + output_count (take j c.ports))))) (expr_for (expression m) (slice_get o.operands (input_count (take j c.ports)))))) (output_drive j)) None) out
+      ∙ ap (λ b. cond b (when (is_name n (cond b (name (identifier_text m (value_identifier i (0 + output_count (take j c.ports)))))
+      (expr_for (expression m) (slice_get o.operands (input_count (take j c.ports)))))) (output_drive j)) None) out
       ∙ ap (λ b. when b (output_drive j)) (ap (λ z. same_name z n) (ap (λ a. identifier_text m (value_identifier i a)) (zero-add (output_count (take j c.ports))) ∙ sym called) ∙ name_self n)
 
 -- ---- what an item of the module drives
@@ -123,7 +126,7 @@ module _ (d : Design) (x : Setting d) (s : Name) (m : Module) (is : find_module 
   held_drive i = held (vbase (tree_of d) top q + vstate_before (tree_of d) (loads (identifier_text m (value_identifier i 0))) (Some (vmodule d m))) (width_in (vmodule d m) (identifier_text m (value_identifier i 0)))
 
   abbrev pub result_drive : ℕ → ℕ → Op → Option Drive
-  result_drive i k o = bind (callee d o) (λ (c : Module). omap (λ j. driven_from (vnet (identifier_text m (instance_identifier i) ∷ q) (identifier_text c (port_identifier j)))) (output_place k c.ports))
+  result_drive i k o = option_and_then (λ (c : Module). option_map (λ j. driven_from (vnet (identifier_text m (instance_identifier i) ∷ q) (identifier_text c (port_identifier j)))) (output_place k c.ports)) (callee d o)
 
   abbrev pub emission_drive : ℕ → ℕ → Op → Emission → Option Drive
   emission_drive i k o inline = None
@@ -135,13 +138,13 @@ module _ (d : Design) (x : Setting d) (s : Name) (m : Module) (is : find_module 
   output_expr j = expr_for (expression m) (slice_get (output_refs m.body) (output_count (take j m.ports)))
 
   abbrev pub drive_value : Identifier → Option Drive
-  drive_value (port_identifier j) = bind (slice_get m.ports j) (λ (p : Port). cond p.is_output (Some (driven_by q (output_expr j))) None)
-  drive_value (value_identifier i k) = bind (slice_get m.body i) (λ (o : Op). emission_drive i k o (emission_of m.ports m.body i o))
+  drive_value (port_identifier j) = option_and_then (λ (p : Port). cond p.is_output (Some (driven_by q (output_expr j))) None) (slice_get m.ports j)
+  drive_value (value_identifier i k) = option_and_then (λ (o : Op). emission_drive i k o (emission_of m.ports m.body i o)) (slice_get m.body i)
   drive_value (instance_identifier i) = None
 
   -- the value of a thing that an operation has
   pub value_by_emission : (i k : ℕ) (o : Op) (r : Emission) → slice_get m.body i ≡ Some o → emission_of m.ports m.body i o ≡ r → drive_value (value_identifier i k) ≡ emission_drive i k o r
-  value_by_emission i k o r there emission = ap (λ z. bind z (λ (o : Op). emission_drive i k o (emission_of m.ports m.body i o))) there ∙ ap (emission_drive i k o) emission
+  value_by_emission i k o r there emission = ap (λ z. option_and_then (λ (o : Op). emission_drive i k o (emission_of m.ports m.body i o)) z) there ∙ ap (emission_drive i k o) emission
 
   abbrev gives : Name → Item → Option Drive
   gives n y = item_drive (tree_of d) top q (vmodule d m) n y
@@ -159,8 +162,8 @@ module _ (d : Design) (x : Setting d) (s : Name) (m : Module) (is : find_module 
       → drive_value (value_identifier i k) ≡ Some (driven_from (vnet (identifier_text m (instance_identifier i) ∷ q) (identifier_text c.module_of (port_identifier j))))
   value_of_result i o c there emission k j at =
       value_by_emission i k o as_instance there emission
-      ∙ ap (λ z. bind z (λ (y : Module). omap (λ a. driven_from (vnet (identifier_text m (instance_identifier i) ∷ q) (identifier_text y (port_identifier a)))) (output_place k y.ports))) (callee_is d m o c)
-      ∙ ap (omap (λ a. driven_from (vnet (identifier_text m (instance_identifier i) ∷ q) (identifier_text c.module_of (port_identifier a))))) at
+      ∙ ap (λ z. option_and_then (λ (y : Module). option_map (λ a. driven_from (vnet (identifier_text m (instance_identifier i) ∷ q) (identifier_text y (port_identifier a)))) (output_place k y.ports)) z) (callee_is d m o c)
+      ∙ ap (option_map (λ a. driven_from (vnet (identifier_text m (instance_identifier i) ∷ q) (identifier_text c.module_of (port_identifier a))))) at
 
   drives_back : (n : Name) (y : Item) (w : Drive) → In y (vitems d m) → gives n y ≡ Some w → (k : Identifier) × In k (module_identifiers m) × (n ≡ identifier_text m k) × (drive_value k ≡ Some w)
   drives_back n y w here is_given = go (from_items d m y here) where
@@ -171,15 +174,15 @@ module _ (d : Design) (x : Setting d) (s : Name) (m : Module) (is : find_module 
         let f = first_from (joined_output q u n (vports c.module_of)) (connections_of c.module_of m i 0 0 c.module_of.ports o.operands) w (sym (instance_drive n i o c) ∙ given) in
         let j = joined_gives c.module_of m (x.names c.kind.symbol c.module_of c.there) i o q u n f.0 w f.1 f.2 in
         let p = place_of_output c.module_of.ports j.0 j.1 j.2 j.3 in
-        let typed : omap (λ (r : OpResult). r.type) (slice_get o.results (output_count (take j.0 c.module_of.ports))) ≡ Some j.1.type =
+        let typed : option_map (λ (r : OpResult). r.type) (slice_get o.results (output_count (take j.0 c.module_of.ports))) ≡ Some j.1.type =
         sym (slice_of_map o.results (output_count (take j.0 c.module_of.ports))) ∙ ap (λ ts. slice_get ts (output_count (take j.0 c.module_of.ports))) c.outputs ∙ p.1 in
-        let r = omap_some (λ (r : OpResult). r.type) (slice_get o.results (output_count (take j.0 c.module_of.ports))) typed in (
+        let r = option_map_some (λ (r : OpResult). r.type) (slice_get o.results (output_count (take j.0 c.module_of.ports))) typed in (
           value_identifier i (output_count (take j.0 c.module_of.ports)),
           result_in_identifiers m i (output_count (take j.0 c.module_of.ports)) o r.0 there emission r.1,
           j.4,
           value_of_result i o c there emission (output_count (take j.0 c.module_of.ports)) j.0 p.0 ∙ ap (λ (z : Drive). Some z) j.5,
         ) where
-          slice_of_map : (rs : List OpResult) (k : ℕ) → slice_get (map (λ (r : OpResult). r.type) rs) k ≡ omap (λ (r : OpResult). r.type) (slice_get rs k)
+          slice_of_map : (rs : List OpResult) (k : ℕ) → slice_get (map (λ (r : OpResult). r.type) rs) k ≡ option_map (λ (r : OpResult). r.type) (slice_get rs k)
           slice_of_map [] k = refl
           slice_of_map (r ∷ rs) zero = refl
           slice_of_map (r ∷ rs) (suc k) = slice_of_map rs k
@@ -200,7 +203,7 @@ module _ (d : Design) (x : Setting d) (s : Name) (m : Module) (is : find_module 
           port_identifier j,
           port_in m j p there,
           sym (name_from (identifier_text m (port_identifier j)) n h.0),
-          ap (λ z. bind z (λ (p : Port). cond p.is_output (Some (driven_by q (output_expr j))) None)) there ∙ ap (λ b. cond b (Some (driven_by q (output_expr j))) None) out ∙ ap (λ (z : Drive). Some z) h.1,
+          ap (λ z. option_and_then (λ (p : Port). cond p.is_output (Some (driven_by q (output_expr j))) None) z) there ∙ ap (λ b. cond b (Some (driven_by q (output_expr j))) None) out ∙ ap (λ (z : Drive). Some z) h.1,
         )
     go (net_wire i o there emission same) = absurd (let h : None ≡ Some w = sym (ap (gives n) same) ∙ is_given in cc)
     go (variable_reg i o there emission same) = absurd (let h : None ≡ Some w = sym (ap (gives n) same) ∙ is_given in cc)
@@ -217,21 +220,21 @@ module _ (d : Design) (x : Setting d) (s : Name) (m : Module) (is : find_module 
       output_item m j (take j m.ports) (output_refs m.body),
       into_items d m (output_item m j (take j m.ports) (output_refs m.body)) (output_assign j p there out refl),
       chosen (port_identifier j) (driven_by q (output_expr j)) same
-          (ap (λ z. bind z (λ (p : Port). cond p.is_output (Some (driven_by q (output_expr j))) None)) there ∙ ap (λ b. cond b (Some (driven_by q (output_expr j))) None) out),
+          (ap (λ z. option_and_then (λ (p : Port). cond p.is_output (Some (driven_by q (output_expr j))) None) z) there ∙ ap (λ b. cond b (Some (driven_by q (output_expr j))) None) out),
     )
     of_port j p there same false out = absurd (let h : None ≡ Some w =
-        sym (ap drive_value same ∙ ap (λ z. bind z (λ (p : Port). cond p.is_output (Some (driven_by q (output_expr j))) None)) there ∙ ap (λ b. cond b (Some (driven_by q (output_expr j))) None) out) ∙ value in cc)
+        sym (ap drive_value same ∙ ap (λ z. option_and_then (λ (p : Port). cond p.is_output (Some (driven_by q (output_expr j))) None) z) there ∙ ap (λ b. cond b (Some (driven_by q (output_expr j))) None) out) ∙ value in cc)
 
     of_result : (i l : ℕ) (o : Op) (r : OpResult) → slice_get m.body i ≡ Some o → emission_of m.ports m.body i o ≡ as_instance → slice_get o.results l ≡ Some r → k ≡ value_identifier i l → (c : Called d m o)
         → (y : Item) × In y (vitems d m) × (gives (identifier_text m k) y ≡ Some w)
     of_result i l o r there emission at same c = found_output (output_of_number c.module_of.ports l r.type typed) where
-      slice_of_map : (rs : List OpResult) (k : ℕ) → slice_get (map (λ (r : OpResult). r.type) rs) k ≡ omap (λ (r : OpResult). r.type) (slice_get rs k)
+      slice_of_map : (rs : List OpResult) (k : ℕ) → slice_get (map (λ (r : OpResult). r.type) rs) k ≡ option_map (λ (r : OpResult). r.type) (slice_get rs k)
       slice_of_map [] k = refl
       slice_of_map (r ∷ rs) zero = refl
       slice_of_map (r ∷ rs) (suc k) = slice_of_map rs k
 
       typed : slice_get (output_types c.module_of.ports) l ≡ Some r.type
-      typed = ap (λ ts. slice_get ts l) (sym c.outputs) ∙ slice_of_map o.results l ∙ ap (omap (λ (r : OpResult). r.type)) at
+      typed = ap (λ ts. slice_get ts l) (sym c.outputs) ∙ slice_of_map o.results l ∙ ap (option_map (λ (r : OpResult). r.type)) at
 
       found_output : OutputAt c.module_of.ports l r.type → (y : Item) × In y (vitems d m) × (gives (identifier_text m k) y ≡ Some w)
       found_output e = (
@@ -269,8 +272,8 @@ module _ (d : Design) (x : Setting d) (s : Name) (m : Module) (is : find_module 
                   → In (value_identifier i (output_count (take j c.module_of.ports))) (module_identifiers m)
               other_in j p at =
                   let n : ℕ = output_count (take j c.module_of.ports) in
-                  let t : omap (λ (r : OpResult). r.type) (slice_get o.results n) ≡ Some p.type = sym (slice_of_map o.results n) ∙ ap (λ ts. slice_get ts n) c.outputs ∙ at in
-                  let r = omap_some (λ (r : OpResult). r.type) (slice_get o.results n) t in
+                  let t : option_map (λ (r : OpResult). r.type) (slice_get o.results n) ≡ Some p.type = sym (slice_of_map o.results n) ∙ ap (λ ts. slice_get ts n) c.outputs ∙ at in
+                  let r = option_map_some (λ (r : OpResult). r.type) (slice_get o.results n) t in
                   result_in_identifiers m i n o r.0 there emission r.1
 
     go : Owner m k → (y : Item) × In y (vitems d m) × (gives (identifier_text m k) y ≡ Some w)
@@ -284,7 +287,8 @@ module _ (d : Design) (x : Setting d) (s : Name) (m : Module) (is : find_module 
         let r = register_of d x s m is i o there emission in (
           block_at m i o r.0,
           into_items d m (block_at m i o r.0) (variable_block i o r.0 there emission r.1 refl),
-          ap₂ (λ a b. when (same_name a (identifier_text m k)) (held (vbase (tree_of d) top q + vstate_before (tree_of d) (loads (identifier_text m b)) (Some (vmodule d m))) (width_in (vmodule d m) (identifier_text m b)))) (block_name i r.0 (async_reset_in o)) same
+          ap₂ (λ a b. when (same_name a (identifier_text m k)) (held (vbase (tree_of d) top q + vstate_before (tree_of d) (loads (identifier_text m b)) (Some (vmodule d m)))
+              (width_in (vmodule d m) (identifier_text m b)))) (block_name i r.0 (async_reset_in o)) same
               ∙ chosen (value_identifier i 0) (held_drive i) same (value_by_emission i 0 o as_reg there emission),
         )
     go (owns_instance i o there emission same) = absurd (let h : None ≡ Some w = sym (ap drive_value same) ∙ value in cc)

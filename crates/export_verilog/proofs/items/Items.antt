@@ -10,12 +10,13 @@ use Rattle.hw_model.specs.Flat.{width_of, input_count, Register, register_in, as
 use Rattle.verilog_model.specs.Tree.{Expr, Connection, Item}
 use Rattle.verilog_model.specs.Tree.Expr.{name}
 use Rattle.verilog_model.specs.Tree.Item.{wire, reg, assign, always, instance}
-use Rattle.verilog_expr.specs.Numerals.{high_of}
+use Rattle.verilog_model.specs.Digits.{high_of}
 use Rattle.verilog_expr.specs.Building.{no_expr}
 use Rattle.export_verilog.specs.Identifiers.{Emission, each, emission_of, identifier_text, name_or_nothing, value_name}
 use Rattle.export_verilog.specs.Identifiers.Identifier.{port_identifier, value_identifier, instance_identifier}
 use Rattle.export_verilog.specs.Identifiers.Emission.{inline, as_wire, as_reg, as_instance}
-use Rattle.export_verilog.specs.Exported.{symbol_name, expression, assigned_expr, result_wires, declared_as, declares, module_block, always_of, expr_or_none, others, connections_of, connections_to, instance_of, stated_as, states, output_assigns, vitems}
+use Rattle.export_verilog.specs.Exported.{symbol_name, expression, assigned_expr, result_wires, declared_as, declares, module_block, always_of, expr_or_none, others, connections_of, connections_to}
+use Rattle.export_verilog.specs.Exported.{instance_of, stated_as, states, output_assigns, vitems}
 use Rattle.export_verilog.proofs.items.Lists.{in_append}
 use Rattle.export_verilog.proofs.names.IdentifiersOf.{from_each, into_each}
 

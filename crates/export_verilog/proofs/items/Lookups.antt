@@ -1,8 +1,7 @@
 -- What is found under the name of each of a module's things: ports, widths, instances and connections.
-use Rattle.std.proofs.Common.{◌≡◌, ℕ, ◌<◌, ◌≤◌, ◌^◌, ◌⊎◌, Bool, true, false, List, [], ◌∷◌, take, slice_get, Option, Some, None, refl, sym, ◌∙◌, ap, ap₂, subst, inl, inr, zero-add}
+use Rattle.std.proofs.Common.{◌≡◌, ℕ, ◌<◌, ◌≤◌, ◌^◌, ◌⊎◌, Bool, true, false, List, [], ◌∷◌, take, slice_get, Option, Some, None, refl, sym, ◌∙◌, ap, ap₂, subst, inl, inr, zero-add, option_and_then, option_map}
 use Rattle.wiring.specs.Wiring.{In}
-use Rattle.wiring.specs.Options.{bind, omap}
-use Rattle.wiring.proofs.Options.{omap_some}
+use Rattle.wiring.proofs.Options.{option_map_some}
 use Rattle.hw_model.specs.Types.{Name, width}
 use Rattle.hw_model.specs.Kinds.{Instance}
 use Rattle.hw_model.specs.Design.{Port, OpResult, Op, Module, Design, same_name, find_module, instance_in, result_type}
@@ -13,7 +12,7 @@ use Rattle.hw_model.specs.Sound.{type_in}
 use Rattle.verilog_model.specs.Tree.{Numeral, VPort, Connection, Item}
 use Rattle.verilog_model.specs.Tree.Item.{wire, reg, instance}
 use Rattle.verilog_model.specs.Hierarchy.{first_some, or_else, when, find_port, find_connection, VInstance, instance_named, find_instance, item_range, range_in, range_width, width_of_range, width_in}
-use Rattle.verilog_expr.specs.Numerals.{high_of}
+use Rattle.verilog_model.specs.Digits.{high_of}
 use Rattle.export_verilog.specs.Identifiers.{Identifier, emission_of, identifier_text, module_identifiers}
 use Rattle.export_verilog.specs.Identifiers.Identifier.{port_identifier, value_identifier, instance_identifier}
 use Rattle.export_verilog.specs.Identifiers.Emission.{as_wire, as_reg}
@@ -60,7 +59,7 @@ abbrev pub vport_at : Module → ℕ → Port → VPort
 vport_at m j p = record { is_output = p.is_output; high = high_of (width p.type); name = identifier_text m (port_identifier j) }
 
 abbrev pub port_value : Module → Identifier → Option VPort
-port_value m (port_identifier j) = omap (vport_at m j) (slice_get m.ports j)
+port_value m (port_identifier j) = option_map (vport_at m j) (slice_get m.ports j)
 port_value m _ = None
 
 module _ (m : Module) where
@@ -71,12 +70,12 @@ module _ (m : Module) where
       port_identifier j,
       port_in m j p there,
       sym called ∙ ap (λ (z : VPort). z.name) same,
-      ap (omap (vport_at m j)) there ∙ ap (λ (z : VPort). Some z) (sym same ∙ is),
+      ap (option_map (vport_at m j)) there ∙ ap (λ (z : VPort). Some z) (sym same ∙ is),
     )
     go j p there (inr never) called is = absurd never
 
   ports_forth : (k : Identifier) (c : VPort) → In k (module_identifiers m) → port_value m k ≡ Some c → (y : VPort) × In y (vports m) × (when (same_name y.name (identifier_text m k)) y ≡ Some c)
-  ports_forth (port_identifier j) c here is = let h = omap_some (vport_at m j) (slice_get m.ports j) is in (
+  ports_forth (port_identifier j) c here is = let h = option_map_some (vport_at m j) (slice_get m.ports j) is in (
     vport_at m j h.0,
     into_each (vport m) m.ports (vport_at m j h.0) j h.0 h.1 (inl refl),
     ap (λ b. when b (vport_at m j h.0)) (name_self (identifier_text m (port_identifier j))) ∙ ap (λ (z : VPort). Some z) h.2,
@@ -92,22 +91,22 @@ module _ (m : Module) where
     no_port_under n never = unfound m are (λ n (p : VPort). when (same_name p.name n) p) (vports m) (port_value m) ports_back ports_forth n never
 
 -- the range of a port's name is that of the port
-pub port_range : (ps : List VPort) (n : Name) → first_some (λ (p : VPort). when (same_name p.name n) p.high) ps ≡ omap (λ (p : VPort). p.high) (find_port ps n)
+pub port_range : (ps : List VPort) (n : Name) → first_some (λ (p : VPort). when (same_name p.name n) p.high) ps ≡ option_map (λ (p : VPort). p.high) (find_port ps n)
 port_range [] n = refl
 port_range (p ∷ ps) n = go (same_name p.name n) (port_range ps n) where
-  go : (b : Bool) → first_some (λ (p : VPort). when (same_name p.name n) p.high) ps ≡ omap (λ (p : VPort). p.high) (find_port ps n)
-      → or_else (when b p.high) (first_some (λ (p : VPort). when (same_name p.name n) p.high) ps) ≡ omap (λ (p : VPort). p.high) (or_else (when b p) (find_port ps n))
+  go : (b : Bool) → first_some (λ (p : VPort). when (same_name p.name n) p.high) ps ≡ option_map (λ (p : VPort). p.high) (find_port ps n)
+      → or_else (when b p.high) (first_some (λ (p : VPort). when (same_name p.name n) p.high) ps) ≡ option_map (λ (p : VPort). p.high) (or_else (when b p) (find_port ps n))
   go true rest = refl
   go false rest = rest
 
 -- ---- ranges of items
 
 abbrev pub item_high : Module → Identifier → Option (Option Numeral)
-item_high m (value_identifier i k) = omap (λ o. high_of (width_of (result_type o k))) (slice_get m.body i)
+item_high m (value_identifier i k) = option_map (λ o. high_of (width_of (result_type o k))) (slice_get m.body i)
 item_high m _ = None
 
 result_found : (o : Op) (k : ℕ) (r : OpResult) → slice_get o.results k ≡ Some r → result_type o k ≡ Some r.type
-result_found o k r is = ap (omap (λ (z : OpResult). z.type)) is
+result_found o k r is = ap (option_map (λ (z : OpResult). z.type)) is
 
 module _ (d : Design) (m : Module) where
   items_back : (n : Name) (y : Item) (c : Option Numeral) → In y (vitems d m) → item_range n y ≡ Some c
@@ -120,11 +119,11 @@ module _ (d : Design) (m : Module) where
 
     go : From d m y → (k : Identifier) × In k (module_identifiers m) × (n ≡ identifier_text m k) × (item_high m k ≡ Some c)
     go (net_wire i o there emission same) = named (value_identifier i 0) (high_of (width_of (result_type o 0))) (net_in m i o there emission)
-        (ap (omap (λ o. high_of (width_of (result_type o 0)))) there) (sym (ap (item_range n) same) ∙ gives)
+        (ap (option_map (λ o. high_of (width_of (result_type o 0)))) there) (sym (ap (item_range n) same) ∙ gives)
     go (variable_reg i o there emission same) = named (value_identifier i 0) (high_of (width_of (result_type o 0))) (variable_in m i o there emission)
-        (ap (omap (λ o. high_of (width_of (result_type o 0)))) there) (sym (ap (item_range n) same) ∙ gives)
+        (ap (option_map (λ o. high_of (width_of (result_type o 0)))) there) (sym (ap (item_range n) same) ∙ gives)
     go (result_wire i k o r there emission at same) = named (value_identifier i k) (high_of (width r.type)) (result_in_identifiers m i k o r there emission at)
-        (ap (omap (λ o. high_of (width_of (result_type o k)))) there ∙ ap (λ t. Some (high_of (width_of t))) (result_found o k r at)) (sym (ap (item_range n) same) ∙ gives)
+        (ap (option_map (λ o. high_of (width_of (result_type o k)))) there ∙ ap (λ t. Some (high_of (width_of t))) (result_found o k r at)) (sym (ap (item_range n) same) ∙ gives)
     go (net_assign i o there emission same) = absurd (let h : None ≡ Some c = sym (ap (item_range n) same) ∙ gives in cc)
     go (variable_block i o r there emission is same) = absurd (let h : None ≡ Some c = sym (ap (item_range n) same) ∙ gives in cc)
     go (an_instance i o x there emission is same) = absurd (let h : None ≡ Some c = sym (ap (item_range n) same) ∙ gives in cc)
@@ -142,17 +141,17 @@ module _ (d : Design) (m : Module) where
     go (a_net i o there emission same) = (
       wire (high_of (width_of (result_type o 0))) (identifier_text m (value_identifier i 0)),
       into_items d m (wire (high_of (width_of (result_type o 0))) (identifier_text m (value_identifier i 0))) (net_wire i o there emission refl),
-      chosen (high_of (width_of (result_type o 0))) (value_identifier i 0) same (ap (omap (λ o. high_of (width_of (result_type o 0)))) there),
+      chosen (high_of (width_of (result_type o 0))) (value_identifier i 0) same (ap (option_map (λ o. high_of (width_of (result_type o 0)))) there),
     )
     go (a_variable i o there emission same) = (
       reg (high_of (width_of (result_type o 0))) (identifier_text m (value_identifier i 0)),
       into_items d m (reg (high_of (width_of (result_type o 0))) (identifier_text m (value_identifier i 0))) (variable_reg i o there emission refl),
-      chosen (high_of (width_of (result_type o 0))) (value_identifier i 0) same (ap (omap (λ o. high_of (width_of (result_type o 0)))) there),
+      chosen (high_of (width_of (result_type o 0))) (value_identifier i 0) same (ap (option_map (λ o. high_of (width_of (result_type o 0)))) there),
     )
     go (a_result i l o r there emission at same) = (
       wire (high_of (width r.type)) (identifier_text m (value_identifier i l)),
       into_items d m (wire (high_of (width r.type)) (identifier_text m (value_identifier i l))) (result_wire i l o r there emission at refl),
-      chosen (high_of (width r.type)) (value_identifier i l) same (ap (omap (λ o. high_of (width_of (result_type o l)))) there ∙ ap (λ t. Some (high_of (width_of t))) (result_found o l r at)),
+      chosen (high_of (width r.type)) (value_identifier i l) same (ap (option_map (λ o. high_of (width_of (result_type o l)))) there ∙ ap (λ t. Some (high_of (width_of t))) (result_found o l r at)),
     )
 
   module _ (are : AreNames m) where
@@ -162,7 +161,7 @@ module _ (d : Design) (m : Module) where
 -- ---- widths
 
 abbrev pub identifier_width : Module → Identifier → ℕ
-identifier_width m (port_identifier j) = width_of (omap (λ (p : Port). p.type) (slice_get m.ports j))
+identifier_width m (port_identifier j) = width_of (option_map (λ (p : Port). p.type) (slice_get m.ports j))
 identifier_width m (value_identifier i k) = width_of (type_in m.ports m.body (result i k))
 identifier_width m (instance_identifier i) = 0
 
@@ -171,13 +170,13 @@ abbrev pub SayWidths : Type 0
 SayWidths = (w : ℕ) → 1 ≤ w → w < 2 ^ 64 → range_width (high_of w) ≡ w
 
 module _ (say : SayWidths) (d : Design) (m : Module) (ok : IsExportableModule m) (are : AreNames m) where
-  range_parts : (k : Identifier) → In k (module_identifiers m) → range_in (vmodule d m) (identifier_text m k) ≡ or_else (omap (λ (p : VPort). p.high) (port_value m k)) (item_high m k)
-  range_parts k here = ap₂ or_else (port_range (vports m) (identifier_text m k) ∙ ap (omap (λ (p : VPort). p.high)) (port_under m are k here)) (item_range_under d m are k here)
+  range_parts : (k : Identifier) → In k (module_identifiers m) → range_in (vmodule d m) (identifier_text m k) ≡ or_else (option_map (λ (p : VPort). p.high) (port_value m k)) (item_high m k)
+  range_parts k here = ap₂ or_else (port_range (vports m) (identifier_text m k) ∙ ap (option_map (λ (p : VPort). p.high)) (port_under m are k here)) (item_range_under d m are k here)
 
   result_width : (i k : ℕ) (o : Op) (r : OpResult) → slice_get m.body i ≡ Some o → slice_get o.results k ≡ Some r → range_width (high_of (width r.type)) ≡ width r.type
   result_width i k o r there at = say (width r.type) ((ok.ops i o there).bits k r at) (subst (λ w. w < 2 ^ 64) same (ok.narrow (result i k))) where
     same : width_of (type_in m.ports m.body (result i k)) ≡ width r.type
-    same = ap (λ x. width_of (bind x (λ (o : Op). result_type o k))) there ∙ ap width_of (result_found o k r at)
+    same = ap (λ x. width_of (option_and_then (λ (o : Op). result_type o k) x)) there ∙ ap width_of (result_found o k r at)
 
   pub port_width : (j : ℕ) (p : Port) → slice_get m.ports j ≡ Some p → range_width (high_of (width p.type)) ≡ width p.type
   port_width j p there = say (width p.type) (ok.bits j p there) (ok.narrow_ports j p there)
@@ -186,22 +185,22 @@ module _ (say : SayWidths) (d : Design) (m : Module) (ok : IsExportableModule m)
   value_width_is : (i k : ℕ) (o : Op) (r : OpResult) → slice_get m.body i ≡ Some o → slice_get o.results k ≡ Some r → (identifier : Identifier) → identifier ≡ value_identifier i k → In identifier (module_identifiers m)
       → width_in (vmodule d m) (identifier_text m identifier) ≡ identifier_width m identifier
   value_width_is i k o r there at identifier same here =
-      ap width_of_range (range_parts identifier here ∙ ap (λ z. or_else (omap (λ (p : VPort). p.high) (port_value m z)) (item_high m z)) same
-      ∙ ap (omap (λ o. high_of (width_of (result_type o k)))) there ∙ ap (λ t. Some (high_of (width_of t))) (result_found o k r at))
+      ap width_of_range (range_parts identifier here ∙ ap (λ z. or_else (option_map (λ (p : VPort). p.high) (port_value m z)) (item_high m z)) same
+      ∙ ap (option_map (λ o. high_of (width_of (result_type o k)))) there ∙ ap (λ t. Some (high_of (width_of t))) (result_found o k r at))
       ∙ result_width i k o r there at
-      ∙ sym (ap (identifier_width m) same ∙ ap (λ x. width_of (bind x (λ (o : Op). result_type o k))) there ∙ ap width_of (result_found o k r at))
+      ∙ sym (ap (identifier_width m) same ∙ ap (λ x. width_of (option_and_then (λ (o : Op). result_type o k) x)) there ∙ ap width_of (result_found o k r at))
 
   pub width_under : ((i : ℕ) (o : Op) → slice_get m.body i ≡ Some o → (emission_of m.ports m.body i o ≡ as_wire) ⊎ (emission_of m.ports m.body i o ≡ as_reg) → (r : OpResult) × (slice_get o.results 0 ≡ Some r))
       → (k : Identifier) → In k (module_identifiers m) → width_in (vmodule d m) (identifier_text m k) ≡ identifier_width m k
   width_under first k here = go (owner_of m k here) where
     go : Owner m k → width_in (vmodule d m) (identifier_text m k) ≡ identifier_width m k
-    go (a_port j p there same) = ap width_of_range (range_parts k here ∙ ap (λ z. or_else (omap (λ (p : VPort). p.high) (port_value m z)) (item_high m z)) same
-        ∙ ap (λ x. or_else (omap (λ (p : VPort). p.high) (omap (vport_at m j) x)) None) there) ∙ port_width j p there
-        ∙ sym (ap (identifier_width m) same ∙ ap (λ x. width_of (omap (λ (p : Port). p.type) x)) there)
+    go (a_port j p there same) = ap width_of_range (range_parts k here ∙ ap (λ z. or_else (option_map (λ (p : VPort). p.high) (port_value m z)) (item_high m z)) same
+        ∙ ap (λ x. or_else (option_map (λ (p : VPort). p.high) (option_map (vport_at m j) x)) None) there) ∙ port_width j p there
+        ∙ sym (ap (identifier_width m) same ∙ ap (λ x. width_of (option_map (λ (p : Port). p.type) x)) there)
     go (a_net i o there emission same) = let h = first i o there (inl emission) in value_width_is i 0 o h.0 there h.1 k same here
     go (a_variable i o there emission same) = let h = first i o there (inr emission) in value_width_is i 0 o h.0 there h.1 k same here
     go (a_result i l o r there emission at same) = value_width_is i l o r there at k same here
-    go (owns_instance i o there emission same) = ap width_of_range (range_parts k here ∙ ap (λ z. or_else (omap (λ (p : VPort). p.high) (port_value m z)) (item_high m z)) same)
+    go (owns_instance i o there emission same) = ap width_of_range (range_parts k here ∙ ap (λ z. or_else (option_map (λ (p : VPort). p.high) (port_value m z)) (item_high m z)) same)
         ∙ sym (ap (identifier_width m) same)
 
 -- ---- instances
@@ -210,7 +209,7 @@ abbrev pub instance_of_kind : Design → Module → ℕ → Op → Instance → 
 instance_of_kind d m i o x = record { module_name = symbol_name d x.symbol; connections = connections_to (find_module d x.symbol) m i o }
 
 abbrev pub instance_value : Design → Module → Identifier → Option VInstance
-instance_value d m (instance_identifier i) = bind (slice_get m.body i) (λ (o : Op). omap (instance_of_kind d m i o) (instance_in o.kind))
+instance_value d m (instance_identifier i) = option_and_then (λ (o : Op). option_map (instance_of_kind d m i o) (instance_in o.kind)) (slice_get m.body i)
 instance_value d m _ = None
 
 module _ (d : Design) (m : Module) where
@@ -223,7 +222,7 @@ module _ (d : Design) (m : Module) where
           instance_identifier i,
           instance_in_identifiers m i o there emission,
           sym (name_from (identifier_text m (instance_identifier i)) n w.0),
-          ap (λ z. bind z (λ (o : Op). omap (instance_of_kind d m i o) (instance_in o.kind))) there ∙ ap (omap (instance_of_kind d m i o)) is ∙ ap (λ (z : VInstance). Some z) w.1,
+          ap (λ z. option_and_then (λ (o : Op). option_map (instance_of_kind d m i o) (instance_in o.kind)) z) there ∙ ap (option_map (instance_of_kind d m i o)) is ∙ ap (λ (z : VInstance). Some z) w.1,
         )
     go (net_wire i o there emission same) = absurd (let h : None ≡ Some c = sym (ap (instance_named n) same) ∙ gives in cc)
     go (variable_reg i o there emission same) = absurd (let h : None ≡ Some c = sym (ap (instance_named n) same) ∙ gives in cc)
@@ -241,7 +240,7 @@ module _ (d : Design) (m : Module) where
           y,
           into_items d m y (an_instance i o kind.0 there emission kind.2 refl),
           ap (λ z. when (same_name (identifier_text m z) (identifier_text m k)) (instance_of_kind d m i o kind.0)) (sym same) ∙ ap (λ b. when b (instance_of_kind d m i o kind.0)) (name_self (identifier_text m k))
-              ∙ sym (ap (λ z. bind z (λ (o : Op). omap (instance_of_kind d m i o) (instance_in o.kind))) there ∙ ap (omap (instance_of_kind d m i o)) kind.2)
+              ∙ sym (ap (λ z. option_and_then (λ (o : Op). option_map (instance_of_kind d m i o) (instance_in o.kind)) z) there ∙ ap (option_map (instance_of_kind d m i o)) kind.2)
               ∙ ap (instance_value d m) (sym same) ∙ is,
         )
     go (a_port j p there same) = absurd (let h : None ≡ Some c = sym (ap (instance_value d m) same) ∙ is in cc)
@@ -259,7 +258,7 @@ module _ (d : Design) (m : Module) where
 -- ---- connections of an instance of c at position i of m
 
 abbrev pub connection_value : Module → Module → ℕ → Op → Identifier → Option Connection
-connection_value c m i o (port_identifier j) = omap (λ p. connection_of c m i j 0 (take j c.ports) p o.operands) (slice_get c.ports j)
+connection_value c m i o (port_identifier j) = option_map (λ p. connection_of c m i j 0 (take j c.ports) p o.operands) (slice_get c.ports j)
 connection_value c m i o _ = None
 
 module _ (c m : Module) (i : ℕ) (o : Op) where
@@ -272,13 +271,13 @@ module _ (c m : Module) (i : ℕ) (o : Op) where
         port_identifier e.0,
         port_in c e.0 e.1 e.2,
         sym (name_from y.port n h.0) ∙ ap (λ (z : Connection). z.port) same,
-        ap (omap (λ p. connection_of c m i e.0 0 (take e.0 c.ports) p o.operands)) e.2 ∙ ap (λ (z : Connection). Some z) (sym same ∙ h.1),
+        ap (option_map (λ p. connection_of c m i e.0 0 (take e.0 c.ports) p o.operands)) e.2 ∙ ap (λ (z : Connection). Some z) (sym same ∙ h.1),
       )
 
   connections_forth : (k : Identifier) (b : Connection) → In k (module_identifiers c) → connection_value c m i o k ≡ Some b
       → (y : Connection) × In y (connections_of c m i 0 0 c.ports o.operands) × (when (same_name y.port (identifier_text c k)) y ≡ Some b)
   connections_forth (port_identifier j) b here is =
-      let h = omap_some (λ p. connection_of c m i j 0 (take j c.ports) p o.operands) (slice_get c.ports j) is in
+      let h = option_map_some (λ p. connection_of c m i j 0 (take j c.ports) p o.operands) (slice_get c.ports j) is in
       let y : Connection = connection_of c m i j 0 (take j c.ports) h.0 o.operands in (
         y,
         subst (λ a. In (connection_of c m i a 0 (take j c.ports) h.0 o.operands) (connections_of c m i 0 0 c.ports o.operands)) (zero-add j)

@@ -1,7 +1,6 @@
 -- The operands of instances and of outputs are there, with the types of the ports.
-use Rattle.std.proofs.Common.{◌≡◌, ℕ, zero, suc, true, false, List, [], ◌∷◌, map, take, slice_get, Option, Some, None, refl, sym, ◌∙◌, ap}
-use Rattle.wiring.specs.Options.{omap}
-use Rattle.wiring.proofs.Options.{omap_none}
+use Rattle.std.proofs.Common.{◌≡◌, ℕ, zero, suc, true, false, List, [], ◌∷◌, map, take, slice_get, Option, Some, None, refl, sym, ◌∙◌, ap, option_map}
+use Rattle.wiring.proofs.Options.{option_map_none}
 use Rattle.hw_model.specs.Types.{HwType}
 use Rattle.hw_model.specs.Design.{Ref, Port, OpResult, Op, Module, Design, result_type, output_refs}
 use Rattle.hw_model.specs.Flat.{input_count}
@@ -11,7 +10,7 @@ use Rattle.export_verilog.proofs.items.Settings.{Called}
 use Rattle.export_verilog.proofs.items.Drives.{place_of_output}
 use Rattle.hw_model.proofs.NetWidths.{input_found, typed_at}
 
-pub get_map : {A B : Type 0} (f : A → B) (xs : List A) (n : ℕ) → slice_get (map f xs) n ≡ omap f (slice_get xs n)
+pub get_map : {A B : Type 0} (f : A → B) (xs : List A) (n : ℕ) → slice_get (map f xs) n ≡ option_map f (slice_get xs n)
 get_map f [] n = refl
 get_map f (x ∷ xs) zero = refl
 get_map f (x ∷ xs) (suc n) = get_map f xs n
@@ -19,7 +18,7 @@ get_map f (x ∷ xs) (suc n) = get_map f xs n
 pub none_at : (type_of : Ref → Option HwType) (rs : List Ref) (ts : List HwType) (n : ℕ) → map type_of rs ≡ map (λ (u : HwType). Some u) ts → slice_get ts n ≡ None
     → slice_get rs n ≡ None
 none_at type_of rs ts n same is =
-    omap_none type_of (slice_get rs n) (sym (get_map type_of rs n) ∙ ap (λ xs. slice_get xs n) same ∙ get_map (λ (u : HwType). Some u) ts n ∙ ap (omap (λ (u : HwType). Some u)) is)
+    option_map_none type_of (slice_get rs n) (sym (get_map type_of rs n) ∙ ap (λ xs. slice_get xs n) same ∙ get_map (λ (u : HwType). Some u) ts n ∙ ap (option_map (λ (u : HwType). Some u)) is)
 
 -- what the module gives to an output port
 pub output_ref_at : (d : Design) (m : Module) → SoundBody d m.ports m.body → (j : ℕ) (y : Port) → slice_get m.ports j ≡ Some y → y.is_output ≡ true

@@ -1,6 +1,5 @@
 -- The operands of a register and their types, what an asynchronous reset says of a register, and the target of its block.
-use Rattle.std.proofs.Common.{◌≡◌, ℕ, Bool, true, false, cond, List, [], ◌∷◌, map, slice_get, Option, Some, None, refl, sym, ◌∙◌, ap, inr}
-use Rattle.wiring.specs.Options.{bind, omap}
+use Rattle.std.proofs.Common.{◌≡◌, ℕ, Bool, true, false, cond, List, [], ◌∷◌, map, slice_get, Option, Some, None, refl, sym, ◌∙◌, ap, inr, option_and_then, option_map}
 use Rattle.hw_model.specs.Types.{Name, HwType}
 use Rattle.hw_model.specs.Types.HwType.{int, clock}
 use Rattle.hw_model.specs.Kinds.{Kind, Reset}
@@ -101,7 +100,7 @@ pub record IsAsync (o : Op) (b : ResetBy) : Type 0 where
 pub async_register : (o : Op) (b : ResetBy) → async_reset_in o ≡ Some b → IsAsync o b
 async_register o b is = let g = go o.kind o.operands is in record { next = g.0; clock_ref = g.1; is_register = g.2 } where
   go : (k : Kind) (rs : List Ref) → cond (has_async_reset k) (async_parts rs) None ≡ Some b
-      → (next : Ref) × (clock_ref : Ref) × (bind (register_form k) (λ (f : RegisterForm). register_parts f.has_enable f.reset rs) ≡ Some (record { next = next; clock = clock_ref; enable = None; reset = Some b }))
+      → (next : Ref) × (clock_ref : Ref) × (option_and_then (λ (f : RegisterForm). register_parts f.has_enable f.reset rs) (register_form k) ≡ Some (record { next = next; clock = clock_ref; enable = None; reset = Some b }))
   go async_firreg (p ∷ q ∷ r ∷ v ∷ []) h = (p, q, ap (λ (z : Option ResetBy). Some (record { next = p; clock = q; enable = None; reset = z })) h)
   go async_firreg _ h = cc
   go _ rs h = cc
@@ -137,9 +136,9 @@ module _ (d : Design) (x : Setting d) (s : Name) (m : Module) (is : find_module 
       let f = register_of_emission m.ports m.body i o emission in
       let fits = form_fits o.kind f.0 o.types (map (type_in m.ports m.body) o.operands) t 0 f.1 ((module_sound d x s m is).ops i o there 0 t typed) in
       let g = parts_typed (type_in m.ports m.body) t f.0.has_enable f.0.reset o.operands fits in
-      (g.0, ap (λ z. bind z (λ (f : RegisterForm). register_parts f.has_enable f.reset o.operands)) f.1 ∙ g.1, g.2)
+      (g.0, ap (λ z. option_and_then (λ (f : RegisterForm). register_parts f.has_enable f.reset o.operands) z) f.1 ∙ g.1, g.2)
 
   pub register_of : (i : ℕ) (o : Op) → slice_get m.body i ≡ Some o → emission_of m.ports m.body i o ≡ as_reg → (r : Register) × (register_in o ≡ Some r)
   register_of i o there emission =
       let h = result_at_first d x s m is i o there (inr emission) in
-      let g = typed_register i o there emission h.0.type (ap (omap (λ (z : OpResult). z.type)) h.1) in (g.0, g.1)
+      let g = typed_register i o there emission h.0.type (ap (option_map (λ (z : OpResult). z.type)) h.1) in (g.0, g.1)

@@ -1,8 +1,7 @@
 -- Asynchronous resets of an exportable design: the signal is an input port that has a mark, the value a constant's.
-use Rattle.std.proofs.Common.{◌≡◌, ℕ, ℤ, true, false, slice_get, Some, refl, sym, ◌∙◌, ap}
+use Rattle.std.proofs.Common.{◌≡◌, ℕ, ℤ, true, false, slice_get, Some, refl, sym, ◌∙◌, ap, option_and_then}
 use Rattle.wiring.specs.Wiring.{In}
-use Rattle.wiring.specs.Options.{bind}
-use Rattle.wiring.proofs.Options.{omap_some}
+use Rattle.wiring.proofs.Options.{option_map_some}
 use Rattle.hw_model.specs.Types.{Name, HwType}
 use Rattle.hw_model.specs.Kinds.{Kind}
 use Rattle.hw_model.specs.Kinds.Kind.{constant, aggregate_constant}
@@ -76,9 +75,9 @@ module _ (d : Design) (x : Setting d) (s : Name) (m : Module) (is : find_module 
     from_constant c =
         let k = plain c.op.kind c.is_one (((module_ok d x s m is).ops c.position c.op c.there).integers) in
         let typed_here : result_type c.op c.number ≡ Some t =
-        sym (ap (λ z. bind z (λ (q : Op). result_type q c.number)) c.there) ∙ ap (type_in m.ports m.body) (sym c.is_result) ∙ typed in
+        sym (ap (λ z. option_and_then (λ (q : Op). result_type q c.number) z) c.there) ∙ ap (type_in m.ports m.body) (sym c.is_result) ∙ typed in
         let one = one_result_of d x s m is c.position c.op c.there (ap instance_in k.1) (ap is_output_kind k.1) in
-        let h = omap_some (λ (z : OpResult). z.type) (slice_get c.op.results c.number) typed_here in
+        let h = option_map_some (λ (z : OpResult). z.type) (slice_get c.op.results c.number) typed_here in
         let first : c.number ≡ 0 = only_first c.op.results one.0 c.number h.0 one.1 h.1 in
         record {
           place = c.position;

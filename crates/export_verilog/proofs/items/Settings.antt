@@ -1,9 +1,8 @@
 -- What the theorem stands on: an exportable design, whose names are legal and distinct.
-use Rattle.std.proofs.Common.{◌≡◌, ℕ, ◌⊎◌, false, ◌||◌, [], ◌∷◌, map, slice_get, is_some, Some, None, sym, ◌∙◌, ap, ap₂, inl, inr}
+use Rattle.std.proofs.Common.{◌≡◌, ℕ, ◌⊎◌, false, ◌||◌, [], ◌∷◌, map, slice_get, is_some, Some, None, sym, ◌∙◌, ap, ap₂, inl, inr, option_and_then}
 use Rattle.hw_model.specs.Types.{Name, HwType}
 use Rattle.hw_model.specs.Kinds.{Instance}
 use Rattle.hw_model.specs.Design.{OpResult, Op, Module, Design, find_module, instance_in, register_form, is_output_kind, callee}
-use Rattle.wiring.specs.Options.{bind}
 use Rattle.hw_model.specs.Sound.{type_in, input_types, output_types, SoundBody}
 use Rattle.hw_model.proofs.Sorts.{Sort, sort_of}
 use Rattle.hw_model.proofs.Sorts.Sort.{a_register, an_instance, an_output, a_made}
@@ -61,4 +60,4 @@ module _ (d : Design) (x : Setting d) (s : Name) (m : Module) (is : find_module 
   result_at_first i o there emission = let h = first_result i o there emission in (h.0, ap (λ rs. slice_get rs 0) h.1)
 
 pub callee_is : (d : Design) (m : Module) (o : Op) (c : Called d m o) → callee d o ≡ Some c.module_of
-callee_is d m o c = ap (λ k. bind k (λ (i : Instance). find_module d i.symbol)) c.is_kind ∙ c.there
+callee_is d m o c = ap (λ k. option_and_then (λ (i : Instance). find_module d i.symbol) k) c.is_kind ∙ c.there

@@ -1,8 +1,8 @@
 -- The values of an exportable module can be written as expressions over its names.
-use Rattle.std.proofs.Common.{◌≡◌, ℕ, zero, suc, ◌≤◌, ◌+◌, ◌⊎◌, Bool, true, false, cond, not, ◌&&◌, ◌||◌, nat_lt, List, [], ◌∷◌, slice_get, is_some, Option, Some, None, refl, sym, ◌∙◌, ap, ap₂, subst, inl, inr, eq-eqb, ltb-true, arith}
+use Rattle.std.proofs.Common.{◌≡◌, ℕ, zero, suc, ◌≤◌, ◌+◌, ◌⊎◌, Bool, true, false, cond, not, ◌&&◌, ◌||◌, nat_lt, List, [], ◌∷◌, slice_get, is_some, Option, Some, None, refl, sym, ◌∙◌, ap, ap₂, subst}
+use Rattle.std.proofs.Common.{inl, inr, eq-eqb, ltb-true, arith, option_map}
 use Rattle.wiring.specs.Wiring.{In}
-use Rattle.wiring.specs.Options.{omap}
-use Rattle.wiring.proofs.Options.{bind_some, omap_some}
+use Rattle.wiring.proofs.Options.{and_then_some, option_map_some}
 use Rattle.hw_model.specs.Types.{Name, HwType, width}
 use Rattle.hw_model.specs.Kinds.{Kind}
 use Rattle.hw_model.specs.Kinds.Kind.{extract}
@@ -120,13 +120,13 @@ module _ (d : Design) (x : Setting d) (s : Name) (m : Module) (is : find_module 
   made_first : (i k : ℕ) (o : Op) (t : HwType) → slice_get m.body i ≡ Some o → result_type o k ≡ Some t → instance_in o.kind ≡ None → is_output_kind o.kind ≡ false → k ≡ 0
   made_first i k o t there typed n u =
       let r = one_result_of d x s m is i o there n u in
-      let h = omap_some (λ (z : OpResult). z.type) (slice_get o.results k) typed in
+      let h = option_map_some (λ (z : OpResult). z.type) (slice_get o.results k) typed in
       only_first o.results r.0 k h.0 r.1 h.1
 
   no_results : (i k : ℕ) (o : Op) (t : HwType) → slice_get m.body i ≡ Some o → result_type o k ≡ Some t → is_output_kind o.kind ≡ true → ⊥
   no_results i k o t there typed u =
       let h = (((module_ok d x s m is).ops i o there).no_result u) in
-      let e : None ≡ Some t = sym (ap (λ rs. omap (λ (z : OpResult). z.type) (slice_get rs k)) h) ∙ typed in cc
+      let e : None ≡ Some t = sym (ap (λ rs. option_map (λ (z : OpResult). z.type) (slice_get rs k)) h) ∙ typed in cc
 
   by_first : (i k : ℕ) → k ≡ 0 → is_some (value_name m (result i 0)) ≡ true → is_some (value_name m (result i k)) ≡ true
   by_first i k e h = ap (λ z. is_some (value_name m (result i z))) e ∙ h
@@ -152,7 +152,7 @@ module _ (d : Design) (x : Setting d) (s : Name) (m : Module) (is : find_module 
         by_first i k (made_first i k o t there typed n u)
         (some_is (value_name m (result i 0)) (identifier_text m (value_identifier i 0)) (named_result i 0 (variable_in m i o there (emission_of_register m.ports m.body i o f r))))
     go (an_instance y r n u) =
-        let h = omap_some (λ (z : OpResult). z.type) (slice_get o.results k) typed in
+        let h = option_map_some (λ (z : OpResult). z.type) (slice_get o.results k) typed in
         some_is (value_name m (result i k)) (identifier_text m (value_identifier i k)) (named_result i k (result_in_identifiers m i k o h.0 there (emission_of_instance m.ports m.body i o y r n) h.1))
     go (an_output r n u) = absurd (no_results i k o t there typed u)
     go (a_made r n u) = by_first i k (made_first i k o t there typed n u) (made_named i o there r n u (inl (wire r n u (is_wire_kind o.kind) refl)))
@@ -178,7 +178,7 @@ module _ (d : Design) (x : Setting d) (s : Name) (m : Module) (is : find_module 
     by_ref t (port j) same typed = inputs_named j t typed
     by_ref t undefined same typed = cc
     by_ref t (result j k) same typed =
-        let f = bind_some (slice_get m.body j) (λ (z : Op). result_type z k) typed in by_pure f.0 f.1 f.2 (is_pure f.0) refl where
+        let f = and_then_some (slice_get m.body j) (λ (z : Op). result_type z k) typed in by_pure f.0 f.1 f.2 (is_pure f.0) refl where
           by_pure : (o' : Op) → slice_get m.body j ≡ Some o' → result_type o' k ≡ Some t → (p : Bool) → is_pure o' ≡ p → is_some (value_name m (result j k)) ≡ true
           by_pure o' at type_is false pure = owned j k o' t at type_is pure
           by_pure o' at type_is true pure =
@@ -218,5 +218,5 @@ module _ (d : Design) (x : Setting d) (s : Name) (m : Module) (is : find_module 
     where
       has_bits : (i k : ℕ) (o : Op) (t : HwType) → slice_get m.body i ≡ Some o → result_type o k ≡ Some t → 1 ≤ width t
       has_bits i k o t there typed =
-          let h = omap_some (λ (z : OpResult). z.type) (slice_get o.results k) typed in
+          let h = option_map_some (λ (z : OpResult). z.type) (slice_get o.results k) typed in
           subst (λ z. 1 ≤ width z) h.2 (((module_ok d x s m is).ops i o there).bits k h.0 h.1)

@@ -6,7 +6,8 @@ use Rattle.hw_model.specs.Kinds.{Instance}
 use Rattle.hw_model.specs.Design.{Port, OpResult, Op, Module, is_register, is_instance, instance_in}
 use Rattle.name_legalise.specs.Legal.{legal, legal_after}
 use Rattle.verilog_expr.specs.Spilling.{is_wire_kind, hint_of}
-use Rattle.export_verilog.specs.Identifiers.{Emission, each, emission_of, result_identifiers, identifiers_of, op_identifiers, port_identifiers, name_hint, value_name_hint, instance_name_hint, instance_name, op_name_hint, instance_result_name_hint, result_name_hint, or_name, names}
+use Rattle.export_verilog.specs.Identifiers.{Emission, each, emission_of, result_identifiers, identifiers_of, op_identifiers, port_identifiers, name_hint, value_name_hint, instance_name_hint}
+use Rattle.export_verilog.specs.Identifiers.{instance_name, op_name_hint, instance_result_name_hint, result_name_hint, or_name, names}
 use Rattle.export_verilog.specs.Identifiers.Emission.{inline, as_wire, as_reg, as_instance}
 use Rattle.export_verilog.specs.Held.{own_name_hint, result_name_hints, name_hints_of, op_name_hints}
 use Rattle.export_verilog.specs.Walks.{body_name_hints}

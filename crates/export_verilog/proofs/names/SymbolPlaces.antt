@@ -3,7 +3,6 @@ use Rattle.std.proofs.Common.{◌≡◌, ℕ, suc, ◌<◌, Bool, true, false, c
 use Rattle.std.specs.Prelude.{option_map, option_and_then, get_or}
 use Rattle.std.proofs.lemmas.List.{length-map}
 use Rattle.std.proofs.lemmas.Option.{slice_get_read}
-use Rattle.wiring.specs.Options.{omap}
 use Rattle.hw_model.specs.Types.{Name}
 use Rattle.hw_model.specs.Design.{Module, Design, same_name, find_module}
 use Rattle.ir_store.specs.Symbols.{symbol_place}
@@ -82,4 +81,4 @@ module _ (q : Name) (ms : List StoredModule) (n : ℕ) (place : symbol_place q (
   -- the module there is the one that is found
   pub module_at : (x : StoredModule) → Some x ≡ slice_get ms n → option_and_then (slice_get (map numbered_module ms)) (Some n) ≡ find_module (map numbered_module ms) q
       → find_module (map numbered_module ms) q ≡ Some (numbered_module x)
-  module_at x at found = sym found ∙ get_map numbered_module ms n ∙ ap (omap numbered_module) (sym at)
+  module_at x at found = sym found ∙ get_map numbered_module ms n ∙ ap (option_map numbered_module) (sym at)

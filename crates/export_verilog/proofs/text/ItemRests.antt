@@ -4,7 +4,7 @@ use Rattle.verilog_model.specs.Tree.{Numeral, Expr, Load, Block, Connection, Ite
 use Rattle.verilog_model.specs.Tree.Block.{load, if_load, if_else, if_else_if, async_reset}
 use Rattle.verilog_model.specs.Tree.Expr.{name}
 use Rattle.verilog_model.specs.Tree.Item.{wire, reg, assign, always, instance}
-use Rattle.verilog_expr.specs.Text.{expr_text}
+use Rattle.verilog_model.specs.Text.{expr_text}
 use Rattle.export_verilog.specs.Layout.{Text, range_text, load_text, if_text, event_text, block_text, connection_text, connection_lines, connections_text, item_text, items_text}
 use Rattle.export_verilog.proofs.text.Rests.{expr_rest, load_rest, if_rest, range_rest, connection_rest, three_rest}
 

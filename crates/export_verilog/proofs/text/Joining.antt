@@ -6,7 +6,7 @@ use Rattle.hw_model.specs.Types.{Name}
 use Rattle.hw_model.specs.Design.{Ref, Port}
 use Rattle.verilog_model.specs.Tree.{Expr, Connection}
 use Rattle.verilog_model.specs.Tree.Expr.{name}
-use Rattle.verilog_expr.specs.Text.{expr_text}
+use Rattle.verilog_model.specs.Text.{expr_text}
 use Rattle.wiring.proofs.Joined.{split_at}
 use Rattle.export_verilog.specs.Exported.{expr_or_none, others}
 use Rattle.export_verilog.specs.Layout.{Text, connection_text}
@@ -50,12 +50,12 @@ module _ {A B : Type 0} (view : A → Port) (vref : B → Ref) (ex : Ref → Exp
   joined_left ns xs os j k u = connections_left (connections_from ex given k (drop j ns) (map view (drop j xs)) (map vref (drop u os))) []
 
   -- one connection before the others
-  front : (ns : List Name) (xs : List A) (os : List B) (j k u : ℕ) (n : Name) (x : A) (b : Bool) → (view x).is_output ≡ b
+  prefix : (ns : List Name) (xs : List A) (os : List B) (j k u : ℕ) (n : Name) (x : A) (b : Bool) → (view x).is_output ≡ b
       → length ns ≡ length xs → j < length xs → n ≡ get_or ns j n → x ≡ get_or xs j x
       → joined_left ns xs os j k u
       ≡ connection_text (written_connection n (joined_text b k (map vref (drop u os)))) (line_end (nat_lt (j + 1) (length xs)))
       ++ joined_left ns xs os (j + 1) (cond b (k + 1) k) (cond (not b) (u + 1) u)
-  front ns xs os j k u n x true is count lt nat xat =
+  prefix ns xs os j k u n x true is count lt nat xat =
       let rest = connections_from ex given (k + 1) (drop (j + 1) ns) (map view (drop (j + 1) xs)) (map vref (drop u os)) in
       ap (λ l. connections_left (connections_from ex given k l (map view (drop j xs)) (map vref (drop u os))) []) (split_at ns j n (omega (arith, count, lt)) nat)
       ∙ ap (λ l. connections_left (connections_from ex given k (n ∷ drop (j + 1) ns) (map view l) (map vref (drop u os))) []) (split_at xs j x lt xat)
@@ -63,7 +63,7 @@ module _ {A B : Type 0} (view : A → Port) (vref : B → Ref) (ex : Ref → Exp
       (record { port = n; value = expr_or_none ex (map vref (drop u os)) } ∷ connections_from ex given k (drop (j + 1) ns) (map view (drop (j + 1) xs)) (others (map vref (drop u os))))) []) is
       ∙ connection_first (record { port = n; value = name (given k) }) rest []
       ∙ ap (λ b. connection_text (record { port = n; value = name (given k) }) (line_end b) ++ connections_left rest []) (some_joined ns xs (j + 1) (k + 1) (map vref (drop u os)) count)
-  front ns xs os j k u n x false is count lt nat xat =
+  prefix ns xs os j k u n x false is count lt nat xat =
       let rs = map vref (drop u os) in
       let rest = connections_from ex given k (drop (j + 1) ns) (map view (drop (j + 1) xs)) (others rs) in
       let c : Connection = record { port = n; value = expr_or_none ex rs } in
@@ -84,12 +84,13 @@ module _ {A B : Type 0} (view : A → Port) (vref : B → Ref) (ex : Ref → Exp
       → one ≡ out ++ connection_text (written_connection n value) (line_end left)
       → one ++ joined_left ns xs os (j + 1) k2 u2 ≡ whole
   joined_step ns xs os j k u k2 u2 n value x left out one whole count lt nat xat is v ke ue inv e =
-      ap (λ t. t ++ joined_left ns xs os (j + 1) k2 u2) (e ∙ ap (λ b. out ++ connection_text (written_connection n value) (line_end b)) is ∙ ap (λ t. out ++ connection_text (written_connection n t) (line_end (nat_lt (j + 1) (length xs)))) v)
+      ap (λ t. t ++ joined_left ns xs os (j + 1) k2 u2) (e ∙ ap (λ b. out ++ connection_text (written_connection n value) (line_end b)) is
+      ∙ ap (λ t. out ++ connection_text (written_connection n t) (line_end (nat_lt (j + 1) (length xs)))) v)
       ∙ ap (λ z. (out ++ connection_text (written_connection n (joined_text (view x).is_output k (map vref (drop u os)))) (line_end (nat_lt (j + 1) (length xs)))) ++ joined_left ns xs os (j + 1) z u2) ke
       ∙ ap (λ z. (out ++ connection_text (written_connection n (joined_text (view x).is_output k (map vref (drop u os)))) (line_end (nat_lt (j + 1) (length xs)))) ++ joined_left ns xs os (j + 1) (cond (view x).is_output (k + 1) k) z) ue
       ∙ append_assoc out (connection_text (written_connection n (joined_text (view x).is_output k (map vref (drop u os)))) (line_end (nat_lt (j + 1) (length xs))))
       (joined_left ns xs os (j + 1) (cond (view x).is_output (k + 1) k) (cond (not (view x).is_output) (u + 1) u))
-      ∙ ap (λ t. out ++ t) (sym (front ns xs os j k u n x (view x).is_output refl count lt nat xat)) ∙ inv
+      ∙ ap (λ t. out ++ t) (sym (prefix ns xs os j k u n x (view x).is_output refl count lt nat xat)) ∙ inv
 
   -- the same, where the port's direction is told by another flag
   pub joined_by : (ns : List Name) (xs : List A) (os : List B) (j k u k2 u2 : ℕ) (n value : Text) (x : A) (b left : Bool) (out one whole : Text) → b ≡ (view x).is_output

@@ -4,7 +4,7 @@ use Rattle.verilog_model.specs.Tree.{Numeral, Expr, Exprs, VPort, Load, Connecti
 use Rattle.verilog_model.specs.Tree.Expr.{name, bit_select, part_select, literal, joined, repeated, as_signed, as_unsigned, paren, odd, binary, choice}
 use Rattle.verilog_model.specs.Tree.Exprs.{last, more}
 use Rattle.verilog_model.specs.Grammar.{base_mark, direction}
-use Rattle.verilog_expr.specs.Text.{question_text, operator_text, expr_text, exprs_text}
+use Rattle.verilog_model.specs.Text.{question_text, operator_text, expr_text, exprs_text}
 use Rattle.export_verilog.specs.Layout.{Text, range_text, port_text, load_text, if_text, connection_text}
 use Rattle.export_verilog.specs.Written.{verbatim, written_load, otherwise_text}
 

@@ -2,7 +2,7 @@
 use Rattle.std.proofs.Common.{◌≡◌, ℕ, suc, Bool, cond, List, [], ◌∷◌, ◌++◌, map, slice_get, Option, Some, None, refl, ◌∙◌, ap, ap₂}
 use Rattle.hw_model.specs.Types.{Name, width}
 use Rattle.hw_model.specs.Kinds.{Instance}
-use Rattle.hw_model.specs.Design.{Ref, Port, OpResult, Op, Entry, Place, Module, Design, find_module, instance_in, result_type, output_refs}
+use Rattle.hw_model.specs.Design.{Ref, Port, OpResult, Op, Entry, Location, Module, Design, find_module, instance_in, result_type, output_refs}
 use Rattle.hw_model.specs.Design.Ref.{port, result, undefined}
 use Rattle.hw_model.specs.Flat.{width_of, Register, ResetBy, register_in, async_reset_in}
 use Rattle.verilog_model.specs.Tree.{Expr}
@@ -10,13 +10,14 @@ use Rattle.verilog_model.specs.Tree.Expr.{name}
 use Rattle.verilog_model.specs.Tree.Block.{load, if_load, if_else, if_else_if, async_reset}
 use Rattle.verilog_model.specs.Tree.Item.{wire, reg, assign, always, instance}
 use Rattle.name_legalise.specs.Legal.{legal}
-use Rattle.verilog_expr.specs.Numerals.{high_of}
+use Rattle.verilog_model.specs.Digits.{high_of}
 use Rattle.verilog_expr.specs.Expressions.{constant_expr}
 use Rattle.verilog_expr.specs.Spilling.{height_limit}
 use Rattle.export_verilog.specs.Identifiers.{Identifier, Emission, each, emission_of, name_hint, module_identifiers, names, name_among, identifier_name, identifier_text, name_or_nothing, input_name, value_name}
 use Rattle.export_verilog.specs.Identifiers.Identifier.{port_identifier, value_identifier, instance_identifier}
 use Rattle.export_verilog.specs.Identifiers.Emission.{inline, as_wire, as_reg, as_instance}
-use Rattle.export_verilog.specs.Exported.{expression, assigned_expr, vport, vports, result_wires, declared_as, declares, loads, block_of, module_block, always_of, expr_or_none, others, connections_of, connections_to, instance_of, stated_as, states, output_assigns, symbol_name, vitems}
+use Rattle.export_verilog.specs.Exported.{expression, assigned_expr, vport, vports, result_wires, declared_as, declares, loads, block_of, module_block, always_of, expr_or_none, others, connections_of}
+use Rattle.export_verilog.specs.Exported.{connections_to, instance_of, stated_as, states, output_assigns, symbol_name, vitems}
 use Rattle.export_verilog.specs.ModuleTexts.{module_under}
 use Rattle.export_verilog.proofs.names.SameNames.{own_same, expr_same}
 
@@ -40,10 +41,10 @@ module _ (f g : Ref → Expr) (same : (r : Ref) → f r ≡ g r) where
   first_same [] = refl
   first_same (r ∷ rs) = same r
 
-module _ (m : Module) (symbol : Name) (is_private : Bool) (dictionary : List Entry) (place : Place) where
+module _ (m : Module) (symbol : Name) (is_private : Bool) (dictionary : List Entry) (location : Location) where
   -- a module of the same ports and the same body
   abbrev pub other : Module
-  other = record { symbol = symbol; is_private = is_private; ports = m.ports; dictionary = dictionary; body = m.body; place = place }
+  other = record { symbol = symbol; is_private = is_private; ports = m.ports; dictionary = dictionary; body = m.body; location = location }
 
   -- ---- names
 

@@ -9,7 +9,8 @@ use Rattle.hw_model.specs.Kinds.Reset.{sync_reset}
 use Rattle.hw_model.specs.Design.{Ref, Port, Op, Module, Design}
 use Rattle.hw_model.specs.Design.Ref.{port, result}
 use Rattle.hw_model.proofs.Samples.{operation, in_port, out_port, module_of}
-use Rattle.export_verilog.specs.Layout.{verilog_text, tree_text, further_text, module_text, items_text, item_text, connections_text, connection_lines, connection_text, event_text, block_text, if_text, load_text, ports_text, port_lines, port_text, range_text}
+use Rattle.export_verilog.specs.Layout.{verilog_text, tree_text, further_text, module_text, items_text, item_text, connections_text, connection_lines, connection_text, event_text, block_text, if_text}
+use Rattle.export_verilog.specs.Layout.{load_text, ports_text, port_lines, port_text, range_text}
 use Rattle.export_verilog.specs.Identifiers.{names}
 use Rattle.export_verilog.specs.Exported.{symbol_names}
 use Rattle.name_legalise.specs.Legal.{clean}
@@ -17,8 +18,8 @@ use Rattle.fresh_names.specs.Fresh.{free_name}
 use Rattle.verilog_model.specs.Reserved.{reserved_words}
 use Rattle.verilog_expr.specs.Expressions.{expr_to}
 use Rattle.verilog_expr.specs.Spilling.{spilled, height}
-use Rattle.verilog_expr.specs.Numerals.{hex}
-use Rattle.verilog_expr.specs.Text.{expr_text, exprs_text}
+use Rattle.verilog_model.specs.Digits.{hex}
+use Rattle.verilog_model.specs.Text.{expr_text, exprs_text}
 
 abbrev pub register_ports : List Port
 register_ports = in_port (codes "clk") clock ∷ in_port (codes "rst") (int 1) ∷ in_port (codes "en") (int 1) ∷ in_port (codes "d") (int 8) ∷ []

@@ -1,6 +1,5 @@
 -- The names and numerals of an exported tree are words.
-use Rattle.std.proofs.Common.{◌≡◌, ℕ, ◌+◌, ◌-◌, ◌<◌, ◌^◌, ◌==◌, Bool, true, false, cond, List, [], ◌∷◌, map, take, slice_get, decimal, Option, Some, None, refl, sym, ◌∙◌, ap, subst, inl, inr, zero-add, arith}
-use Rattle.wiring.specs.Options.{omap}
+use Rattle.std.proofs.Common.{◌≡◌, ℕ, ◌+◌, ◌-◌, ◌<◌, ◌^◌, ◌==◌, Bool, true, false, cond, List, [], ◌∷◌, map, take, slice_get, decimal, Option, Some, None, refl, sym, ◌∙◌, ap, subst, inl, inr, zero-add, arith, option_map}
 use Rattle.wiring.specs.Wiring.{In}
 use Rattle.wiring.proofs.Members.{In-slice_get, position_of_In}
 use Rattle.hw_model.specs.Types.{Name, HwType, width}
@@ -12,7 +11,7 @@ use Rattle.verilog_model.specs.Tree.{VPort, Connection, Item}
 use Rattle.verilog_model.specs.Tree.Expr.{name}
 use Rattle.verilog_model.specs.Checks.{are_distinct, all_identifiers}
 use Rattle.verilog_model.proofs.Numerals.{and_second}
-use Rattle.verilog_expr.specs.Numerals.{high_of}
+use Rattle.verilog_model.specs.Digits.{high_of}
 use Rattle.verilog_expr.specs.Expressions.{constant_expr}
 use Rattle.verilog_expr.specs.Values.{gives_values}
 use Rattle.verilog_expr.proofs.TextRead.{IsWord, IsSpellable}
@@ -104,11 +103,12 @@ module _ (d : Design) (x : Setting d) where
         → IsWord (name_or_nothing (value_name m r.clock)) × IsSpellableBlock (module_block m (identifier_text m (value_identifier i 0)) r (async_reset_in o))
     register_spelled i o r there emission at =
         let first = result_at_first d x s m is i o there (inr emission) in
-        let typed = typed_register d x s m is i o there emission first.0.type (ap (omap (λ (z : OpResult). z.type)) first.1) in
+        let typed = typed_register d x s m is i o there emission first.0.type (ap (option_map (λ (z : OpResult). z.type)) first.1) in
         let e : Some typed.0 ≡ Some r = sym typed.1 ∙ at in
         let f : typed.0 ≡ r = cc in
         let c = ((module_ok d x s m is).ops i o there).clocked r at in
-        let clock_name : name_or_nothing (value_name m r.clock) ≡ identifier_text m (port_identifier c.number) = ap (λ z. name_or_nothing (value_name m z)) c.is_port ∙ ap name_or_nothing (named_input d x s m is c.number c.clock c.there c.input) in (
+        let clock_name : name_or_nothing (value_name m r.clock) ≡ identifier_text m (port_identifier c.number) = ap (λ z. name_or_nothing (value_name m z)) c.is_port
+        ∙ ap name_or_nothing (named_input d x s m is c.number c.clock c.there c.input) in (
           subst IsWord (sym clock_name) (word_of_identifier s m is (port_identifier c.number) (port_in m c.number c.clock c.there)),
           any_spelled i o (variable_in m i o there emission) first.0.type r (async_reset_in o) (In-slice_get o m.body i there) at refl (subst (AreOperands (type_in m.ports m.body) first.0.type) f typed.2),
         )
@@ -131,7 +131,11 @@ module _ (d : Design) (x : Setting d) where
     connections_spelled : (i : ℕ) (o : Op) → slice_get m.body i ≡ Some o → emission_of m.ports m.body i o ≡ as_instance → (c : Called d m o) → (es : List Connection)
         → ((e : Connection) → In e es → In e (connections_of c.module_of m i 0 0 c.module_of.ports o.operands)) → AreConnections es
     connections_spelled i o there emission c [] within = tt
-    connections_spelled i o there emission c (e ∷ es) within = (at_connection (from_connections c.module_of m i 0 0 c.module_of.ports o.operands e (within e (inl refl))), connections_spelled i o there emission c es (λ f h. within f (inr h))) where
+    connections_spelled i o there emission c (e ∷ es) within = (
+      at_connection (from_connections c.module_of m i 0 0 c.module_of.ports o.operands e
+          (within e (inl refl))),
+      connections_spelled i o there emission c es (λ f h. within f (inr h)),
+    ) where
       at_connection : (n : ℕ) × (p : Port) × (slice_get c.module_of.ports n ≡ Some p) × (e ≡ connection_of c.module_of m i (0 + n) 0 (take n c.module_of.ports) p o.operands) → IsSpellableConnection e
       at_connection h = subst IsSpellableConnection (sym (h.3 ∙ ap (λ a. connection_of c.module_of m i a 0 (take h.0 c.module_of.ports) h.1 o.operands) (zero-add h.0))) (connection_spelled i o there emission c h.0 h.1 h.2)
 
@@ -141,7 +145,7 @@ module _ (d : Design) (x : Setting d) where
     net_spelled i o there emission =
         let first = result_at_first d x s m is i o there (inl emission) in
         let sort = made_of_emission m.ports m.body i o emission in
-        (assigned_well d x s m is (known_first m) (knows_first d x s m is) i 0 o first.0.type there (values sort.0 sort.1 sort.2) (ap (omap (λ (z : OpResult). z.type)) first.1)).words where
+        (assigned_well d x s m is (known_first m) (knows_first d x s m is) i 0 o first.0.type there (values sort.0 sort.1 sort.2) (ap (option_map (λ (z : OpResult). z.type)) first.1)).words where
           values : register_form o.kind ≡ None → instance_in o.kind ≡ None → is_output_kind o.kind ≡ false → gives_values o ≡ true
           values r n u = simp (r, n, u) refl
 
@@ -151,9 +155,15 @@ module _ (d : Design) (x : Setting d) where
         subst (λ z. IsSpellable (expr_for (expression m) z)) (sym g.1) (written g.0 p.type g.2)
 
     item_spelled : (y : Item) → From d m y → IsSpellableItem y
-    item_spelled y (net_wire i o there emission same) = subst IsSpellableItem (sym same) (high_word (width_of (result_type o 0)) (first_small d x s m is i o there), word_of_identifier s m is (value_identifier i 0) (net_in m i o there emission))
-    item_spelled y (variable_reg i o there emission same) = subst IsSpellableItem (sym same) (high_word (width_of (result_type o 0)) (first_small d x s m is i o there), word_of_identifier s m is (value_identifier i 0) (variable_in m i o there emission))
-    item_spelled y (result_wire i k o r there emission at same) = subst IsSpellableItem (sym same) (high_word (width r.type) (result_small d x s m is i k o r there at), word_of_identifier s m is (value_identifier i k) (result_in_identifiers m i k o r there emission at))
+    item_spelled y (net_wire i o there emission same) = subst IsSpellableItem (sym same) (
+      high_word (width_of (result_type o 0)) (first_small d x s m is i o there),
+      word_of_identifier s m is
+          (value_identifier i 0) (net_in m i o there emission),
+    )
+    item_spelled y (variable_reg i o there emission same) = subst IsSpellableItem (sym same)
+        (high_word (width_of (result_type o 0)) (first_small d x s m is i o there), word_of_identifier s m is (value_identifier i 0) (variable_in m i o there emission))
+    item_spelled y (result_wire i k o r there emission at same) = subst IsSpellableItem (sym same)
+        (high_word (width r.type) (result_small d x s m is i k o r there at), word_of_identifier s m is (value_identifier i k) (result_in_identifiers m i k o r there emission at))
     item_spelled y (net_assign i o there emission same) = subst IsSpellableItem (sym same) (word_of_identifier s m is (value_identifier i 0) (net_in m i o there emission), net_spelled i o there emission)
     item_spelled y (variable_block i o r there emission at same) = subst IsSpellableItem (sym same) (register_spelled i o r there emission at)
     item_spelled y (an_instance i o z there emission at same) =

@@ -16,7 +16,7 @@ use Rattle.export_verilog.proofs.text.SameModules.{under_same}
 
 -- a module of some ports and some operations
 abbrev pub bare : List Port → List Op → Module
-bare ps os = record { symbol = []; is_private = false; ports = ps; dictionary = []; body = os; place = record { line = 0; col = 0 } }
+bare ps os = record { symbol = []; is_private = false; ports = ps; dictionary = []; body = os; location = record { line = 0; col = 0 } }
 
 -- the modules that are stored are those of the design
 pub stored_count : (xs : List StoredModule) → length (map numbered_module xs) ≡ length xs

@@ -6,10 +6,12 @@ use Rattle.verilog_model.specs.Tree.{Numeral, Expr, VPort, Load, Block, Connecti
 use Rattle.verilog_model.specs.Tree.Block.{load, if_load, if_else, if_else_if, async_reset}
 use Rattle.verilog_model.specs.Tree.Expr.{name}
 use Rattle.verilog_model.specs.Tree.Item.{wire, reg, assign, always, instance}
-use Rattle.verilog_model.specs.Grammar.{direction, range_spelled, port_spelled, more_ports_spelled, ports_spelled, load_spelled, if_spelled, block_spelled, connection_spelled, more_connections_spelled, connections_spelled, item_spelled, items_spelled, module_spelled, spell_tree}
-use Rattle.verilog_expr.specs.Text.{expr_text}
+use Rattle.verilog_model.specs.Grammar.{direction, range_spelled, port_spelled, more_ports_spelled, ports_spelled, load_spelled, if_spelled, block_spelled, connection_spelled}
+use Rattle.verilog_model.specs.Grammar.{more_connections_spelled, connections_spelled, item_spelled, items_spelled, module_spelled, spell_tree}
+use Rattle.verilog_model.specs.Text.{expr_text}
 use Rattle.verilog_expr.proofs.TextRead.{IsWord, IsSpellable, GoesOn, word_read, expr_read}
-use Rattle.export_verilog.specs.Layout.{Text, range_text, port_text, port_lines, ports_text, load_text, if_text, event_text, block_text, connection_text, connection_lines, connections_text, item_text, items_text, module_text, further_text, tree_text}
+use Rattle.export_verilog.specs.Layout.{Text, range_text, port_text, port_lines, ports_text, load_text, if_text, event_text, block_text, connection_text, connection_lines, connections_text, item_text}
+use Rattle.export_verilog.specs.Layout.{items_text, module_text, further_text, tree_text}
 
 -- ---- trees whose names and numerals are words
 

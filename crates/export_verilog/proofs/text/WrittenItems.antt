@@ -7,7 +7,7 @@ use Rattle.hw_model.specs.Flat.{ResetBy}
 use Rattle.verilog_model.specs.Tree.{Expr}
 use Rattle.verilog_model.specs.Tree.Expr.{name}
 use Rattle.verilog_model.specs.Tree.Item.{assign, always}
-use Rattle.verilog_expr.specs.Text.{expr_text}
+use Rattle.verilog_model.specs.Text.{expr_text}
 use Rattle.export_verilog.specs.Identifiers.{name_or_nothing}
 use Rattle.export_verilog.specs.Layout.{Text, load_text, if_text, block_text, event_text, item_text, connection_text}
 use Rattle.export_verilog.specs.Written.{WrittenReset, verbatim, written_load, written_block, written_async, written_connection}
@@ -59,7 +59,8 @@ module _ (ex : Ref → Expr) (q : Name) where
       ∙ ap (if_text (codes "    ") (ex r.signal)) (load_same (codes "      ") q (ex r.value) (codes "    else" ++ (10 ∷ load_text (codes "      ") (written_load q (expr_text (ex next) [])) bs)))
       ∙ ap (λ x. if_text (codes "    ") (ex r.signal) (load_text (codes "      ") (loads q (ex r.value)) (codes "    else" ++ (10 ∷ x)))) (load_same (codes "      ") q (ex next) bs)
   block_same next (Some en) (Some r) bs =
-      if_same (codes "    ") (ex r.signal) (load_text (codes "      ") (written_load q (expr_text (ex r.value) [])) (if_text (codes "    else ") (verbatim (expr_text (ex en) [])) (load_text (codes "      ") (written_load q (expr_text (ex next) [])) bs)))
+      if_same (codes "    ") (ex r.signal) (load_text (codes "      ") (written_load q (expr_text (ex r.value) []))
+      (if_text (codes "    else ") (verbatim (expr_text (ex en) [])) (load_text (codes "      ") (written_load q (expr_text (ex next) [])) bs)))
       ∙ ap (if_text (codes "    ") (ex r.signal)) (load_same (codes "      ") q (ex r.value) (if_text (codes "    else ") (verbatim (expr_text (ex en) [])) (load_text (codes "      ") (written_load q (expr_text (ex next) [])) bs)))
       ∙ ap (λ x. if_text (codes "    ") (ex r.signal) (load_text (codes "      ") (loads q (ex r.value)) x))
       (if_same (codes "    else ") (ex en) (load_text (codes "      ") (written_load q (expr_text (ex next) [])) bs)

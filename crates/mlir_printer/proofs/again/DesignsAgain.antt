@@ -3,21 +3,22 @@ use Rattle.std.proofs.Common.{◌≡◌, ℕ, ◌+◌, Bool, true, false, cond, 
 use Rattle.std.specs.Prelude.{Option, Some, None, is_some, not}
 use Rattle.opcode.specs.declared.listed.Listed.TheVariants as listed
 use Rattle.hw_model.specs.Types.{Name}
-use Rattle.hw_model.specs.Design.{Ref, Port, Op, Module, Design, op_without_place, module_without_places, without_places, IsSameDesign}
+use Rattle.hw_model.specs.Design.{Ref, Port, Op, Module, Design, op_without_location, module_without_locations, without_locations, IsSameDesign}
 use Rattle.hw_model.specs.Design.Ref.{port, result, undefined}
 use Rattle.fresh_names.proofs.Distinct.{AreFresh, fresh_are_new}
 use Rattle.fresh_names.proofs.Giving.{fresh_count}
 use Rattle.mlir_operations.specs.OperationText.{OperationText}
-use Rattle.mlir_reader.specs.Resolving.{Meanings, Defined, Definition, with_definitions, no_meaning, resolve_operand, port_definition, port_definitions, operation_definitions, body_definitions, operations_from, ports_from, is_marked, ends_with_output, has_outputs, left_out_output, port_meanings, meanings, module_of, design_of}
+use Rattle.mlir_reader.specs.Resolving.{Meanings, Defined, Definition, with_definitions, no_meaning, resolve_operand, port_definition, port_definitions, operation_definitions, body_definitions}
+use Rattle.mlir_reader.specs.Resolving.{operations_from, ports_from, is_marked, ends_with_output, has_outputs, left_out_output, port_meanings, meanings, module_of, design_of}
 use Rattle.mlir_reader.proofs.Defining.{definitions_append}
 use Rattle.mlir_printer.specs.Elements.{ValueText}
 use Rattle.mlir_printer.specs.Naming.{input_count, hints_or_numbers, names_given, first_name, firsts, value_named}
-use Rattle.printable_designs.specs.NameHints.{port_name_hint, port_name_hints, body_name_hints, name_hints, name_count}
+use Rattle.printing_laws.specs.NameHints.{port_name_hint, port_name_hints, body_name_hints, name_hints, name_count}
 use Rattle.mlir_printer.specs.Texts.{operation_shown, operations_shown, port_shown, ports_shown, module_shown, modules_shown}
-use Rattle.printable_designs.specs.Parts.{parts_in}
+use Rattle.printing_laws.specs.Parts.{parts_in}
 use Rattle.mlir_printer.specs.Spellable.{said_operand, said_operation, said_port, inherent_view}
-use Rattle.canonical_form.specs.Bytes.{Each}
-use Rattle.printable_designs.specs.Printable.{IsDefined, IsPrintableOp, IsPrintablePort, EndsWithOutput, IsPrintableModule, Printable}
+use Rattle.stored_form.specs.Bytes.{Each}
+use Rattle.printing_laws.specs.Printable.{IsDefined, IsPrintableOp, IsPrintablePort, EndsWithOutput, IsPrintableModule, Printable}
 use Rattle.mlir_printer.proofs.names.NameTables.{Among, Finds, finds_left, finds_right, AreNew, new_left, new_right, found, all_new}
 use Rattle.mlir_printer.proofs.names.NamedDefinitions.{name_of, map_append, firsts_add, firsts_all, ports_names, body_names}
 use Rattle.mlir_printer.proofs.names.ValuesFound.{port_found, result_found}
@@ -31,16 +32,16 @@ body_again : (ports : List Port) (body : List Op) (m earlier : Meanings) (means 
     → ((r : Ref) → IsDefined ports body r → resolve_operand m (said_operand (means r)) ≡ r)
     → AreNew earlier (body_definitions i (map said_operation (operations_shown means ns os))) → Suits (body_name_hints (map parts_in os)) ns
     → Each (IsPrintableOp ports body) os
-    → map op_without_place (operations_from m earlier i (map said_operation (operations_shown means ns os))) ≡ map op_without_place os
+    → map op_without_location (operations_from m earlier i (map said_operation (operations_shown means ns os))) ≡ map op_without_location os
 body_again ports body m earlier means i ns [] resolve new suits p = refl
 body_again ports body m earlier means i ns (o ∷ os) resolve new suits p =
     let here = said_operation (operation_shown (parts_in o) (map means o.operands) ns) in
     let rest = map said_operation (operations_shown means (drop (name_count (parts_in o)) ns) os) in
     let later = with_definitions earlier (operation_definitions i here) in
-    ap (λ x. x ∷ map op_without_place (operations_from m later (i + 1) rest))
+    ap (λ x. x ∷ map op_without_location (operations_from m later (i + 1) rest))
     (operation_again ports body o p.0 m earlier means i ns resolve (new_left earlier (operation_definitions i here) (body_definitions (i + 1) rest) new)
     (suit_first (name_hints (parts_in o)) (body_name_hints (map parts_in os)) ns suits))
-    ∙ ap (λ l. op_without_place o ∷ l)
+    ∙ ap (λ l. op_without_location o ∷ l)
     (body_again ports body m later means (i + 1) (drop (name_count (parts_in o)) ns) os resolve
     (new_right earlier (operation_definitions i here) (body_definitions (i + 1) rest) new)
     (suit_after (name_hints (parts_in o)) (body_name_hints (map parts_in os)) ns suits) p.1)
@@ -152,17 +153,17 @@ module _ (m : Module) (p : IsPrintableModule m) where
       ∙ ap (λ j. result j k) z
   resolves undefined h = absurd h
 
-  body_said : map op_without_place (module_of (inherent_view (module_shown m))).body ≡ map op_without_place m.body
+  body_said : map op_without_location (module_of (inherent_view (module_shown m))).body ≡ map op_without_location m.body
   body_said =
       let os = operations_from (meanings (inherent_view (module_shown m))) (port_meanings (inherent_view (module_shown m)).ports) 0 texts in
-      ap (λ b. map op_without_place (cond b os (cond (has_outputs (inherent_view (module_shown m)).ports) os
+      ap (λ b. map op_without_location (cond b os (cond (has_outputs (inherent_view (module_shown m)).ports) os
       (os ++ left_out_output (inherent_view (module_shown m)).close ∷ []))))
       (output_there means following m.body p.ends)
       ∙ body_again m.ports m.body (meanings (inherent_view (module_shown m))) (port_meanings (inherent_view (module_shown m)).ports) means 0 following m.body resolves
       (new_right no_meaning port_defs body_defs all_are_new)
       (suit_after (port_name_hints m.ports) (body_name_hints (map parts_in m.body)) given all_suit) p.operations
 
-  pub module_again : module_without_places m ≡ module_without_places (module_of (inherent_view (module_shown m)))
+  pub module_again : module_without_locations m ≡ module_without_locations (module_of (inherent_view (module_shown m)))
   module_again =
       let ps = ports_again no_meaning 0 given m.ports (new_left no_meaning port_defs body_defs all_are_new) p.ports in
       let es = kept_itself listed.HwModule m.dictionary p.dictionary.in_order p.dictionary.kept in
@@ -173,5 +174,5 @@ module _ (m : Module) (p : IsPrintableModule m) where
 pub printable_designs_are_said : (d : Design) → Printable d → IsSameDesign d (design_of (map inherent_view (modules_shown d)))
 printable_designs_are_said [] p = refl
 printable_designs_are_said (m ∷ d) p =
-    ap (λ x. x ∷ without_places d) (module_again m p.0)
-    ∙ ap (λ l. module_without_places (module_of (inherent_view (module_shown m))) ∷ l) (printable_designs_are_said d p.1)
+    ap (λ x. x ∷ without_locations d) (module_again m p.0)
+    ∙ ap (λ l. module_without_locations (module_of (inherent_view (module_shown m))) ∷ l) (printable_designs_are_said d p.1)

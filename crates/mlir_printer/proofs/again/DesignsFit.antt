@@ -16,16 +16,16 @@ use Rattle.mlir_operations.specs.OperandText.{ResultNames}
 use Rattle.mlir_operations.specs.Spelling.{StandsInBody}
 use Rattle.mlir_printer.specs.Elements.{ValueText, no_value}
 use Rattle.mlir_printer.specs.Naming.{input_count, names_given, first_name, firsts, name_value_text, value_at, value_in, port_value, value_named, listed_names, results_named}
-use Rattle.printable_designs.specs.NameHints.{name_hints, port_name_hint, port_name_hints, body_name_hints, name_count, is_pack}
+use Rattle.printing_laws.specs.NameHints.{name_hints, port_name_hint, port_name_hints, body_name_hints, name_count, is_pack}
 use Rattle.mlir_printer.specs.Texts.{operation_shown, operations_shown, ports_shown, module_shown, modules_shown}
-use Rattle.printable_designs.specs.Parts.{parts_in}
+use Rattle.printing_laws.specs.Parts.{parts_in}
 use Rattle.mlir_printer.specs.Spellable.{IsValueName, IsOperand}
-use Rattle.canonical_form.specs.Bytes.{Each}
+use Rattle.stored_form.specs.Bytes.{Each}
 use Rattle.mlir_printer.specs.SpellableModules.{AreResults, MayBeValue, IsSpellableOperation, AreSpellable, IsSpellablePort, IsSpellable}
 use Rattle.op_checks.specs.CountChecks.{operands_written, type_count}
-use Rattle.printable_designs.specs.Printable.{IsDefined, IsPrintableOp, IsPrintablePort, EndsWithOutput, IsPrintableModule, Printable}
+use Rattle.printing_laws.specs.Printable.{IsDefined, IsPrintableOp, IsPrintablePort, EndsWithOutput, IsPrintableModule, Printable}
 use Rattle.mlir_printer.proofs.names.NameTables.{Among}
-use Rattle.printable_designs.proofs.NameCounts.{pack_named}
+use Rattle.printing_laws.proofs.NameCounts.{pack_named}
 use Rattle.mlir_printer.proofs.names.GivenNames.{Suits, digits_value, word_value, given_suit, suit_first, suit_after}
 use Rattle.mlir_printer.proofs.again.OperationsAgain.{are_counted, last_output}
 use Rattle.mlir_printer.proofs.again.DesignsAgain.{each_among}

@@ -13,12 +13,12 @@ use Rattle.hw_model.specs.Design.{Entry, same_name}
 use Rattle.hw_model.specs.Equality.{name_from}
 use Rattle.mlir_syntax.specs.AttributeText.{is_among}
 use Rattle.mlir_syntax.specs.Spelling.{AreOnce}
-use Rattle.canonical_form.specs.Dictionaries.{has_name}
+use Rattle.stored_form.specs.Dictionaries.{has_name}
 use Rattle.mlir_printer.specs.Texts.{name_entry, named_entries, entries_shown}
 use Rattle.mlir_printer.specs.Spellable.{IsDictionary}
-use Rattle.canonical_form.specs.Bytes.{Each, AreBytes}
-use Rattle.canonical_form.specs.Limits.{IsEntry}
-use Rattle.canonical_form.specs.Dictionaries.{AreInOrder, IsKeptDictionary}
+use Rattle.stored_form.specs.Bytes.{Each, AreBytes}
+use Rattle.stored_form.specs.Limits.{IsEntry}
+use Rattle.stored_form.specs.Dictionaries.{AreInOrder, IsKeptDictionary}
 use Rattle.mlir_printer.proofs.again.EntriesKept.{none_given}
 use Rattle.mlir_reader.proofs.canonical.EntryOrder.{put_in_order, each_put}
 

@@ -12,10 +12,10 @@ use Rattle.hw_model.specs.Equality.{name_from}
 use Rattle.mlir_lexer.specs.Classes.{is_digit}
 use Rattle.mlir_lexer.specs.Runs.{run}
 use Rattle.mlir_reader.specs.Resolving.{put_entry, sort_entries, without, kept_entries, text_in, given_name, unless_digits, name_or}
-use Rattle.canonical_form.specs.Dictionaries.{is_empty_hint, has_name, is_name_entry, is_dropped}
+use Rattle.stored_form.specs.Dictionaries.{is_empty_hint, has_name, is_name_entry, is_dropped}
 use Rattle.mlir_printer.specs.Texts.{name_entry, named_entries, entries_shown}
-use Rattle.canonical_form.specs.Bytes.{Each}
-use Rattle.canonical_form.specs.Dictionaries.{AreInOrder}
+use Rattle.stored_form.specs.Bytes.{Each}
+use Rattle.stored_form.specs.Dictionaries.{AreInOrder}
 use Rattle.mlir_reader.proofs.canonical.EntryOrder.{is_less, in_order_rest}
 use Rattle.mlir_printer.proofs.names.GivenNames.{IsDigits, IsWord, digits_alone, word_not_digits}
 
@@ -24,13 +24,13 @@ use Rattle.mlir_printer.proofs.names.GivenNames.{IsDigits, IsWord, digits_alone,
 pub is_order : IsStrictWeakOrder is_less
 is_order = ranks_by nat_list_cmp_total (λ (e : Entry). e.key)
 
-put_front : (e : Entry) (es : List Entry) → AreInOrder (e ∷ es) → put_entry e es ≡ e ∷ es
-put_front e [] h = refl
-put_front e (f ∷ es) h = cond-false (is_less f e) (f ∷ put_entry e es) (e ∷ f ∷ es) (is_order.one_way e f h.0)
+put_prefix : (e : Entry) (es : List Entry) → AreInOrder (e ∷ es) → put_entry e es ≡ e ∷ es
+put_prefix e [] h = refl
+put_prefix e (f ∷ es) h = cond-false (is_less f e) (f ∷ put_entry e es) (e ∷ f ∷ es) (is_order.one_way e f h.0)
 
 pub sorted_itself : (es : List Entry) → AreInOrder es → sort_entries es ≡ es
 sorted_itself [] h = refl
-sorted_itself (e ∷ es) h = ap (put_entry e) (sorted_itself es (in_order_rest e es h)) ∙ put_front e es h
+sorted_itself (e ∷ es) h = ap (put_entry e) (sorted_itself es (in_order_rest e es h)) ∙ put_prefix e es h
 
 without_none : (test : Entry → Bool) (es : List Entry) → Each (λ (e : Entry). test e ≡ false) es → without test es ≡ es
 without_none test [] h = refl

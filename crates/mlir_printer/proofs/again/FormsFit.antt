@@ -11,9 +11,9 @@ use Rattle.hw_model.specs.Kinds.Reset.{no_reset, sync_reset}
 use Rattle.hw_model.specs.Kinds.Literal.{leaf, parts}
 use Rattle.hw_model.specs.Kinds.Literals.{no_literals, literal}
 use Rattle.hw_model.specs.Kinds.ArrayOp.{array_create, array_concat, array_get, array_slice, array_inject}
-use Rattle.hw_model.specs.Kinds.StructOp.{struct_create, struct_extract, struct_inject, struct_explode}
+use Rattle.hw_model.specs.Kinds.StructOp.{struct_create, struct_extract, struct_inject}
 use Rattle.hw_model.specs.Kinds.RegisterOp.{compreg, compreg_ce, firreg}
-use Rattle.hw_model.specs.Kinds.Kind.{variadic, sub, division, shift, icmp, parity, extract, concat, replicate, mux, constant, aggregate_constant, on_array, on_struct, bitcast, wire, instance, output, register, async_firreg}
+use Rattle.hw_model.specs.Kinds.Kind.{variadic, sub, division, shift, icmp, extract, concat, replicate, mux, constant, aggregate_constant, on_array, on_struct, bitcast, instance, output, register, async_firreg}
 use Rattle.hw_model.specs.Opcodes.{opcode_of, variadic_opcode, division_opcode, shift_opcode}
 use Rattle.mlir_syntax.specs.Numerals.{count_limit}
 use Rattle.mlir_operations.specs.ElementText.{InherentAttributes}
@@ -21,19 +21,21 @@ use Rattle.mlir_operations.specs.ElementText.InherentAttributes.{nothing, with_r
 use Rattle.assembly_format.specs.Formats.{format_of}
 use Rattle.assembly_format.specs.declared.elements.Format.{Format}
 use Rattle.assembly_format.specs.declared.elements.Format.TheVariants as format
-use Rattle.printable_designs.specs.Numbers.{is_negative, shown_number, shown_integer, shown_by_first, shown_literal, shown_literals, is_truth, is_one_bit, is_shown_as_truth}
+use Rattle.printing_laws.specs.Numbers.{is_negative, shown_number, shown_integer, shown_by_first, shown_literal, shown_literals, is_truth, is_one_bit, is_shown_as_truth}
 use Rattle.mlir_printer.specs.Elements.{ValueText, Pending}
 use Rattle.mlir_printer.specs.Operations.{format_shown, output_format, is_truth_view}
 use Rattle.mlir_printer.specs.Texts.{inherent_shown}
 use Rattle.mlir_printer.specs.Spellable.{IsOperand}
-use Rattle.canonical_form.specs.Bytes.{Each, AreBytes}
-use Rattle.canonical_form.specs.Limits.{IsInteger, IsAnyType, IsLiteral, AreLiterals}
+use Rattle.stored_form.specs.Bytes.{Each, AreBytes}
+use Rattle.stored_form.specs.Limits.{IsInteger, IsAnyType, IsLiteral, AreLiterals}
 use Rattle.mlir_printer.specs.SpellableModules.{IsViewAs}
 use Rattle.op_checks.specs.CountChecks.{operands_written, type_count}
-use Rattle.canonical_form.specs.Kinds.{IsWritten, IsWrittenInstance}
+use Rattle.stored_form.specs.Kinds.{IsWritten, IsWrittenInstance}
 use Rattle.mlir_printer.proofs.lexed.LexedLiterals.{one_bit}
 use Rattle.mlir_printer.proofs.again.KindsKept.{negative_parts}
-use Rattle.mlir_printer.proofs.again.ViewForms.{pending, says_variadic, says_binary, says_comparison, says_unary, says_extraction, says_joined, says_conversion, says_choice, says_truth, says_integer, says_aggregate, says_element, says_slice, says_element_change, says_struct, says_field, says_field_change, says_instance, says_nothing, says_register, says_reset_register, says_enabled, says_reset_enabled, says_clocked, says_reset_clocked, says_async_reset_clocked}
+use Rattle.mlir_printer.proofs.again.ViewForms.{pending, says_variadic, says_binary, says_comparison, says_unary, says_extraction, says_joined, says_conversion, says_choice, says_truth, says_integer}
+use Rattle.mlir_printer.proofs.again.ViewForms.{says_aggregate, says_element, says_slice, says_element_change, says_struct, says_field, says_field_change, says_instance, says_nothing, says_register}
+use Rattle.mlir_printer.proofs.again.ViewForms.{says_reset_register, says_enabled, says_reset_enabled, says_clocked, says_reset_clocked, says_async_reset_clocked}
 
 -- ---- lists of so many
 
@@ -308,7 +310,6 @@ form_fits sub os ts lo lt w = binary os ts lo lt
 form_fits (division d) os ts lo lt w = subst (λ s. Fit s nothing os ts) (sym (division_format d (pending os ts nothing))) (binary os ts lo lt)
 form_fits (shift s) os ts lo lt w = subst (λ x. Fit x nothing os ts) (sym (shift_format s (pending os ts nothing))) (binary os ts lo lt)
 form_fits (icmp p) os ts lo lt w = comparison p os ts lo lt
-form_fits parity os ts lo lt w = unary os ts lo lt
 form_fits (extract low) os ts lo lt w = extraction low os ts w lo lt
 form_fits concat os ts lo lt w = joined os ts (some_there (length os) lo) lt
 form_fits replicate os ts lo lt w = conversion os ts lo lt
@@ -323,9 +324,7 @@ form_fits (on_array array_inject) os ts lo lt w = element_change os ts lo lt
 form_fits (on_struct struct_create) os ts lo lt w = group os ts lt
 form_fits (on_struct (struct_extract name)) os ts lo lt w = field_taken name os ts w lo lt
 form_fits (on_struct (struct_inject name)) os ts lo lt w = field_change name os ts w lo lt
-form_fits (on_struct struct_explode) os ts lo lt w = unary os ts lo lt
 form_fits bitcast os ts lo lt w = conversion os ts lo lt
-form_fits wire os ts lo lt w = unary os ts lo lt
 form_fits (instance i) os ts lo lt w = call i os ts w lo lt
 form_fits output os ts lo lt w = output_fits os ts lt
 form_fits (register compreg no_reset) os ts lo lt w = plain_register os ts lo lt
@@ -335,3 +334,4 @@ form_fits (register compreg_ce sync_reset) os ts lo lt w = enabled_reset_registe
 form_fits (register firreg no_reset) os ts lo lt w = clocked_register os ts lo lt
 form_fits (register firreg sync_reset) os ts lo lt w = clocked_reset_register os ts lo lt
 form_fits async_firreg os ts lo lt w = async_reset_register os ts lo lt
+form_fits _ os ts lo lt w = unary os ts lo lt

@@ -16,10 +16,10 @@ use Rattle.hw_model.specs.Opcodes.{opcode_of, variadic_opcode, division_opcode, 
 use Rattle.mlir_operations.specs.ElementText.{InherentAttributes}
 use Rattle.mlir_operations.specs.ElementText.InherentAttributes.{nothing}
 use Rattle.mlir_reader.specs.Resolving.{inherent_kind, kind_or, kind_named}
-use Rattle.canonical_form.specs.Constants.{has_negative, kept_number, kept_integer, kept_by_first, kept_literal, kept_literals}
-use Rattle.printable_designs.specs.Numbers.{is_negative, shown_number, shown_integer, shown_by_first, shown_literal, shown_literals}
+use Rattle.stored_form.specs.Constants.{has_negative, kept_number, kept_integer, kept_by_first, kept_literal, kept_literals}
+use Rattle.printing_laws.specs.Numbers.{is_negative, shown_number, shown_integer, shown_by_first, shown_literal, shown_literals}
 use Rattle.mlir_printer.specs.Texts.{inherent_shown}
-use Rattle.canonical_form.specs.Kinds.{KeepsConstants}
+use Rattle.stored_form.specs.Kinds.{KeepsConstants}
 
 -- ---- constants
 

@@ -7,7 +7,7 @@ use Rattle.hw_model.specs.Opcodes.{opcode_of}
 use Rattle.hw_model.specs.Types.{Name, HwType}
 use Rattle.hw_model.specs.Kinds.{Kind}
 use Rattle.hw_model.specs.Kinds.Kind.{wire, output, register, async_firreg}
-use Rattle.hw_model.specs.Design.{Ref, Port, Op, is_output_kind, op_without_place}
+use Rattle.hw_model.specs.Design.{Ref, Port, Op, is_output_kind, op_without_location}
 use Rattle.ir_store.specs.ResultTypes.{result_types, result_count}
 use Rattle.mlir_operations.specs.OperandText.{ResultNames, named_count}
 use Rattle.mlir_operations.specs.OperandText.ResultNames.{no_names, names, pack}
@@ -15,18 +15,18 @@ use Rattle.mlir_operations.specs.OperationText.{OperationText, is_last}
 use Rattle.mlir_reader.specs.Resolving as read
 use Rattle.mlir_reader.specs.Resolving.Defined.{are_results}
 use Rattle.mlir_reader.specs.Resolving.{Meanings, Definition, resolve_operand, marks, marked_results, names_from, names_defined, own_types, own_count, operation_at, operation_definitions, name_or, given_name, unless_digits, own_name_of}
-use Rattle.canonical_form.specs.Dictionaries.{has_name}
+use Rattle.stored_form.specs.Dictionaries.{has_name}
 use Rattle.mlir_printer.specs.Elements.{ValueText}
 use Rattle.mlir_printer.specs.Naming.{first_name, firsts, listed_names, results_named}
-use Rattle.printable_designs.specs.NameHints.{name_hints, name_hints_of, own_name_hint, name_count, is_pack}
+use Rattle.printing_laws.specs.NameHints.{name_hints, name_hints_of, own_name_hint, name_count, is_pack}
 use Rattle.mlir_printer.specs.Texts.{operation_shown, entries_shown}
-use Rattle.printable_designs.specs.Parts.{parts_in}
+use Rattle.printing_laws.specs.Parts.{parts_in}
 use Rattle.mlir_printer.specs.Spellable.{said_operand, said_operation}
-use Rattle.canonical_form.specs.Bytes.{Each}
-use Rattle.printable_designs.specs.Printable.{IsDefined, settled_result, IsPrintableOp}
+use Rattle.stored_form.specs.Bytes.{Each}
+use Rattle.printing_laws.specs.Printable.{IsDefined, settled_result, IsPrintableOp}
 use Rattle.mlir_printer.proofs.names.NameTables.{AreNew, marks_in, no_marks}
 use Rattle.mlir_printer.proofs.names.NamedDefinitions.{name_of, results_names, firsts_length}
-use Rattle.printable_designs.proofs.NameCounts.{types_counted, names_counted, results_length, few_names}
+use Rattle.printing_laws.proofs.NameCounts.{types_counted, names_counted, results_length, few_names}
 use Rattle.mlir_printer.proofs.names.ValuesFound.{AreCounted}
 use Rattle.mlir_printer.proofs.names.GivenNames.{Suits}
 use Rattle.mlir_printer.proofs.again.KindsKept.{kind_again}
@@ -35,7 +35,7 @@ use Rattle.mlir_printer.proofs.again.EntriesKept.{shown_kept, none_given, own_ag
 -- ---- the parts of an operation
 
 op_equal : (a b : Op) → a.kind ≡ b.kind → a.operands ≡ b.operands → a.types ≡ b.types → a.results ≡ b.results → a.named ≡ b.named → a.name ≡ b.name
-    → a.dictionary ≡ b.dictionary → a.bin ≡ b.bin → op_without_place a ≡ op_without_place b
+    → a.dictionary ≡ b.dictionary → a.bin ≡ b.bin → op_without_location a ≡ op_without_location b
 op_equal a b e1 e2 e3 e4 e5 e6 e7 e8 = rw (e1, e2, e3, e4, e5, e6, e7, e8) refl
 
 operands_again : (m : Meanings) (means : Ref → ValueText) (Defined : Ref → Type 0) (rs : List Ref)
@@ -184,7 +184,7 @@ module _ (ports : List Port) (body : List Op) (o : Op) (p : IsPrintableOp ports 
   pub operation_again : (m earlier : Meanings) (means : Ref → ValueText) (i : ℕ) (ns : List Name)
       → ((r : Ref) → IsDefined ports body r → resolve_operand m (said_operand (means r)) ≡ r)
       → AreNew earlier (operation_definitions i (shown means ns)) → Suits (name_hints (parts_in o)) ns
-      → op_without_place (operation_at m earlier i (shown means ns)) ≡ op_without_place o
+      → op_without_location (operation_at m earlier i (shown means ns)) ≡ op_without_location o
   operation_again m earlier means i ns resolve new suits =
       op_equal (operation_at m earlier i (shown means ns)) o
       (kind_again o.kind o.types p.kept)

@@ -10,9 +10,9 @@ unfolding escaped_byte
 plain_stays b e = ap (λ t. cond t (b ∷ []) (cond (b == 92) (92 ∷ 92 ∷ []) (92 ∷ hex_digit (b / 16) ∷ hex_digit (b % 16) ∷ []))) e
 
 -- the plain bytes before, and the others as they are escaped
-plain_front : (bs : List ℕ) → take (run is_plain bs) bs ++ escaped_bytes (drop (run is_plain bs) bs) ≡ escaped_bytes bs
-plain_front [] = refl
-plain_front (b ∷ bs) = go (is_plain b) refl (plain_front bs)
+plain_prefix : (bs : List ℕ) → take (run is_plain bs) bs ++ escaped_bytes (drop (run is_plain bs) bs) ≡ escaped_bytes bs
+plain_prefix [] = refl
+plain_prefix (b ∷ bs) = go (is_plain b) refl (plain_prefix bs)
   where
     go : (t : Bool) → is_plain b ≡ t → take (run is_plain bs) bs ++ escaped_bytes (drop (run is_plain bs) bs) ≡ escaped_bytes bs
         → take (cond t (run is_plain bs + 1) 0) (b ∷ bs) ++ escaped_bytes (drop (cond t (run is_plain bs + 1) 0) (b ∷ bs)) ≡ escaped_byte b ++ escaped_bytes bs
@@ -26,4 +26,4 @@ pub plain_parts : (out one two text : List ℕ) (n : ℕ) → n ≡ run is_plain
 plain_parts out one two text n is p q =
     q ∙ ap (λ l. one ++ escaped_bytes l) (take_all (length text - n) (drop n text) (omega (arith, length-drop n text)))
     ∙ ap (λ x. x ++ escaped_bytes (drop n text)) p ∙ append_assoc out (take n text) (escaped_bytes (drop n text))
-    ∙ ap (λ k. out ++ (take k text ++ escaped_bytes (drop k text))) is ∙ ap (λ l. out ++ l) (plain_front text)
+    ∙ ap (λ k. out ++ (take k text ++ escaped_bytes (drop k text))) is ∙ ap (λ l. out ++ l) (plain_prefix text)

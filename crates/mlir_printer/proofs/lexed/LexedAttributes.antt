@@ -7,18 +7,18 @@ use Rattle.hw_model.specs.Types.{Name, HwType}
 use Rattle.hw_model.specs.Design.{Attribute, Attributes, Entry}
 use Rattle.hw_model.specs.Design.Attribute.{unit_value, text_value, symbol_value, truth_value, integer_value, list_value}
 use Rattle.hw_model.specs.Design.Attributes.{no_attributes, attribute}
-use Rattle.mlir_lexer.specs.Tokens.{Lexeme}
+use Rattle.mlir_lexer.specs.Tokens.{TextToken}
 use Rattle.mlir_lexer.specs.declared.token.TokenKind.TheVariants as kind
 use Rattle.mlir_syntax.specs.TypeText.{most_open}
 use Rattle.mlir_syntax.specs.AttributeText.{is_among, is_stored, in_order}
 use Rattle.mlir_syntax.specs.Spelling.{Phrase, Mark, Then, IntegerPhrase, TypePhrase, TruthWord, IntegerType, AttributePhrase, EntryPhrase, DictionaryPhrase}
 use Rattle.mlir_printer.specs.Strings.{name_bytes}
-use Rattle.printable_designs.specs.Numbers.{truth_bytes}
+use Rattle.printing_laws.specs.Numbers.{truth_bytes}
 use Rattle.mlir_printer.specs.Commas.{comma_bytes, items_from, commas}
 use Rattle.mlir_printer.specs.Attributes.{typed_bytes, attribute_bytes, attributes_from, value_bytes, entry_bytes}
 use Rattle.mlir_printer.specs.Spellable.{IsDictionary}
-use Rattle.canonical_form.specs.Bytes.{Each, AreBytes}
-use Rattle.canonical_form.specs.Limits.{IsInteger, IsType, IsAttribute, AreAttributes, IsValue, IsEntry}
+use Rattle.stored_form.specs.Bytes.{Each, AreBytes}
+use Rattle.stored_form.specs.Limits.{IsInteger, IsType, IsAttribute, AreAttributes, IsValue, IsEntry}
 use Rattle.mlir_printer.proofs.lexed.LexedTexts.{Whole, Lexed, lexed, lexed_as, lexed_by, whole_as, then, then_on, left_bracket, right_bracket, left_brace, right_brace}
 use Rattle.mlir_printer.proofs.lexed.LexedStrings.{string_lexed}
 use Rattle.mlir_printer.proofs.lexed.LexedNames.{bare_lexed, name_lexed, symbol_lexed}
@@ -42,7 +42,7 @@ stored_integer : (z : ℤ) → is_stored z ≡ true → IsInteger z
 stored_integer (pos n) h = let small : n < 2 ^ 64 = ltb-true n (2 ^ 64) h in omega (arith, small)
 stored_integer (negsuc n) h = let small : n < 2 ^ 63 = ltb-true n (2 ^ 63) h in omega (arith, small)
 
-second_as : {P Q R : Phrase} (ts : List Lexeme) → ((ts : List Lexeme) → Q ts → R ts) → Then P Q ts → Then P R ts
+second_as : {P Q R : Phrase} (ts : List TextToken) → ((ts : List TextToken) → Q ts → R ts) → Then P Q ts → Then P R ts
 second_as ts to h = (h.0, h.1, h.2, h.3, to h.1 h.4)
 
 number_lexed : (z : ℤ) (t : HwType) (room : ℕ) → is_stored z ≡ true → IsType t room

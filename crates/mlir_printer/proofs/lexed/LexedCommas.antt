@@ -8,7 +8,7 @@ use Rattle.mlir_lexer.specs.declared.token.TokenKind.{TokenKind}
 use Rattle.mlir_lexer.specs.declared.token.TokenKind.TheVariants as kind
 use Rattle.mlir_syntax.specs.Spelling.{Phrase, Mark, Commas, Between}
 use Rattle.mlir_printer.specs.Commas.{comma_bytes, items_from, commas}
-use Rattle.canonical_form.specs.Bytes.{Each}
+use Rattle.stored_form.specs.Bytes.{Each}
 use Rattle.mlir_printer.proofs.lexed.LexedTexts.{Whole, Lexed, lexed, lexed_by, then, then_on, then_whole, closed, nothing, blank_after, blank_on_whole, comma_mark, colon_mark, equals_mark, arrow_mark}
 use Rattle.mlir_printer.proofs.lexed.LexedNames.{none_zero}
 

@@ -11,13 +11,15 @@ use Rattle.mlir_syntax.specs.Spelling.{Phrase, Word, Then, TypePhrase}
 use Rattle.mlir_operations.specs.Spelling.{ResetSync, ResetAsync, ResetPhrase, FormatElementPhrase, ElementsPhrase}
 use Rattle.assembly_format.specs.declared.elements.FormatElement.{FormatElement}
 use Rattle.assembly_format.specs.declared.elements.FormatElement.TheVariants as element
-use Rattle.printable_designs.specs.Numbers.{is_one}
+use Rattle.printing_laws.specs.Numbers.{is_one}
 use Rattle.mlir_printer.specs.Types.{type_bytes}
 use Rattle.mlir_printer.specs.Commas.{commas}
-use Rattle.mlir_printer.specs.Elements.{ValueText, Pending, first_operand, first_type_bytes, operand_bytes, predicate_said, position_said, truth_said, number_said, literals_said, field_said, reset_bytes, reset_said, sync_or_async_reset_said, instance_said, element_bytes, left_after, elements_bytes}
-use Rattle.mlir_printer.specs.Spellable.{IsOperand, HasType, HasTwoOperands, MayReset, MaySyncOrAsyncReset, SaysPredicate, SaysPosition, SaysTruth, SaysInteger, SaysLiterals, SaysField, SaysInstance, Needs, NeedAll, first_type, gathered_operands_of_reset, gathered_reset, gathered_sync_or_async_reset, gathered_with, gathered_with_all, said_operand}
-use Rattle.canonical_form.specs.Bytes.{Each}
-use Rattle.canonical_form.specs.Limits.{IsAnyType}
+use Rattle.mlir_printer.specs.Elements.{ValueText, Pending, first_operand, first_type_bytes, operand_bytes, predicate_said, position_said, truth_said, number_said, literals_said, field_said}
+use Rattle.mlir_printer.specs.Elements.{reset_bytes, reset_said, sync_or_async_reset_said, instance_said, element_bytes, left_after, elements_bytes}
+use Rattle.mlir_printer.specs.Spellable.{IsOperand, HasType, HasTwoOperands, MayReset, MaySyncOrAsyncReset, SaysPredicate, SaysPosition, SaysTruth, SaysInteger, SaysLiterals, SaysField, SaysInstance}
+use Rattle.mlir_printer.specs.Spellable.{Needs, NeedAll, first_type, gathered_operands_of_reset, gathered_reset, gathered_sync_or_async_reset, gathered_with, gathered_with_all, said_operand}
+use Rattle.stored_form.specs.Bytes.{Each}
+use Rattle.stored_form.specs.Limits.{IsAnyType}
 use Rattle.mlir_printer.proofs.lexed.LexedTexts.{Stops, Whole, Lexed, lexed, lexed_as, whole_as, then, then_on, then_whole, nothing, blank_after, blank_on_whole, left_parenthesis, right_parenthesis}
 use Rattle.mlir_printer.proofs.lexed.LexedStrings.{string_lexed}
 use Rattle.mlir_printer.proofs.lexed.LexedNames.{bare_lexed}

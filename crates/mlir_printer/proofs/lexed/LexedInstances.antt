@@ -16,8 +16,8 @@ use Rattle.mlir_printer.specs.Strings.{symbol_bytes, string_bytes}
 use Rattle.mlir_printer.specs.Commas.{commas}
 use Rattle.mlir_printer.specs.Elements.{ValueText, InputText, input_bytes, output_bytes, inputs_joined, outputs_joined, inner_bytes, instance_head, connections_bytes, instance_bytes}
 use Rattle.mlir_printer.specs.Spellable.{IsOperand, IsInstance, said_operand}
-use Rattle.canonical_form.specs.Bytes.{Each, AreBytes, MayBeBytes}
-use Rattle.canonical_form.specs.Limits.{IsAnyType}
+use Rattle.stored_form.specs.Bytes.{Each, AreBytes, MayBeBytes}
+use Rattle.stored_form.specs.Limits.{IsAnyType}
 use Rattle.mlir_printer.proofs.lexed.LexedTexts.{Stops, Whole, Lexed, lexed, lexed_as, lexed_by, then, then_on, then_whole, nothing, blank_on, blank_after, left_parenthesis, right_parenthesis}
 use Rattle.mlir_printer.proofs.lexed.LexedStrings.{string_lexed}
 use Rattle.mlir_printer.proofs.lexed.LexedNames.{bare_lexed, name_lexed, symbol_lexed}
@@ -132,11 +132,11 @@ instance_says g i os ts h =
     let inputs = inputs_say i.inputs os ts h.inputs_count (omega (arith, types)) in
     let left : length (drop (length i.inputs) ts) ≡ length i.outputs = rw (length-drop (length i.inputs) ts) (omega (arith, types)) in
     let (names, following) = outputs_say i.outputs (drop (length i.inputs) ts) left in
-    let front : types_said (inputs_of i os ts) ++ types_out (outputs_of i ts) ≡ ts =
+    let prefix : types_said (inputs_of i os ts) ++ types_out (outputs_of i ts) ≡ ts =
     ap (λ x. x ++ types_out (outputs_of i ts)) inputs.types ∙ ap (λ x. take (length i.inputs) ts ++ x) following
     ∙ take-append-drop (length i.inputs) ts in
     let all : (g.types ++ types_said (inputs_of i os ts)) ++ types_out (outputs_of i ts) ≡ g.types ++ ts =
-    append_assoc g.types (types_said (inputs_of i os ts)) (types_out (outputs_of i ts)) ∙ ap (λ x. g.types ++ x) front in
+    append_assoc g.types (types_said (inputs_of i os ts)) (types_out (outputs_of i ts)) ∙ ap (λ x. g.types ++ x) prefix in
     sym (same_gathered g i (operands_said (inputs_of i os ts)) (map said_operand os)
     ((g.types ++ types_said (inputs_of i os ts)) ++ types_out (outputs_of i ts)) (g.types ++ ts)
     (ports_said (inputs_of i os ts)) i.inputs (names_out (outputs_of i ts)) i.outputs inputs.operands all inputs.ports names)

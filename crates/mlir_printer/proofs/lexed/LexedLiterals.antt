@@ -10,12 +10,12 @@ use Rattle.hw_model.specs.Kinds.Literals.{no_literals, literal}
 use Rattle.mlir_lexer.specs.declared.token.TokenKind.TheVariants as kind
 use Rattle.mlir_syntax.specs.LiteralText.{literals_in_order, truth_leaf}
 use Rattle.mlir_syntax.specs.Spelling.{Phrase, Mark, Then, Either, IntegerPhrase, TypePhrase, TruthWord, LiteralPhrase, PartsPhrase, AggregatePhrase}
-use Rattle.printable_designs.specs.Numbers.{truth_bytes, is_truth, is_one_bit, is_shown_as_truth, is_one}
+use Rattle.printing_laws.specs.Numbers.{truth_bytes, is_truth, is_one_bit, is_shown_as_truth, is_one}
 use Rattle.mlir_printer.specs.Commas.{comma_bytes, items_from}
 use Rattle.mlir_printer.specs.Attributes.{typed_bytes}
 use Rattle.mlir_printer.specs.Literals.{leaf_bytes, literal_bytes, literals_from}
-use Rattle.canonical_form.specs.Bytes.{Each}
-use Rattle.canonical_form.specs.Limits.{IsInteger, IsType, IsLiteral, AreLiterals}
+use Rattle.stored_form.specs.Bytes.{Each}
+use Rattle.stored_form.specs.Limits.{IsInteger, IsType, IsLiteral, AreLiterals}
 use Rattle.mlir_printer.proofs.lexed.LexedTexts.{Whole, Lexed, lexed, lexed_as, whole_as, whole_by, left_bracket, right_bracket}
 use Rattle.mlir_printer.proofs.lexed.LexedCommas.{commas_lexed, between}
 use Rattle.mlir_printer.proofs.lexed.LexedAttributes.{truth_lexed, typed_lexed}

@@ -3,15 +3,15 @@ use Rattle.std.proofs.Common.{◌≡◌, inl, inr, ℕ, Bool, true, false, cond,
 use Rattle.std.specs.Prelude.{codes}
 use Rattle.std.specs.Cmp.Lexicographic.{bytes_decides}
 use Rattle.std.proofs.lemmas.List.{append-nil}
-use Rattle.diag.specs.Place.{start_place}
+use Rattle.diag.specs.Location.{start_location}
 use Rattle.opcode.specs.Listed.{name_of_listed}
 use Rattle.opcode.specs.declared.listed.Listed.TheVariants as listed
 use Rattle.hw_model.specs.Types.{Name, HwType}
 use Rattle.hw_model.specs.Design.{Entry, same_name}
-use Rattle.mlir_lexer.specs.Tokens.{Lexeme, tokens_after}
+use Rattle.mlir_lexer.specs.Tokens.{TextToken, tokens_after}
 use Rattle.mlir_lexer.specs.declared.token.TokenKind.TheVariants as kind
 use Rattle.mlir_syntax.specs.TypeText.{most_open}
-use Rattle.canonical_form.specs.Dictionaries.{module_keys}
+use Rattle.stored_form.specs.Dictionaries.{module_keys}
 use Rattle.mlir_syntax.specs.Spelling.{One, Mark, Holding, Either, Where, Nothing, Commas, Between}
 use Rattle.mlir_operations.specs.Spelling.{PortPhrase, PortsPhrase, AttributesPhrase, PrivatePhrase, ModulePhrase, ModulesPhrase, FileWord, FilePhrase, token_of}
 use Rattle.mlir_printer.specs.Strings.{symbol_bytes, string_bytes}
@@ -19,10 +19,11 @@ use Rattle.mlir_printer.specs.Commas.{commas}
 use Rattle.mlir_printer.specs.Attributes.{dictionary_bytes}
 use Rattle.mlir_printer.specs.Modules.{PortText, ModuleText, port_name_bytes, input_port_bytes, output_port_bytes, port_bytes_by, port_bytes, private_bytes, header_bytes, module_bytes, modules_bytes, file_bytes}
 use Rattle.mlir_printer.specs.Spellable.{IsDictionary, inherent_view, said_port}
-use Rattle.canonical_form.specs.Bytes.{Each, AreBytes}
-use Rattle.canonical_form.specs.Limits.{IsAnyType}
+use Rattle.stored_form.specs.Bytes.{Each, AreBytes}
+use Rattle.stored_form.specs.Limits.{IsAnyType}
 use Rattle.mlir_printer.specs.SpellableModules.{MayBeValue, IsSpellablePort, IsSpellable, AreSpelled}
-use Rattle.mlir_printer.proofs.lexed.LexedTexts.{Stops, Whole, Lexed, lexed, lexed_as, whole_as, whole_by, then, then_on, then_whole, closed, nothing, blank_on, blank_on_whole, blank_after, line_after, left_brace, right_brace, left_parenthesis, right_parenthesis}
+use Rattle.mlir_printer.proofs.lexed.LexedTexts.{Stops, Whole, Lexed, lexed, lexed_as, whole_as, whole_by, then, then_on, then_whole, closed, nothing, blank_on, blank_on_whole, blank_after}
+use Rattle.mlir_printer.proofs.lexed.LexedTexts.{line_after, left_brace, right_brace, left_parenthesis, right_parenthesis}
 use Rattle.mlir_printer.proofs.lexed.LexedStrings.{string_lexed}
 use Rattle.mlir_printer.proofs.lexed.LexedNames.{bare_lexed, name_lexed, symbol_lexed, value_name_lexed}
 use Rattle.mlir_printer.proofs.lexed.LexedCommas.{blank_colon, commas_lexed, between, each_of}
@@ -87,14 +88,14 @@ private_whole true = blank_after (bare_lexed (codes "private") refl)
 private_whole false = nothing
 
 module_word :
-    Whole (One (λ (t : Lexeme). (t.kind ≡ kind.BareName) × (t.text ≡ name_of_listed listed.HwModule) × Anywhere t start_place)) (codes "  hw.module ")
+    Whole (One (λ (t : TextToken). (t.kind ≡ kind.BareName) × (t.text ≡ name_of_listed listed.HwModule) × Anywhere t start_location)) (codes "  hw.module ")
 unfolding name_of_listed
-module_word = blank_on_whole (blank_on_whole (blank_after (operation_name listed.HwModule start_place)))
+module_word = blank_on_whole (blank_on_whole (blank_after (operation_name listed.HwModule start_location)))
 
 open_line : Whole (Mark kind.LeftBrace) (codes " {" ++ (10 ∷ []))
 open_line = blank_on_whole (line_after (lexed left_brace))
 
-close_line : Whole (One (λ (t : Lexeme). (t.kind ≡ kind.RightBrace) × Anywhere t start_place)) (codes "  }" ++ (10 ∷ []))
+close_line : Whole (One (λ (t : TextToken). (t.kind ≡ kind.RightBrace) × Anywhere t start_location)) (codes "  }" ++ (10 ∷ []))
 close_line = whole_as (λ ts w. (w.0, w.1, (w.2, tt))) (blank_on_whole (blank_on_whole (line_after (lexed right_brace))))
 
 -- the bytes of a module by its phrases
@@ -134,5 +135,5 @@ file_whole ms h =
 pub spellable_texts_are_spelled : (ms : List ModuleText) → Each IsSpellable ms → AreSpelled (file_bytes ms) ms
 unfolding tokens_after
 spellable_texts_are_spelled ms h =
-    let all = (file_whole ms h).lex [] start_place 0 in
-    (all.passed, ap (tokens_after 0 start_place 0) (sym (append-nil (file_bytes ms))) ∙ all.same ∙ append-nil (map token_of all.passed), all.says)
+    let all = (file_whole ms h).lex [] start_location 0 in
+    (all.passed, ap (tokens_after 0 start_location 0) (sym (append-nil (file_bytes ms))) ∙ all.same ∙ append-nil (map token_of all.passed), all.says)

@@ -5,17 +5,17 @@ use Rattle.hw_model.specs.Types.{Name}
 use Rattle.mlir_lexer.specs.Classes.{is_space, is_digit, is_name_start, is_name_byte, is_suffix_byte}
 use Rattle.mlir_lexer.specs.Runs.{run}
 use Rattle.mlir_lexer.specs.Contents.{content_of}
-use Rattle.mlir_lexer.specs.Fronts.{front_of, sign_front, suffix_token, suffix_length}
-use Rattle.mlir_lexer.specs.Tokens.{Lexeme}
+use Rattle.mlir_lexer.specs.Prefixes.{prefix_of, sign_prefix, suffix_token, suffix_length}
+use Rattle.mlir_lexer.specs.Tokens.{TextToken}
 use Rattle.mlir_lexer.specs.declared.token.TokenKind.{TokenKind}
 use Rattle.mlir_lexer.specs.declared.token.TokenKind.TheVariants as kind
-use Rattle.mlir_lexer.specs.declared.fronts.Front.TheVariants.{LineEnd, Token, Bad}
+use Rattle.mlir_lexer.specs.declared.prefixes.Prefix.TheVariants.{LineEnd, Token, Bad}
 use Rattle.mlir_syntax.specs.Spelling.{One, Word, Holding, NamePhrase, SymbolPhrase, TypeWord}
 use Rattle.mlir_operations.specs.Spelling.{ValueName}
 use Rattle.mlir_printer.specs.Strings.{is_bare, name_bytes, symbol_bytes, string_bytes}
 use Rattle.mlir_printer.specs.Elements.{value_name_bytes}
 use Rattle.mlir_printer.specs.Spellable.{IsValueName}
-use Rattle.canonical_form.specs.Bytes.{AreBytes}
+use Rattle.stored_form.specs.Bytes.{AreBytes}
 use Rattle.mlir_printer.proofs.lexed.LexedTexts.{Stops, Lexed, one_token, lexed, lexed_as}
 use Rattle.mlir_printer.proofs.lexed.LexedStrings.{unlike_byte, string_lexed, symbol_string_lexed}
 
@@ -53,9 +53,9 @@ digit_stops b h =
 
 -- ---- bare names
 
-name_front : (b : ℕ) (bs : List ℕ) → is_name_start b ≡ true → front_of b bs ≡ Token kind.BareName (run is_name_byte bs + 1)
-unfolding front_of
-name_front b bs h =
+name_prefix : (b : ℕ) (bs : List ℕ) → is_name_start b ≡ true → prefix_of b bs ≡ Token kind.BareName (run is_name_byte bs + 1)
+unfolding prefix_of
+name_prefix b bs h =
     let line = unlike_byte is_name_start b 10 refl h in
     let blank = unlike_byte is_name_start b 32 refl h in
     let tab = unlike_byte is_name_start b 9 refl h in
@@ -69,9 +69,9 @@ bare_lexed [] h = absurd cc
 bare_lexed (b ∷ bs) h =
     let (start, whole) = and_parts (is_name_start b) (run is_name_byte bs == length bs) h in
     record {
-      lex = λ rest place at stops.
+      lex = λ rest location at stops.
           let more = run_whole is_name_byte bs rest (eqb-true _ _ whole) (run_stops is_name_byte rest name_stops stops) in
-          one_token b bs rest place at (name_front b (bs ++ rest) start) (ap (λ n. n + 1) more) (λ t k e. (k, e));
+          one_token b bs rest location at (name_prefix b (bs ++ rest) start) (ap (λ n. n + 1) more) (λ t k e. (k, e));
     }
 
 -- a name is read as what it holds
@@ -105,23 +105,23 @@ suffixed_whole k name rest some whole stops =
     ap (λ n. cond (n == 0) (Bad 0) (Token k (n + 1))) e ∙ cond-false (length name == 0) (Bad 0) _ none
 
 -- a token of a sign and a suffix
-pub signed_lexed : {k : TokenKind} (b : ℕ) (name : List ℕ) → ((bs : List ℕ) → front_of b (name ++ bs) ≡ suffix_token k (name ++ bs)) → 1 ≤ length name
-    → suffix_length name ≡ length name → Lexed (One (λ (t : Lexeme). (t.kind ≡ k) × (t.text ≡ b ∷ name))) (b ∷ name)
-signed_lexed {k} b name front some whole = record {
-  lex = λ rest place at stops.
-      one_token b name rest place at (front rest ∙ suffixed_whole k name rest some whole stops) refl (λ t k e. (k, e));
+pub signed_lexed : {k : TokenKind} (b : ℕ) (name : List ℕ) → ((bs : List ℕ) → prefix_of b (name ++ bs) ≡ suffix_token k (name ++ bs)) → 1 ≤ length name
+    → suffix_length name ≡ length name → Lexed (One (λ (t : TextToken). (t.kind ≡ k) × (t.text ≡ b ∷ name))) (b ∷ name)
+signed_lexed {k} b name prefix some whole = record {
+  lex = λ rest location at stops.
+      one_token b name rest location at (prefix rest ∙ suffixed_whole k name rest some whole stops) refl (λ t k e. (k, e));
 }
 
 -- the name of a value
 pub value_name_lexed : (name : Name) → IsValueName name → Lexed (ValueName name) (value_name_bytes name)
-unfolding value_name_bytes front_of sign_front
+unfolding value_name_bytes prefix_of sign_prefix
 value_name_lexed name h =
     lexed_as (λ ts p. (p.0, p.1, (p.2.0, ap (content_of kind.ValueName) p.2.1)))
     (signed_lexed {k = kind.ValueName} 37 name (λ bs. refl) h.some h.whole)
 
 -- the word of a type
 pub type_word_lexed : (name : List ℕ) → 1 ≤ length name → suffix_length name ≡ length name → Lexed (TypeWord name) (33 ∷ name)
-unfolding front_of sign_front
+unfolding prefix_of sign_prefix
 type_word_lexed name some whole =
     lexed_as (λ ts p. (p.0, p.1, (p.2.0, ap (content_of kind.TypeName) p.2.1))) (signed_lexed {k = kind.TypeName} 33 name (λ bs. refl) some whole)
 
@@ -154,7 +154,7 @@ bare_suffix b bs start whole =
     ∙ ap (λ n. n + 1) (run_wider is_name_byte is_suffix_byte bs name_is_suffix whole) ∙ add-one (length bs)
 
 bare_symbol : (name : Name) → is_bare name ≡ true → Lexed (Holding kind.SymbolName name) (64 ∷ name)
-unfolding front_of sign_front
+unfolding prefix_of sign_prefix
 bare_symbol [] h = absurd cc
 bare_symbol (b ∷ bs) h =
     let (start, whole) = and_parts (is_name_start b) (run is_name_byte bs == length bs) h in

@@ -4,19 +4,19 @@ use Rattle.std.specs.Prelude.{codes, ℤ, pos, negsuc}
 use Rattle.std.proofs.lemmas.Fmt.{decimal_by_steps_wide}
 use Rattle.std.proofs.lemmas.List.{length-append}
 use Rattle.std.proofs.lemmas.Bool.{cond-true, cond-false, eqb-true, eq-eqb, and_right}
-use Rattle.diag.specs.declared.refusal.Place.{Place}
+use Rattle.diag.specs.declared.refusal.Location.{Location}
 use Rattle.mlir_lexer.specs.Classes.{is_space, is_digit, is_hex_digit, is_name_byte, is_name_start, is_suffix_byte}
 use Rattle.mlir_lexer.specs.Runs.{run, begins}
 use Rattle.mlir_lexer.specs.Contents.{content_of, hex_value}
-use Rattle.mlir_lexer.specs.Fronts.{suffix_length, front_of, sign_front, number_front, is_hex_mark}
-use Rattle.mlir_lexer.specs.Tokens.{Lexeme}
+use Rattle.mlir_lexer.specs.Prefixes.{suffix_length, prefix_of, sign_prefix, number_prefix, is_hex_mark}
+use Rattle.mlir_lexer.specs.Tokens.{TextToken}
 use Rattle.mlir_lexer.specs.declared.token.TokenKind.TheVariants as kind
-use Rattle.mlir_lexer.specs.declared.fronts.Front.TheVariants.{LineEnd, Token}
+use Rattle.mlir_lexer.specs.declared.prefixes.Prefix.TheVariants.{LineEnd, Token}
 use Rattle.mlir_syntax.specs.Numerals.{number_in, number_of, count_limit, number_limit, negative}
 use Rattle.mlir_syntax.specs.Spelling.{One, Mark, Then, AreDigits, WidthPhrase, NumberPhrase, IntegerPhrase}
 use Rattle.mlir_printer.specs.Strings.{is_bare}
-use Rattle.printable_designs.specs.Numbers.{count_bytes, further_bytes, integer_bytes}
-use Rattle.canonical_form.specs.Limits.{IsInteger}
+use Rattle.printing_laws.specs.Numbers.{count_bytes, further_bytes, integer_bytes}
+use Rattle.stored_form.specs.Limits.{IsInteger}
 use Rattle.mlir_printer.proofs.lexed.LexedTexts.{lexed_by, Stops, IsLexed, Lexed, one_token, joined, lexed_as}
 use Rattle.mlir_printer.proofs.lexed.LexedStrings.{unlike_byte}
 use Rattle.mlir_printer.proofs.lexed.LexedNames.{bare_lexed, signed_lexed, run_wider, run_whole, run_stops, digit_stops, none_zero}
@@ -47,9 +47,9 @@ run_joined (x ∷ xs) d h digit = go (is_digit x) refl h (λ e. run_joined xs d 
         cond-true (is_digit x) _ 0 e ∙ ap (λ n. n + 1) (more less) ∙ add-one (length (xs ++ (d ∷ [])))
     go false e h more = absurd (omega (arith, h))
 
-number_joined : (front : ℕ) (xs : List ℕ) (d : ℕ) → number_in 10 front (xs ++ (d ∷ [])) ≡ number_in 10 front xs * 10 + hex_value d
-number_joined front [] d = refl
-number_joined front (x ∷ xs) d = number_joined (front * 10 + hex_value x) xs d
+number_joined : (prefix : ℕ) (xs : List ℕ) (d : ℕ) → number_in 10 prefix (xs ++ (d ∷ [])) ≡ number_in 10 prefix xs * 10 + hex_value d
+number_joined prefix [] d = refl
+number_joined prefix (x ∷ xs) d = number_joined (prefix * 10 + hex_value x) xs d
 
 one_digit : (n : ℕ) → n < 10 → IsNumeral n ((48 + n) ∷ [])
 one_digit n small =
@@ -62,12 +62,12 @@ more_digits n ds big h =
     let value = value_of (n % 10) small in
     let count = length-append ds ((48 + n % 10) ∷ []) in
     let some = h.some in
-    let front = h.value in
+    let prefix = h.value in
     let all = number_joined 0 ds (48 + n % 10) in
     record {
       some = omega (arith, count, some);
       whole = run_joined ds (48 + n % 10) h.whole (digit_of (n % 10) small);
-      value = all ∙ rw (front, value) (omega arith);
+      value = all ∙ rw (prefix, value) (omega arith);
     }
 
 pub numeral : (n : ℕ) → n < 10 ^ 64 → IsNumeral n (decimal n)
@@ -84,9 +84,9 @@ digits_of n small =
 digit_no_start : (b : ℕ) → is_digit b ≡ true → is_name_start b ≡ false
 digit_no_start b h = grind (arith, h)
 
-digit_front : (b : ℕ) (bs : List ℕ) → is_digit b ≡ true → front_of b bs ≡ number_front b bs
-unfolding front_of
-digit_front b bs h =
+digit_prefix : (b : ℕ) (bs : List ℕ) → is_digit b ≡ true → prefix_of b bs ≡ number_prefix b bs
+unfolding prefix_of
+digit_prefix b bs h =
     let line = unlike_byte is_digit b 10 refl h in
     let space : is_space b ≡ false = grind (arith, h) in
     cond-false (b == 10) LineEnd _ line ∙ cond-false (is_space b) _ _ space ∙ cond-false (is_name_start b) _ _ (digit_no_start b h)
@@ -133,14 +133,14 @@ digits_number b (c ∷ cs) h =
     cond-false (c == 120) _ _ (unlike_byte is_digit c 120 refl second)
 
 pub number_token : (limit n : ℕ) → n < limit → (ds : List ℕ) → IsNumeral n ds → (rest : List ℕ) → EndsNumber rest
-    → (place : Place) (at : ℕ) → IsLexed (NumberPhrase limit n) ds rest place at
-number_token limit n small [] h rest ends place at = absurd (let some = h.some in omega (arith, some))
-number_token limit n small (b ∷ bs) h rest ends place at =
+    → (location : Location) (at : ℕ) → IsLexed (NumberPhrase limit n) ds rest location at
+number_token limit n small [] h rest ends location at = absurd (let some = h.some in omega (arith, some))
+number_token limit n small (b ∷ bs) h rest ends location at =
     let (digit, others) = first_digit b bs h.whole in
     let more = run_whole is_digit bs rest others ends.digits in
-    let plain : number_front b (bs ++ rest) ≡ Token kind.Integer (run is_digit (bs ++ rest) + 1) =
+    let plain : number_prefix b (bs ++ rest) ≡ Token kind.Integer (run is_digit (bs ++ rest) + 1) =
     cond-false (b == 48 && is_hex_mark (bs ++ rest)) _ _ (and_right (b == 48) (is_hex_mark (bs ++ rest)) (no_base bs rest others ends)) in
-    let one = one_token b bs rest place at (digit_front b (bs ++ rest) digit ∙ plain) (ap (λ n. n + 1) more)
+    let one = one_token b bs rest location at (digit_prefix b (bs ++ rest) digit ∙ plain) (ap (λ n. n + 1) more)
     (λ t k e. (k, ap number_of e ∙ digits_number b bs h.whole ∙ h.value)) in
     record { passed = one.passed; end = one.end; following = one.following; same = one.same; says = (small, one.says) }
 
@@ -148,7 +148,7 @@ number_token limit n small (b ∷ bs) h rest ends place at =
 pub number_lexed : (limit n : ℕ) → n < limit → n < 10 ^ 64 → Lexed (NumberPhrase limit n) (count_bytes n)
 unfolding count_bytes
 number_lexed limit n small short = record {
-  lex = λ rest place at stops. number_token limit n small (decimal n) (numeral n short) rest (ends_number rest stops) place at;
+  lex = λ rest location at stops. number_token limit n small (decimal n) (numeral n short) rest (ends_number rest stops) location at;
 }
 
 pub count_lexed : (n : ℕ) → n < count_limit → Lexed (NumberPhrase count_limit n) (count_bytes n)
@@ -164,8 +164,8 @@ suffix_digits (b ∷ bs) some whole =
 
 -- `#i`
 pub pack_number_lexed : (n : ℕ) → n < count_limit
-    → Lexed (One (λ (t : Lexeme). (t.kind ≡ kind.ResultNumber) × (number_in 10 0 (content_of kind.ResultNumber t.text) ≡ n))) (35 ∷ count_bytes n)
-unfolding front_of sign_front count_bytes
+    → Lexed (One (λ (t : TextToken). (t.kind ≡ kind.ResultNumber) × (number_in 10 0 (content_of kind.ResultNumber t.text) ≡ n))) (35 ∷ count_bytes n)
+unfolding prefix_of sign_prefix count_bytes
 pack_number_lexed n small =
     let (some, whole, value, _) = digits_of n small in
     let (suffix, first) = suffix_digits (decimal n) some whole in
@@ -199,13 +199,13 @@ glued_lexed w small =
 
 -- ---- integers
 
-minus_token : (ds rest : List ℕ) → 1 ≤ length ds → run is_digit ds ≡ length ds → (place : Place) (at : ℕ)
-    → IsLexed (Mark kind.Minus) (45 ∷ []) (ds ++ rest) place at
-unfolding front_of sign_front
-minus_token [] rest some whole place at = absurd (omega (arith, some))
-minus_token (b ∷ bs) rest some whole place at =
+minus_token : (ds rest : List ℕ) → 1 ≤ length ds → run is_digit ds ≡ length ds → (location : Location) (at : ℕ)
+    → IsLexed (Mark kind.Minus) (45 ∷ []) (ds ++ rest) location at
+unfolding prefix_of sign_prefix
+minus_token [] rest some whole location at = absurd (omega (arith, some))
+minus_token (b ∷ bs) rest some whole location at =
     let (digit, others) = first_digit b bs whole in
-    one_token 45 [] ((b ∷ bs) ++ rest) place at (cond-false (b == 62) _ _ (unlike_byte is_digit b 62 refl digit)) refl (λ t k e. k)
+    one_token 45 [] ((b ∷ bs) ++ rest) location at (cond-false (b == 62) _ _ (unlike_byte is_digit b 62 refl digit)) refl (λ t k e. k)
 
 further_is : (n : ℕ) → suc n < number_limit → further_bytes n ≡ decimal (n + 1)
 further_is n small = let other : (n == 340282366920938463463374607431768211455) ≡ false = grind (arith, small) in cond-false _ _ _ other
@@ -218,9 +218,9 @@ negative_is n =
 
 minus_lexed : (n : ℕ) → suc n < number_limit → Lexed (Then (Mark kind.Minus) (NumberPhrase number_limit (n + 1))) (codes "-" ++ decimal (n + 1))
 minus_lexed n small = record {
-  lex = λ rest place at stops.
+  lex = λ rest location at stops.
       let h = numeral (n + 1) (omega (arith, small)) in
-      let one = minus_token (decimal (n + 1)) rest h.some h.whole place at in
+      let one = minus_token (decimal (n + 1)) rest h.some h.whole location at in
       joined one (number_token number_limit (n + 1) (omega (arith, small)) (decimal (n + 1)) h rest (ends_number rest stops) one.end one.following);
 }
 

@@ -4,7 +4,7 @@ use Rattle.std.specs.Prelude.{codes}
 use Rattle.hw_model.specs.Types.{Name}
 use Rattle.hw_model.specs.Kinds.{Predicate}
 use Rattle.hw_model.specs.Kinds.Predicate.{eq, ne, slt, sle, sgt, sge, ult, ule, ugt, uge, ceq, cne, weq, wne}
-use Rattle.mlir_lexer.specs.Tokens.{Lexeme}
+use Rattle.mlir_lexer.specs.Tokens.{TextToken}
 use Rattle.mlir_lexer.specs.declared.token.TokenKind.{TokenKind}
 use Rattle.mlir_lexer.specs.declared.token.TokenKind.TheVariants as kind
 use Rattle.assembly_format.specs.Formats.{text_of_keyword}
@@ -17,8 +17,9 @@ use Rattle.mlir_printer.specs.Strings.{is_bare}
 use Rattle.mlir_printer.specs.Commas.{commas}
 use Rattle.mlir_printer.specs.Elements.{ValueText, value_name_bytes, pack_number_bytes, operand_bytes, mark_bytes, word_bytes, predicate_bytes}
 use Rattle.mlir_printer.specs.Spellable.{IsValueName, IsNumber, IsOperand, IsMark, said_number, said_operand}
-use Rattle.canonical_form.specs.Bytes.{Each}
-use Rattle.mlir_printer.proofs.lexed.LexedTexts.{Stops, Whole, Lexed, lexed, lexed_as, then, nothing, blank_after, blank_on_whole, left_parenthesis, right_parenthesis, left_brace, right_brace, left_bracket, right_bracket, less_mark, greater_mark}
+use Rattle.stored_form.specs.Bytes.{Each}
+use Rattle.mlir_printer.proofs.lexed.LexedTexts.{Stops, Whole, Lexed, lexed, lexed_as, then, nothing, blank_after, blank_on_whole, left_parenthesis, right_parenthesis, left_brace, right_brace}
+use Rattle.mlir_printer.proofs.lexed.LexedTexts.{left_bracket, right_bracket, less_mark, greater_mark}
 use Rattle.mlir_printer.proofs.lexed.LexedNames.{bare_lexed, value_name_lexed}
 use Rattle.mlir_printer.proofs.lexed.LexedNumbers.{pack_number_lexed}
 use Rattle.mlir_printer.proofs.lexed.LexedCommas.{comma_blank, blank_colon, blank_equals, blank_arrow, commas_lexed, each_of}
@@ -42,7 +43,7 @@ unfolding operand_bytes value_name_bytes
 operand_stops o rest = refl
 
 -- a list is said item by item
-pub commas_said : {A B : Type 0} (P : B → Phrase) (f : A → B) (xs : List A) (ts : List Lexeme) → Commas (λ x. P (f x)) xs ts → Commas P (map f xs) ts
+pub commas_said : {A B : Type 0} (P : B → Phrase) (f : A → B) (xs : List A) (ts : List TextToken) → Commas (λ x. P (f x)) xs ts → Commas P (map f xs) ts
 commas_said P f [] ts h = h
 commas_said P f (x ∷ []) ts h = h
 commas_said P f (x ∷ y ∷ xs) ts h =

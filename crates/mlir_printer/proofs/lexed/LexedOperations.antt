@@ -1,21 +1,21 @@
 -- Operations are read as they are printed.
 use Rattle.std.proofs.Common.{◌≡◌, inl, ℕ, Bool, true, false, cond, List, [], ◌∷◌, ◌++◌, map, Option, Some, None, refl, ap, subst, append_assoc}
 use Rattle.std.specs.Prelude.{codes}
-use Rattle.diag.specs.Place.{start_place}
+use Rattle.diag.specs.Location.{start_location}
 use Rattle.opcode.specs.Listed.{name_of_listed}
-use Rattle.diag.specs.declared.refusal.Place.{Place}
+use Rattle.diag.specs.declared.refusal.Location.{Location}
 use Rattle.opcode.specs.declared.listed.Listed.{Listed}
 use Rattle.opcode.specs.declared.listed.Listed.TheVariants as listed
 use Rattle.hw_model.specs.Types.{Name}
 use Rattle.hw_model.specs.Design.{Entry}
-use Rattle.mlir_lexer.specs.Tokens.{Lexeme}
+use Rattle.mlir_lexer.specs.Tokens.{TextToken}
 use Rattle.mlir_lexer.specs.declared.token.TokenKind.{TokenKind}
 use Rattle.mlir_lexer.specs.declared.token.TokenKind.TheVariants as kind
 use Rattle.mlir_operations.specs.OperandText.{ResultNames}
 use Rattle.mlir_operations.specs.OperandText.ResultNames.{no_names, names, pack}
-use Rattle.assembly_format.specs.Formats.{format_of, front_elements, type_elements}
+use Rattle.assembly_format.specs.Formats.{format_of, prefix_elements, type_elements}
 use Rattle.mlir_operations.specs.ElementText.{Gathered, gathered_nothing}
-use Rattle.canonical_form.specs.Dictionaries.{string_keys, takes_bin}
+use Rattle.stored_form.specs.Dictionaries.{string_keys, takes_bin}
 use Rattle.mlir_syntax.specs.Spelling.{One, MaybeDictionary}
 use Rattle.mlir_operations.specs.Spelling.{Stands, ResultsPhrase, ElementsPhrase, IsOneOf, FormPhrase, BinPhrase, MayHaveFormat, OperationPhrase, OperationsPhrase, ValueName}
 use Rattle.assembly_format.specs.declared.elements.FormatElement.{FormatElement}
@@ -26,7 +26,7 @@ use Rattle.mlir_printer.specs.Attributes.{dictionary_bytes}
 use Rattle.mlir_printer.specs.Elements.{Pending, ValueText, value_name_bytes, elements_bytes}
 use Rattle.mlir_printer.specs.Operations.{OperationText, results_bytes, bin_bytes, is_truth_view, output_format, format_shown, after_blank, left_after_all, form_bytes, shaped_bytes, operation_bytes, operation_line, operation_lines}
 use Rattle.mlir_printer.specs.Spellable.{IsDictionary, said_pending, said_operation}
-use Rattle.mlir_printer.specs.SpellableModules.{AreResults, gathered_front, IsViewAs, IsSpellableOperation, AreSpellable}
+use Rattle.mlir_printer.specs.SpellableModules.{AreResults, gathered_prefix, IsViewAs, IsSpellableOperation, AreSpellable}
 use Rattle.mlir_printer.proofs.lexed.LexedTexts.{Stops, Whole, Lexed, lexed, lexed_as, whole_as, then, then_on, then_whole, closed, nothing, blank, blank_on, line_after, after_nothing, with_nothing, colon_mark}
 use Rattle.mlir_printer.proofs.lexed.LexedNames.{bare_lexed, value_name_lexed}
 use Rattle.mlir_printer.proofs.lexed.LexedNumbers.{count_lexed}
@@ -34,9 +34,9 @@ use Rattle.mlir_printer.proofs.lexed.LexedCommas.{blank_equals, commas_lexed, ea
 use Rattle.mlir_printer.proofs.lexed.LexedAttributes.{dictionary_lexed}
 use Rattle.mlir_printer.proofs.lexed.LexedElements.{elements_lexed, elements_stop, stops_at, is_parted}
 
--- places are not told
+-- locations are not told
 abbrev pub Anywhere : Stands
-Anywhere t place = Unit {0}
+Anywhere t location = Unit {0}
 
 -- ---- names of results
 
@@ -56,15 +56,15 @@ unfolding name_of_listed
 name_bare listed.HwModule = refl
 name_bare _ = refl
 
-pub operation_name : (o : Listed) (place : Place)
-    → Lexed (One (λ (t : Lexeme). (t.kind ≡ kind.BareName) × (t.text ≡ name_of_listed o) × Anywhere t place)) (name_of_listed o)
-operation_name o place = lexed_as (λ ts w. (w.0, w.1, (w.2.0, w.2.1, tt))) (bare_lexed (name_of_listed o) (name_bare o))
+pub operation_name : (o : Listed) (location : Location)
+    → Lexed (One (λ (t : TextToken). (t.kind ≡ kind.BareName) × (t.text ≡ name_of_listed o) × Anywhere t location)) (name_of_listed o)
+operation_name o location = lexed_as (λ ts w. (w.0, w.1, (w.2.0, w.2.1, tt))) (bare_lexed (name_of_listed o) (name_bare o))
 
 -- ---- forms
 
 -- the pieces of each form can be told apart, and no token goes on into those before its types
-format_parts : (s : Format) → (is_parted (front_elements s) ≡ true) × (is_parted (type_elements s) ≡ true) × (stops_at (type_elements s) ≡ true)
-unfolding front_elements type_elements
+format_parts : (s : Format) → (is_parted (prefix_elements s) ≡ true) × (is_parted (type_elements s) ≡ true) × (stops_at (type_elements s) ≡ true)
+unfolding prefix_elements type_elements
 format_parts format.Variadic = (refl, refl, refl)
 format_parts format.Binary = (refl, refl, refl)
 format_parts format.Comparison = (refl, refl, refl)
@@ -89,8 +89,8 @@ format_parts format.EnabledRegister = (refl, refl, refl)
 format_parts format.ClockedRegister = (refl, refl, refl)
 
 -- a token that is a name of a kind
-sample : TokenKind → Lexeme
-sample k = record { kind = k; place = start_place; at = 0; text = [] }
+sample : TokenKind → TextToken
+sample k = record { kind = k; location = start_location; at = 0; text = [] }
 
 constant_format : (b : Bool) → MayHaveFormat listed.HwConstant (cond b format.Truth format.Integer)
 unfolding format_of sample
@@ -109,10 +109,10 @@ may_have listed.HwConstant p = constant_format (is_truth_view p.types p.inherent
 may_have listed.HwOutput p = output_may p.operands
 may_have _ p = (None, refl)
 
-front_lexed : (xs : List FormatElement) (p : Pending) (g h : Gathered) → Lexed (ElementsPhrase xs g h) (elements_bytes xs p)
+prefix_lexed : (xs : List FormatElement) (p : Pending) (g h : Gathered) → Lexed (ElementsPhrase xs g h) (elements_bytes xs p)
     → Lexed (ElementsPhrase xs g h) (after_blank xs (elements_bytes xs p))
-front_lexed [] p g h one = one
-front_lexed (x ∷ xs) p g h one = blank_on one
+prefix_lexed [] p g h one = one
+prefix_lexed (x ∷ xs) p g h one = blank_on one
 
 -- a dictionary where there is an entry
 given : List Entry → Option (List Entry)
@@ -130,40 +130,40 @@ unfolding given dictionary_bytes
 given_lexed strings [] h = lexed nothing
 given_lexed strings (e ∷ es) h = blank_on (lexed (dictionary_lexed strings (e ∷ es) h))
 
-pub dictionary_stops : (front : List ℕ) → ((rest : List ℕ) → Stops (front ++ rest)) → (es : List Entry) (rest : List ℕ) → Stops rest
-    → Stops (dictionary_bytes front es ++ rest)
+pub dictionary_stops : (prefix : List ℕ) → ((rest : List ℕ) → Stops (prefix ++ rest)) → (es : List Entry) (rest : List ℕ) → Stops rest
+    → Stops (dictionary_bytes prefix es ++ rest)
 unfolding dictionary_bytes
-dictionary_stops front first [] rest stops = stops
-dictionary_stops front first (e ∷ es) rest stops = rw (append_assoc front _ rest) (first _)
+dictionary_stops prefix first [] rest stops = stops
+dictionary_stops prefix first (e ∷ es) rest stops = rw (append_assoc prefix _ rest) (first _)
 
-front_stops : (xs : List FormatElement) (p : Pending) (rest : List ℕ) → Stops rest → Stops (after_blank xs (elements_bytes xs p) ++ rest)
-front_stops [] p rest stops = stops
-front_stops (x ∷ xs) p rest stops = refl
+prefix_stops : (xs : List FormatElement) (p : Pending) (rest : List ℕ) → Stops rest → Stops (after_blank xs (elements_bytes xs p) ++ rest)
+prefix_stops [] p rest stops = stops
+prefix_stops (x ∷ xs) p rest stops = refl
 
 -- what stands after the pieces before the types
 after_stops : (s : Format) (p : Pending) (es : List Entry) → IsViewAs s p
-    → Stops (dictionary_bytes (codes " ") es ++ elements_bytes (type_elements s) (left_after_all (front_elements s) p))
+    → Stops (dictionary_bytes (codes " ") es ++ elements_bytes (type_elements s) (left_after_all (prefix_elements s) p))
 after_stops s p es h =
-    dictionary_stops (codes " ") (λ rest. refl) es (elements_bytes (type_elements s) (left_after_all (front_elements s) p))
-    (elements_stop (type_elements s) (left_after_all (front_elements s) p) (gathered_front s p) h.types (format_parts s).2)
+    dictionary_stops (codes " ") (λ rest. refl) es (elements_bytes (type_elements s) (left_after_all (prefix_elements s) p))
+    (elements_stop (type_elements s) (left_after_all (prefix_elements s) p) (gathered_prefix s p) h.types (format_parts s).2)
 
-form_stops : (s : Format) (p : Pending) (es : List Entry) → IsViewAs s p → Stops (form_bytes (front_elements s) (type_elements s) p es)
+form_stops : (s : Format) (p : Pending) (es : List Entry) → IsViewAs s p → Stops (form_bytes (prefix_elements s) (type_elements s) p es)
 unfolding form_bytes
-form_stops s p es h = front_stops (front_elements s) p _ (after_stops s p es h)
+form_stops s p es h = prefix_stops (prefix_elements s) p _ (after_stops s p es h)
 
 -- a form is read as itself
 form_lexed : (strings : List Name) (s : Format) (p : Pending) (es : List Entry) → IsViewAs s p → IsDictionary strings es
-    → Lexed (FormPhrase strings s (said_pending p) es) (form_bytes (front_elements s) (type_elements s) p es)
+    → Lexed (FormPhrase strings s (said_pending p) es) (form_bytes (prefix_elements s) (type_elements s) p es)
 unfolding form_bytes
 form_lexed strings s p es h d =
-    let types = elements_lexed (type_elements s) (left_after_all (front_elements s) p) (gathered_front s p) h.types (format_parts s).1 in
-    let inherent_view = subst (λ x. Lexed (ElementsPhrase (type_elements s) (gathered_front s p) x)
-    (elements_bytes (type_elements s) (left_after_all (front_elements s) p))) h.all types in
+    let types = elements_lexed (type_elements s) (left_after_all (prefix_elements s) p) (gathered_prefix s p) h.types (format_parts s).1 in
+    let inherent_view = subst (λ x. Lexed (ElementsPhrase (type_elements s) (gathered_prefix s p) x)
+    (elements_bytes (type_elements s) (left_after_all (prefix_elements s) p))) h.all types in
     let following = then (given_lexed strings es d) (lexed_as with_nothing inherent_view)
-    (elements_stop (type_elements s) (left_after_all (front_elements s) p) (gathered_front s p) h.types (format_parts s).2) in
-    let front = front_lexed (front_elements s) p gathered_nothing (gathered_front s p)
-    (elements_lexed (front_elements s) p gathered_nothing h.front (format_parts s).0) in
-    lexed_as (λ ts w. (gathered_front s p, given es, None, given_once es, w)) (then front following (after_stops s p es h))
+    (elements_stop (type_elements s) (left_after_all (prefix_elements s) p) (gathered_prefix s p) h.types (format_parts s).2) in
+    let prefix = prefix_lexed (prefix_elements s) p gathered_nothing (gathered_prefix s p)
+    (elements_lexed (prefix_elements s) p gathered_nothing h.prefix (format_parts s).0) in
+    lexed_as (λ ts w. (gathered_prefix s p, given es, None, given_once es, w)) (then prefix following (after_stops s p es h))
 
 -- ---- operations
 
@@ -185,7 +185,7 @@ operation_lexed o h =
     let form = form_lexed (string_keys o.name) s o.pending o.dictionary h.form h.dictionary in
     let tail = lexed_as (λ ts w. (s, may_have o.name o.pending, w)) form in
     let stops = form_stops s o.pending o.dictionary h.form in
-    let name = then (operation_name o.name start_place) (then (bin_lexed o.name o.bin h.bin) tail stops) (bin_stops o.bin _ stops) in
+    let name = then (operation_name o.name start_location) (then (bin_lexed o.name o.bin h.bin) tail stops) (bin_stops o.bin _ stops) in
     lexed_as (λ ts w. (h.stands, w)) (then_on (results_whole o.results h.results) name)
 
 line_whole : (o : OperationText) → IsSpellableOperation o → Whole (OperationPhrase Anywhere (said_operation o)) (operation_line o)

@@ -7,14 +7,14 @@ use Rattle.std.proofs.lemmas.Bool.{cond-true, cond-false, eqb-true, and_parts, n
 use Rattle.mlir_lexer.specs.Classes.{is_hex_digit}
 use Rattle.mlir_lexer.specs.Strings.{is_escape_letter, reading_after, string_rest, string_length}
 use Rattle.mlir_lexer.specs.Contents.{hex_value, decode, unescape, content_of}
-use Rattle.mlir_lexer.specs.Fronts.{front_of, sign_front, string_token}
+use Rattle.mlir_lexer.specs.Prefixes.{prefix_of, sign_prefix, string_token}
 use Rattle.mlir_lexer.specs.declared.token.TokenKind.TheVariants as kind
 use Rattle.mlir_lexer.specs.declared.strings.Reading.TheVariants.{Plain, Escape, HexPair, Closed}
 use Rattle.mlir_lexer.specs.declared.contents.Pending.TheVariants.{Nothing as NothingPending}
 use Rattle.mlir_lexer.proofs.StringEnds.{string_rest-closed}
 use Rattle.mlir_syntax.specs.Spelling.{Holding}
 use Rattle.mlir_printer.specs.Strings.{is_plain, hex_digit, escaped_byte, escaped_bytes, string_bytes}
-use Rattle.canonical_form.specs.Bytes.{AreBytes}
+use Rattle.stored_form.specs.Bytes.{AreBytes}
 use Rattle.mlir_printer.proofs.lexed.LexedTexts.{Whole, one_token}
 
 -- ---- tests
@@ -157,21 +157,21 @@ symbol_content text small =
     let e = quoted_count text in
     body_bytes text small (suc (suc (length (quoted_bytes text))) - 3) (omega (arith, e))
 
-string_front : (bs : List ℕ) → front_of 34 bs ≡ string_token kind.StringLiteral 0 (string_length bs)
-unfolding front_of sign_front
-string_front bs = refl
+string_prefix : (bs : List ℕ) → prefix_of 34 bs ≡ string_token kind.StringLiteral 0 (string_length bs)
+unfolding prefix_of sign_prefix
+string_prefix bs = refl
 
-symbol_string_front : (bs : List ℕ) → front_of 64 (34 ∷ bs) ≡ string_token kind.SymbolString 1 (string_length bs)
-unfolding front_of sign_front
-symbol_string_front bs = refl
+symbol_string_prefix : (bs : List ℕ) → prefix_of 64 (34 ∷ bs) ≡ string_token kind.SymbolString 1 (string_length bs)
+unfolding prefix_of sign_prefix
+symbol_string_prefix bs = refl
 
 -- a string is read as what it holds
 pub string_lexed : (text : List ℕ) → AreBytes text → Whole (Holding kind.StringLiteral text) (string_bytes text)
 unfolding string_bytes
 string_lexed text small = record {
-  lex = λ rest place at.
-      one_token 34 (quoted_bytes text) rest place at
-      (string_front (quoted_bytes text ++ rest) ∙ ap (string_token kind.StringLiteral 0) (quoted_length text small rest)) (omega arith)
+  lex = λ rest location at.
+      one_token 34 (quoted_bytes text) rest location at
+      (string_prefix (quoted_bytes text ++ rest) ∙ ap (string_token kind.StringLiteral 0) (quoted_length text small rest)) (omega arith)
       (λ t k e. (k, ap (content_of kind.StringLiteral) e ∙ string_content text small));
 }
 
@@ -179,8 +179,8 @@ string_lexed text small = record {
 pub symbol_string_lexed : (text : List ℕ) → AreBytes text → Whole (Holding kind.SymbolString text) ((64 ∷ []) ++ string_bytes text)
 unfolding string_bytes
 symbol_string_lexed text small = record {
-  lex = λ rest place at.
-      one_token 64 (34 ∷ quoted_bytes text) rest place at
-      (symbol_string_front (quoted_bytes text ++ rest) ∙ ap (string_token kind.SymbolString 1) (quoted_length text small rest)) (omega arith)
+  lex = λ rest location at.
+      one_token 64 (34 ∷ quoted_bytes text) rest location at
+      (symbol_string_prefix (quoted_bytes text ++ rest) ∙ ap (string_token kind.SymbolString 1) (quoted_length text small rest)) (omega arith)
       (λ t k e. (k, ap (content_of kind.SymbolString) e ∙ symbol_content text small));
 }

@@ -10,11 +10,11 @@ use Rattle.hw_model.specs.TypeViews.{NamedType, fields_of}
 use Rattle.mlir_syntax.specs.Numerals.{count_limit}
 use Rattle.mlir_syntax.specs.Spelling.{Phrase, Then, NumberPhrase, ElementPhrase, FieldPhrase, TypeWith, TypePhrase}
 use Rattle.mlir_printer.specs.Strings.{name_bytes}
-use Rattle.printable_designs.specs.Numbers.{count_bytes}
+use Rattle.printing_laws.specs.Numbers.{count_bytes}
 use Rattle.mlir_printer.specs.Commas.{comma_bytes, items_from}
 use Rattle.mlir_printer.specs.Types.{type_bytes, fields_from}
-use Rattle.canonical_form.specs.Bytes.{Each, AreBytes}
-use Rattle.canonical_form.specs.Limits.{IsType, AreFields}
+use Rattle.stored_form.specs.Bytes.{Each, AreBytes}
+use Rattle.stored_form.specs.Limits.{IsType, AreFields}
 use Rattle.mlir_printer.proofs.lexed.LexedTexts.{Lexed, lexed, lexed_as, lexed_by, then, then_on, joined, less_mark, greater_mark}
 use Rattle.mlir_printer.proofs.lexed.LexedCommas.{colon_blank, commas_lexed, between}
 use Rattle.mlir_printer.proofs.lexed.LexedNames.{bare_lexed, name_lexed, type_word_lexed}
@@ -41,9 +41,9 @@ elements_lexed : (Inner : HwType → Phrase) (n : ℕ) (t : HwType) → n < coun
     → Lexed (Then (NumberPhrase count_limit n) (ElementPhrase Inner t)) (count_bytes n ++ (codes "x" ++ type_bytes t))
 unfolding count_bytes
 elements_lexed Inner n t small element = record {
-  lex = λ rest place at stops.
+  lex = λ rest location at stops.
       let ends : EndsNumber ((codes "x" ++ type_bytes t) ++ rest) = record { digits = refl; base = no_hex t rest } in
-      let one = number_token count_limit n small _ (numeral n (omega (arith, small))) ((codes "x" ++ type_bytes t) ++ rest) ends place at in
+      let one = number_token count_limit n small _ (numeral n (omega (arith, small))) ((codes "x" ++ type_bytes t) ++ rest) ends location at in
       joined one (element.lex rest one.end one.following stops);
 }
 

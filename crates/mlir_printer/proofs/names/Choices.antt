@@ -20,10 +20,10 @@ use Rattle.mlir_printer.proofs.names.GivenNames.{push_free, word_unlike, number_
 
 -- ---- the names
 
-first_front : (i : ℕ) (ws : List Name) (w : Name) → i < length ws → first_name (drop i (ws ++ w ∷ [])) ≡ first_name (drop i ws)
-first_front i [] w lt = absurd (omega (arith, lt))
-first_front zero (v ∷ ws) w lt = refl
-first_front (suc i) (v ∷ ws) w lt = first_front i ws w (omega (arith, lt))
+first_prefix : (i : ℕ) (ws : List Name) (w : Name) → i < length ws → first_name (drop i (ws ++ w ∷ [])) ≡ first_name (drop i ws)
+first_prefix i [] w lt = absurd (omega (arith, lt))
+first_prefix zero (v ∷ ws) w lt = refl
+first_prefix (suc i) (v ∷ ws) w lt = first_prefix i ws w (omega (arith, lt))
 
 first_last : (ws : List Name) (w : Name) → first_name (drop (length ws) (ws ++ w ∷ [])) ≡ w
 first_last [] w = refl
@@ -31,7 +31,7 @@ first_last (v ∷ ws) w = first_last ws w
 
 -- a word more changes no name
 name_stays_so : (ws : List Name) (w : Name) (n : ℕ) (c : Choice) → number_of c < limit (length ws) n c → name_chosen (ws ++ w ∷ []) c ≡ name_chosen ws c
-name_stays_so ws w n (Word id) lt = first_front id.index ws w lt
+name_stays_so ws w n (Word id) lt = first_prefix id.index ws w lt
 name_stays_so ws w n (Number k) lt = refl
 
 pub word_more : (ws : List Name) (w : Name) (n : ℕ) (cs : List Choice) (id : NameId) → AreKnown (length ws) n cs → id.index ≡ length ws

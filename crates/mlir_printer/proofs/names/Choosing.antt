@@ -8,7 +8,7 @@ use Rattle.fresh_names.specs.Fresh.{fresh, free_name}
 use Rattle.fresh_names.proofs.Taken.{one_more}
 use Rattle.mlir_printer.specs.Strings.{standing}
 use Rattle.mlir_printer.specs.Naming.{hints_or_numbers}
-use Rattle.printable_designs.specs.NameHints.{constant_name_hint}
+use Rattle.printing_laws.specs.NameHints.{constant_name_hint}
 use Rattle.mlir_printer.specs.Chosen.{Chosen, with_name_hint, with_name_hints}
 
 pub name_hints_append : (c : Chosen) (xs ys : List (Option Name)) → with_name_hints c (xs ++ ys) ≡ with_name_hints (with_name_hints c xs) ys

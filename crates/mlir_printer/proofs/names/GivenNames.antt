@@ -62,7 +62,7 @@ pub record IsDigits (name : Name) : Type 0 where
 -- a suffix that begins with no digit
 pub record IsWord (name : Name) : Type 0 where
   pub some : 1 ≤ length name
-  pub front : begins is_digit name ≡ false
+  pub prefix : begins is_digit name ≡ false
   pub whole : AllMeet is_suffix_byte name
 
 digits_begin : (name : Name) → IsDigits name → begins is_digit name ≡ true
@@ -78,7 +78,7 @@ digits_value name h = record {
 pub word_value : (name : Name) → IsWord name → IsValueName name
 word_value name h = record {
   some = h.some;
-  whole = cond-false (begins is_digit name) (run is_digit name) (run is_suffix_byte name) h.front ∙ run_all is_suffix_byte name h.whole;
+  whole = cond-false (begins is_digit name) (run is_digit name) (run is_suffix_byte name) h.prefix ∙ run_all is_suffix_byte name h.whole;
 }
 
 -- digits alone are no name of their own
@@ -93,7 +93,7 @@ word_not_digits (b ∷ bs) h = go (nat_eq (run is_digit (b ∷ bs)) (length (b �
     go false e = e
     go true e =
         let whole : cond (is_digit b) (run is_digit bs + 1) 0 ≡ suc (length bs) = eqb-true (run is_digit (b ∷ bs)) (length (b ∷ bs)) e in
-        let none : cond (is_digit b) (run is_digit bs + 1) 0 ≡ 0 = cond-false (is_digit b) (run is_digit bs + 1) 0 h.front in
+        let none : cond (is_digit b) (run is_digit bs + 1) 0 ≡ 0 = cond-false (is_digit b) (run is_digit bs + 1) 0 h.prefix in
         absurd (omega (arith, whole, none))
 
 pub decimal_digits : (n : ℕ) → n < 2 ^ 64 → IsDigits (decimal n)
@@ -115,7 +115,7 @@ stands_word (b ∷ bs) h =
     let p = and_parts (not (is_digit b)) (nat_eq (run is_suffix_byte (b ∷ bs)) (length (b ∷ bs))) h in
     record {
       some = omega arith;
-      front = not-true (is_digit b) p.0;
+      prefix = not-true (is_digit b) p.0;
       whole = all_run is_suffix_byte (b ∷ bs)
           (eqb-true (run is_suffix_byte (b ∷ bs)) (length (b ∷ bs)) p.1);
     }
@@ -126,7 +126,7 @@ standing_word name = go (stands name) refl
   where
     go : (t : Bool) → stands name ≡ t → IsWord (cond t name (95 ∷ map suffix_byte name))
     go true e = stands_word name e
-    go false e = record { some = omega arith; front = refl; whole = (refl, suffixes name) }
+    go false e = record { some = omega arith; prefix = refl; whole = (refl, suffixes name) }
 
 -- ---- a free name begins as the one that is wanted
 
@@ -164,7 +164,7 @@ begins_free taken (b ∷ bs) some small = ap (begins is_digit) (free_begins take
 begins_word : (w name : Name) → IsWord w → Begins w name → IsWord name
 begins_word [] name h b = let s = h.some in absurd (omega (arith, s))
 begins_word (x ∷ w) name h b =
-    subst IsWord (sym b.is) (record { some = omega arith; front = h.front; whole = all_append is_suffix_byte (x ∷ w) b.more h.whole b.whole })
+    subst IsWord (sym b.is) (record { some = omega arith; prefix = h.prefix; whole = all_append is_suffix_byte (x ∷ w) b.more h.whole b.whole })
 
 -- ---- the names that are given
 
@@ -218,7 +218,7 @@ names_suit n taken (Some w ∷ ws) small few free =
     let word : IsWord x = begins_word (standing w) x (standing_word w) (free_begins taken (standing w) (omega (arith, small))) in (
       word,
       names_suit n (taken ++ x ∷ []) ws (omega (arith, one_more taken x, small)) (omega (arith, few))
-          (λ k le lt. push_free taken x (decimal k) (free k le lt) (word_unlike x k lt word.front)),
+          (λ k le lt. push_free taken x (decimal k) (free k le lt) (word_unlike x k lt word.prefix)),
     )
 
 pub given_suit : (ws : List (Option Name)) → length ws < 2 ^ 64 → Suits ws (fresh [] (hints_or_numbers 0 ws))

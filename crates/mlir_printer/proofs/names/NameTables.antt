@@ -84,9 +84,9 @@ no_marks m (d ∷ ds) new =
 abbrev pub StandsForNone : Meanings → List Name → Type 0
 StandsForNone m taken = (q : Name) → is_taken taken q ≡ false → m q ≡ None
 
-taken_front : (ts : List Name) (n q : Name) → is_taken (ts ++ n ∷ []) q ≡ false → is_taken ts q ≡ false
-taken_front [] n q h = refl
-taken_front (t ∷ ts) n q h = go (pointwise nat_eq t q) h (taken_front ts n q)
+taken_prefix : (ts : List Name) (n q : Name) → is_taken (ts ++ n ∷ []) q ≡ false → is_taken ts q ≡ false
+taken_prefix [] n q h = refl
+taken_prefix (t ∷ ts) n q h = go (pointwise nat_eq t q) h (taken_prefix ts n q)
   where
     go : (b : Bool) → cond b true (is_taken (ts ++ n ∷ []) q) ≡ false → (is_taken (ts ++ n ∷ []) q ≡ false → is_taken ts q ≡ false)
         → cond b true (is_taken ts q) ≡ false
@@ -109,7 +109,7 @@ taken_last (t ∷ ts) n q h = go (pointwise nat_eq t q) h (taken_last ts n q)
 one_more : (m : Meanings) (taken : List Name) (d : Definition) → StandsForNone m taken → StandsForNone (with_definition m d) (taken ++ d.name ∷ [])
 one_more m taken d none q h =
     let other : same_name q d.name ≡ false = nat_list_eq_equiv.symm q d.name ∙ taken_last taken d.name q h in
-    ap (λ o. known_or o (cond (same_name q d.name) (Some d.defined) None)) (none q (taken_front taken d.name q h))
+    ap (λ o. known_or o (cond (same_name q d.name) (Some d.defined) None)) (none q (taken_prefix taken d.name q h))
     ∙ ap (λ b. known_or None (cond b (Some d.defined) None)) other
 
 names_new : (m : Meanings) (taken : List Name) (ds : List Definition) → StandsForNone m taken → AreFresh taken (map (λ (d : Definition). d.name) ds)

@@ -11,10 +11,10 @@ use Rattle.mlir_reader.specs.Resolving.{Definition, names_from, names_defined, p
 use Rattle.mlir_reader.specs.Resolving.Defined.{are_results}
 use Rattle.mlir_printer.specs.Elements.{ValueText}
 use Rattle.mlir_printer.specs.Naming.{input_count, first_name, firsts, listed_names, results_named}
-use Rattle.printable_designs.proofs.NameCounts.{pack_kind, pack_named}
-use Rattle.printable_designs.specs.NameHints.{name_hints, name_count, body_name_hints, port_name_hint, port_name_hints, is_pack}
+use Rattle.printing_laws.proofs.NameCounts.{pack_kind, pack_named}
+use Rattle.printing_laws.specs.NameHints.{name_hints, name_count, body_name_hints, port_name_hint, port_name_hints, is_pack}
 use Rattle.mlir_printer.specs.Texts.{operations_shown, operation_shown, ports_shown}
-use Rattle.printable_designs.specs.Parts.{parts_in}
+use Rattle.printing_laws.specs.Parts.{parts_in}
 use Rattle.mlir_printer.specs.Spellable.{said_operation, said_port}
 
 abbrev pub name_of : Definition → Name

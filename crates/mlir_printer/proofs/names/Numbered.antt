@@ -49,10 +49,10 @@ names_step f count first i xs x out one two whole lt at inv e1 e2 =
     added out one two (comma_bytes i) (f x) (items_from f (i + 1) (firsts (count - (i + 1)) (drop (first + (i + 1)) xs))) whole
     (sym (ap (λ l. out ++ items_from f i l) d) ∙ inv) e1 e2
 
-front_at : {A B : Type 0} (f : A → B) (xs : List A) (x : A) (i : ℕ) → i < length xs → slice_get (map f (xs ++ x ∷ [])) i ≡ slice_get (map f xs) i
-front_at f [] x i lt = absurd (omega (arith, lt))
-front_at f (y ∷ ys) x zero lt = refl
-front_at f (y ∷ ys) x (suc i) lt = front_at f ys x i (omega (arith, lt))
+prefix_at : {A B : Type 0} (f : A → B) (xs : List A) (x : A) (i : ℕ) → i < length xs → slice_get (map f (xs ++ x ∷ [])) i ≡ slice_get (map f xs) i
+prefix_at f [] x i lt = absurd (omega (arith, lt))
+prefix_at f (y ∷ ys) x zero lt = refl
+prefix_at f (y ∷ ys) x (suc i) lt = prefix_at f ys x i (omega (arith, lt))
 
 last_at : {A B : Type 0} (f : A → B) (xs : List A) (x : A) → slice_get (map f (xs ++ x ∷ [])) (length xs) ≡ Some (f x)
 last_at f [] x = refl
@@ -64,7 +64,7 @@ pub known_push : {A B : Type 0} (f : A → B) (g : ℕ → B) (xs : List A) (x :
 known_push f g xs x known e i lt = go (nat_lt i (length xs)) refl
   where
     go : (b : Bool) → nat_lt i (length xs) ≡ b → slice_get (map f (xs ++ x ∷ [])) i ≡ Some (g i)
-    go true t = front_at f xs x i (ltb-true i (length xs) t) ∙ known i (ltb-true i (length xs) t)
+    go true t = prefix_at f xs x i (ltb-true i (length xs) t) ∙ known i (ltb-true i (length xs) t)
     go false t =
         let same : length xs ≡ i = omega (arith, ltb-false i (length xs) t, lt) in
         ap (λ k. slice_get (map f (xs ++ x ∷ [])) k) (sym same) ∙ last_at f xs x ∙ ap (λ y. Some y) e ∙ ap (λ k. Some (g k)) same

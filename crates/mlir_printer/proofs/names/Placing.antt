@@ -11,7 +11,7 @@ use Rattle.linked_lists.specs.Ids.{times}
 use Rattle.ir_store.specs.Live.{AreDistinct}
 use Rattle.ir_store.specs.Numbered.{position_of}
 use Rattle.mlir_printer.specs.Naming.{first_name, name_value_text, port_value, value_at, value_in}
-use Rattle.printable_designs.specs.NameHints.{is_pack, name_count, port_name_hint}
+use Rattle.printing_laws.specs.NameHints.{is_pack, name_count, port_name_hint}
 use Rattle.mlir_printer.specs.Elements.{no_value}
 use Rattle.mlir_printer.specs.Places.{no_place, place_at, place_in, place_for, port_places}
 use Rattle.mlir_printer.specs.Shown.{parts_in_body}

@@ -11,7 +11,7 @@ use Rattle.ir_store.specs.declared.operation.Value.TheVariants as value
 use Rattle.ir_store.specs.BodyOps.{BodyOp, ids_in}
 use Rattle.ir_store.specs.Numbered.{position_of, ref_by}
 use Rattle.mlir_printer.specs.Naming.{hints_or_numbers, input_count, names_given, value_named}
-use Rattle.printable_designs.specs.NameHints.{port_name_hints, body_name_hints}
+use Rattle.printing_laws.specs.NameHints.{port_name_hints, body_name_hints}
 use Rattle.mlir_printer.specs.Chosen.{Chosen, with_name_hints}
 use Rattle.mlir_printer.specs.Choices.{name_chosen}
 use Rattle.mlir_printer.specs.Places.{HavePlaces, port_places}

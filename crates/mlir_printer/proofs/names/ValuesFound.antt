@@ -10,9 +10,9 @@ use Rattle.mlir_reader.specs.Resolving.{Meanings, Definition, names_from, names_
 use Rattle.mlir_reader.specs.Resolving.Defined.{is_port, are_results}
 use Rattle.mlir_printer.specs.Elements.{ValueText, no_value}
 use Rattle.mlir_printer.specs.Naming.{first_name, name_value_text, firsts, value_at, value_in, port_value, results_named}
-use Rattle.printable_designs.specs.NameHints.{name_count, port_name_hint, is_pack}
+use Rattle.printing_laws.specs.NameHints.{name_count, port_name_hint, is_pack}
 use Rattle.mlir_printer.specs.Texts.{operations_shown, operation_shown, ports_shown, port_shown}
-use Rattle.printable_designs.specs.Parts.{parts_in}
+use Rattle.printing_laws.specs.Parts.{parts_in}
 use Rattle.mlir_printer.specs.Spellable.{said_operand, said_operation, said_port}
 use Rattle.mlir_printer.proofs.names.NameTables.{Among, Finds, finds_left, finds_right}
 use Rattle.mlir_printer.proofs.names.NamedDefinitions.{pack_defined, each_defined}

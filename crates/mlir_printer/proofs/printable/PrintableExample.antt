@@ -4,14 +4,14 @@ use Rattle.hw_model.specs.Types.{Name, HwType}
 use Rattle.hw_model.specs.Types.HwType.{int}
 use Rattle.hw_model.specs.Kinds.Variadic.{add}
 use Rattle.hw_model.specs.Kinds.Kind.{variadic, output}
-use Rattle.hw_model.specs.Design.{Port, Module, nowhere_place}
+use Rattle.hw_model.specs.Design.{Port, Module, no_location}
 use Rattle.hw_model.specs.Design.Ref.{port, result}
 use Rattle.ir_store.specs.ResultTypes.{result_types, result_type}
-use Rattle.mlir_reader.specs.Spelling.{SpellsPlacelessly}
-use Rattle.printable_designs.specs.NameHints.{name_hints_of}
+use Rattle.mlir_reader.specs.Spelling.{SpellsUnlocated}
+use Rattle.printing_laws.specs.NameHints.{name_hints_of}
 use Rattle.mlir_printer.specs.Texts.{ir_text}
 use Rattle.op_checks.specs.CountChecks.{operands_written, type_count}
-use Rattle.printable_designs.specs.Printable.{Printable}
+use Rattle.printing_laws.specs.Printable.{Printable}
 use Rattle.mlir_printer.proofs.again.PrintedDesigns.{printable_designs_are_spelled}
 
 byte : HwType
@@ -36,7 +36,7 @@ adder = record {
         name = [];
         dictionary = [];
         bin = false;
-        place = nowhere_place;
+        location = no_location;
       }
       ∷ record {
         kind = output;
@@ -47,10 +47,10 @@ adder = record {
         name = [];
         dictionary = [];
         bin = false;
-        place = nowhere_place;
+        location = no_location;
       }
       ∷ [];
-  place = nowhere_place;
+  location = no_location;
 }
 
 adder_is_printable : Printable (adder ∷ [])
@@ -107,5 +107,5 @@ adder_is_printable = (
   tt,
 )
 
-adder_is_spelled : SpellsPlacelessly (ir_text (adder ∷ [])) (adder ∷ [])
+adder_is_spelled : SpellsUnlocated (ir_text (adder ∷ [])) (adder ∷ [])
 adder_is_spelled = printable_designs_are_spelled (adder ∷ []) adder_is_printable

@@ -43,7 +43,8 @@ put_items name m (x ∷ xs) f = go (is_lt (slice_cmp nat_cmp x.key (codes "name"
         → items_from f (m + 1) (named_entries name xs)
         ≡ items_from f (m + 1) (take (place_of_name xs) xs) ++ (comma_bytes (m + 1 + place_of_name xs) ++ (f (name_entry name) ++ items_from f (m + 1 + place_of_name xs + 1) (drop (place_of_name xs) xs)))
         → items_from f m (cond b (x ∷ named_entries name xs) (name_entry name ∷ x ∷ xs))
-        ≡ items_from f m (take (cond b (suc (place_of_name xs)) 0) (x ∷ xs)) ++ (comma_bytes (m + cond b (suc (place_of_name xs)) 0) ++ (f (name_entry name) ++ items_from f (m + cond b (suc (place_of_name xs)) 0 + 1) (drop (cond b (suc (place_of_name xs)) 0) (x ∷ xs))))
+        ≡ items_from f m (take (cond b (suc (place_of_name xs)) 0) (x ∷ xs)) ++ (comma_bytes (m + cond b (suc (place_of_name xs)) 0)
+        ++ (f (name_entry name) ++ items_from f (m + cond b (suc (place_of_name xs)) 0 + 1) (drop (cond b (suc (place_of_name xs)) 0) (x ∷ xs))))
     go true r =
         let e : m + 1 + place_of_name xs ≡ m + suc (place_of_name xs) = omega arith in
         let rest : ℕ → List ℕ = λ k. comma_bytes k ++ (f (name_entry name) ++ items_from f (k + 1) (drop (place_of_name xs) xs)) in

@@ -12,7 +12,7 @@ use Rattle.mlir_printer.specs.declared.inherent_view.Pending.{Pending}
 use Rattle.std.proofs.Math.Seq.{drop-nil}
 use Rattle.wiring.proofs.Joined.{split_at}
 use Rattle.hw_model.specs.Design.{Port}
-use Rattle.printable_designs.specs.NameHints.{port_name_hint}
+use Rattle.printing_laws.specs.NameHints.{port_name_hint}
 use Rattle.mlir_printer.specs.Modules.{port_bytes}
 use Rattle.mlir_printer.specs.Texts.{port_shown, ports_shown}
 use Rattle.mlir_printer.proofs.steps.Steps.{added}

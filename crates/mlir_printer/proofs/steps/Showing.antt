@@ -10,12 +10,12 @@ use Rattle.ir_store.specs.BodyOps.{BodyOp, ids_in}
 use Rattle.ir_store.specs.Numbered.{position_of, ref_by, op_by, ops_by_position}
 use Rattle.ir_store.specs.Designs.{StoredModule, numbered_module}
 use Rattle.mlir_printer.specs.Naming.{input_count, names_given, value_named}
-use Rattle.printable_designs.specs.NameHints.{name_count}
+use Rattle.printing_laws.specs.NameHints.{name_count}
 use Rattle.mlir_printer.specs.Elements.{ValueText}
 use Rattle.mlir_printer.specs.Operations.{OperationText, operation_line, operation_lines}
 use Rattle.mlir_printer.specs.Modules.{ModuleText, header_bytes, module_bytes}
 use Rattle.mlir_printer.specs.Texts.{operation_shown, operations_shown, module_named, module_shown}
-use Rattle.printable_designs.specs.Parts.{parts_in}
+use Rattle.printing_laws.specs.Parts.{parts_in}
 use Rattle.mlir_printer.specs.Shown.{stored_shown, header_shown, parts_in_body}
 use Rattle.mlir_printer.proofs.steps.Passing.{drop_again}
 use Rattle.mlir_printer.proofs.steps.Steps.{added_one}

@@ -12,7 +12,7 @@ use Rattle.mlir_printer.specs.Commas.{comma_bytes, items_from}
 use Rattle.mlir_printer.specs.Strings.{name_bytes}
 use Rattle.mlir_printer.specs.Types.{type_bytes, fields_from}
 use Rattle.mlir_printer.specs.Attributes.{attribute_bytes, attributes_from}
-use Rattle.printable_designs.specs.Numbers.{shown_literal, shown_literals}
+use Rattle.printing_laws.specs.Numbers.{shown_literal, shown_literals}
 use Rattle.mlir_printer.specs.Literals.{literal_bytes, literals_from}
 
 -- two parts added, one after the other

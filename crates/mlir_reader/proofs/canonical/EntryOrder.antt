@@ -11,8 +11,8 @@ use Rattle.std.proofs.lemmas.Cmp.{nat_list_cmp_total}
 use Rattle.hw_model.specs.Types.{Name}
 use Rattle.hw_model.specs.Design.{Entry, same_name}
 use Rattle.hw_model.specs.Equality.{name_self}
-use Rattle.canonical_form.specs.Bytes.{Each}
-use Rattle.canonical_form.specs.Dictionaries.{AreInOrder}
+use Rattle.stored_form.specs.Bytes.{Each}
+use Rattle.stored_form.specs.Dictionaries.{AreInOrder}
 use Rattle.mlir_reader.specs.Resolving.{put_entry}
 
 abbrev pub is_less : Entry → Entry → Bool

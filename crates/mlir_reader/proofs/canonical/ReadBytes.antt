@@ -2,8 +2,8 @@
 use Rattle.std.proofs.Common.{◌≡◌, ℕ, zero, suc, ◌+◌, ◌-◌, ◌<◌, ◌≤◌, Bool, true, false, cond, ◌&&◌, ◌==◌, List, [], ◌∷◌, ◌++◌, map, take, drop, length, refl, ap, ◌∙◌, sym, subst, inl, inr, arith, length-append}
 use Rattle.std.specs.Prelude.{ℤ, pos, negsuc, nat_le, Result, Ok, Err, ⊤}
 use Rattle.std.proofs.lemmas.Bool.{and_parts, leb-true}
-use Rattle.diag.specs.Place.{start_place, next_place}
-use Rattle.diag.specs.declared.refusal.Place.{Place}
+use Rattle.diag.specs.Location.{start_location, next_location}
+use Rattle.diag.specs.declared.refusal.Location.{Location}
 use Rattle.diag.specs.declared.refusal.Refusal.{Refusal}
 use Rattle.hw_model.specs.Types.{Name, HwType, FieldTypes}
 use Rattle.hw_model.specs.Types.HwType.{int, clock, array, struct}
@@ -14,28 +14,29 @@ use Rattle.hw_model.specs.Design.{Attribute, Attributes, Entry}
 use Rattle.hw_model.specs.Design.Attribute.{unit_value, text_value, symbol_value, truth_value, integer_value, list_value}
 use Rattle.mlir_lexer.specs.Classes.{is_digit, is_hex_digit}
 use Rattle.mlir_lexer.specs.Contents.{hex_value, unescape_byte, decode, content_of}
-use Rattle.mlir_lexer.specs.Fronts.{front_of}
-use Rattle.mlir_lexer.specs.Tokens.{Lexeme, lex_front, tokens_after, tokens}
+use Rattle.mlir_lexer.specs.Prefixes.{prefix_of}
+use Rattle.mlir_lexer.specs.Tokens.{TextToken, lex_prefix, tokens_after, tokens}
 use Rattle.mlir_lexer.specs.declared.contents.Pending.{Pending}
 use Rattle.mlir_lexer.specs.declared.contents.Pending.TheVariants.{Nothing, Backslash, HighDigit}
-use Rattle.mlir_lexer.specs.declared.fronts.Front.{Front}
-use Rattle.mlir_lexer.specs.declared.fronts.Front.TheVariants.{LineEnd, Gap, Token, Bad}
+use Rattle.mlir_lexer.specs.declared.prefixes.Prefix.{Prefix}
+use Rattle.mlir_lexer.specs.declared.prefixes.Prefix.TheVariants.{LineEnd, Gap, Token, Bad}
 use Rattle.mlir_lexer.specs.declared.token.TokenKind.{TokenKind}
 use Rattle.mlir_lexer.specs.declared.token.TokenKind.TheVariants as kind
 use Rattle.mlir_syntax.specs.Numerals.{number_limit, negative}
 use Rattle.mlir_syntax.specs.TypeText.{most_open}
 use Rattle.mlir_syntax.specs.AttributeText.{is_among, in_order}
 use Rattle.mlir_syntax.specs.LiteralText.{literals_in_order, truth_leaf}
-use Rattle.mlir_syntax.specs.Spelling.{Phrase, Then, Commas, Holding, NamePhrase, SymbolPhrase, IntegerPhrase, ElementPhrase, FieldPhrase, FieldsPhrase, TypeWith, TypePhrase, IntegerType, AttributePhrase, ValuePhrase, EntryPhrase, LiteralWith, PartsPhrase, LiteralPhrase, AggregatePhrase}
+use Rattle.mlir_syntax.specs.Spelling.{Phrase, Then, Commas, Holding, NamePhrase, SymbolPhrase, IntegerPhrase, ElementPhrase, FieldPhrase, FieldsPhrase, TypeWith, TypePhrase, IntegerType}
+use Rattle.mlir_syntax.specs.Spelling.{AttributePhrase, ValuePhrase, EntryPhrase, LiteralWith, PartsPhrase, LiteralPhrase, AggregatePhrase}
 use Rattle.mlir_operations.specs.Spelling.{token_of}
-use Rattle.canonical_form.specs.Bytes.{Each, AreBytes}
-use Rattle.canonical_form.specs.Limits.{IsInteger, IsType, AreFields, IsLiteral, AreLiterals, IsAttribute, AreAttributes, IsValue, IsEntry}
+use Rattle.stored_form.specs.Bytes.{Each, AreBytes}
+use Rattle.stored_form.specs.Limits.{IsInteger, IsType, AreFields, IsLiteral, AreLiterals, IsAttribute, AreAttributes, IsValue, IsEntry}
 
 -- ---- the tokens of bytes
 
 -- the text of each token is bytes
-abbrev pub AreTexts : List Lexeme → Type 0
-AreTexts ts = Each (λ (t : Lexeme). AreBytes t.text) ts
+abbrev pub AreTexts : List TextToken → Type 0
+AreTexts ts = Each (λ (t : TextToken). AreBytes t.text) ts
 
 take_bytes : (n : ℕ) (bs : List ℕ) → AreBytes bs → AreBytes (take n bs)
 take_bytes zero bs h = tt
@@ -47,69 +48,69 @@ drop_bytes zero bs h = h
 drop_bytes (suc n) [] h = tt
 drop_bytes (suc n) (b ∷ bs) h = drop_bytes n bs h.1
 
-abbrev HasBytes : Result Lexeme Refusal → Type 0
+abbrev HasBytes : Result TextToken Refusal → Type 0
 HasBytes (Ok t) = AreBytes t.text
 HasBytes (Err r) = ⊤
 
-told_bytes : (f : Front) (place : Place) (at : ℕ) (bytes : List ℕ) (later : ℕ → List (Result Lexeme Refusal)) → AreBytes bytes
-    → ((n : ℕ) → Each HasBytes (later n)) → Each HasBytes (lex_front f place at bytes later)
-told_bytes LineEnd place at bytes later h l = l 0
-told_bytes (Gap n) place at bytes later h l = l (n - 1)
-told_bytes (Token k n) place at bytes later h l = (take_bytes n bytes h, l (n - 1))
-told_bytes (Bad n) place at bytes later h l = (tt, tt)
+told_bytes : (f : Prefix) (location : Location) (at : ℕ) (bytes : List ℕ) (later : ℕ → List (Result TextToken Refusal)) → AreBytes bytes
+    → ((n : ℕ) → Each HasBytes (later n)) → Each HasBytes (lex_prefix f location at bytes later)
+told_bytes LineEnd location at bytes later h l = l 0
+told_bytes (Gap n) location at bytes later h l = l (n - 1)
+told_bytes (Token k n) location at bytes later h l = (take_bytes n bytes h, l (n - 1))
+told_bytes (Bad n) location at bytes later h l = (tt, tt)
 
-tokens_bytes : (skipped : ℕ) (place : Place) (at : ℕ) (bytes : List ℕ) → AreBytes bytes → Each HasBytes (tokens_after skipped place at bytes)
+tokens_bytes : (skipped : ℕ) (location : Location) (at : ℕ) (bytes : List ℕ) → AreBytes bytes → Each HasBytes (tokens_after skipped location at bytes)
 unfolding tokens_after
-tokens_bytes skipped place at [] h = tt
-tokens_bytes zero place at (b ∷ bs) h =
-    told_bytes (front_of b bs) place at (b ∷ bs) (λ more. tokens_after more (next_place place b) (at + 1) bs) h
-    (λ n. tokens_bytes n (next_place place b) (at + 1) bs h.1)
-tokens_bytes (suc skipped) place at (b ∷ bs) h = tokens_bytes skipped (next_place place b) (at + 1) bs h.1
+tokens_bytes skipped location at [] h = tt
+tokens_bytes zero location at (b ∷ bs) h =
+    told_bytes (prefix_of b bs) location at (b ∷ bs) (λ more. tokens_after more (next_location location b) (at + 1) bs) h
+    (λ n. tokens_bytes n (next_location location b) (at + 1) bs h.1)
+tokens_bytes (suc skipped) location at (b ∷ bs) h = tokens_bytes skipped (next_location location b) (at + 1) bs h.1
 
-told_few : (f : Front) (place : Place) (at : ℕ) (bytes : List ℕ) (later : ℕ → List (Result Lexeme Refusal)) (n : ℕ)
-    → ((k : ℕ) → length (later k) ≤ n) → length (lex_front f place at bytes later) ≤ suc n
-told_few LineEnd place at bytes later n l = let e = l 0 in omega (arith, e)
-told_few (Gap k) place at bytes later n l = let e = l (k - 1) in omega (arith, e)
-told_few (Token t k) place at bytes later n l = let e = l (k - 1) in omega (arith, e)
-told_few (Bad k) place at bytes later n l = omega arith
+told_few : (f : Prefix) (location : Location) (at : ℕ) (bytes : List ℕ) (later : ℕ → List (Result TextToken Refusal)) (n : ℕ)
+    → ((k : ℕ) → length (later k) ≤ n) → length (lex_prefix f location at bytes later) ≤ suc n
+told_few LineEnd location at bytes later n l = let e = l 0 in omega (arith, e)
+told_few (Gap k) location at bytes later n l = let e = l (k - 1) in omega (arith, e)
+told_few (Token t k) location at bytes later n l = let e = l (k - 1) in omega (arith, e)
+told_few (Bad k) location at bytes later n l = omega arith
 
-tokens_few : (skipped : ℕ) (place : Place) (at : ℕ) (bytes : List ℕ) → length (tokens_after skipped place at bytes) ≤ length bytes
+tokens_few : (skipped : ℕ) (location : Location) (at : ℕ) (bytes : List ℕ) → length (tokens_after skipped location at bytes) ≤ length bytes
 unfolding tokens_after
-tokens_few skipped place at [] = omega arith
-tokens_few zero place at (b ∷ bs) =
-    told_few (front_of b bs) place at (b ∷ bs) (λ more. tokens_after more (next_place place b) (at + 1) bs) (length bs)
-    (λ n. tokens_few n (next_place place b) (at + 1) bs)
-tokens_few (suc skipped) place at (b ∷ bs) = let e = tokens_few skipped (next_place place b) (at + 1) bs in omega (arith, e)
+tokens_few skipped location at [] = omega arith
+tokens_few zero location at (b ∷ bs) =
+    told_few (prefix_of b bs) location at (b ∷ bs) (λ more. tokens_after more (next_location location b) (at + 1) bs) (length bs)
+    (λ n. tokens_few n (next_location location b) (at + 1) bs)
+tokens_few (suc skipped) location at (b ∷ bs) = let e = tokens_few skipped (next_location location b) (at + 1) bs in omega (arith, e)
 
-of_tokens : (ts : List Lexeme) → Each HasBytes (map token_of ts) → AreTexts ts
+of_tokens : (ts : List TextToken) → Each HasBytes (map token_of ts) → AreTexts ts
 of_tokens [] h = tt
 of_tokens (t ∷ ts) h = (h.0, of_tokens ts h.1)
 
-length_tokens : (ts : List Lexeme) → length (map token_of ts) ≡ length ts
+length_tokens : (ts : List TextToken) → length (map token_of ts) ≡ length ts
 length_tokens [] = refl
 length_tokens (t ∷ ts) = ap suc (length_tokens ts)
 
-pub texts_of : (source : List ℕ) (ts : List Lexeme) → AreBytes source → tokens source ≡ map token_of ts → AreTexts ts
-texts_of source ts h e = of_tokens ts (subst (λ l. Each HasBytes l) e (tokens_bytes 0 start_place 0 source h))
+pub texts_of : (source : List ℕ) (ts : List TextToken) → AreBytes source → tokens source ≡ map token_of ts → AreTexts ts
+texts_of source ts h e = of_tokens ts (subst (λ l. Each HasBytes l) e (tokens_bytes 0 start_location 0 source h))
 
-pub count_of : (source : List ℕ) (ts : List Lexeme) → tokens source ≡ map token_of ts → length ts ≤ length source
-count_of source ts e = let f = tokens_few 0 start_place 0 source in let l = ap length e ∙ length_tokens ts in omega (arith, f, l)
+pub count_of : (source : List ℕ) (ts : List TextToken) → tokens source ≡ map token_of ts → length ts ≤ length source
+count_of source ts e = let f = tokens_few 0 start_location 0 source in let l = ap length e ∙ length_tokens ts in omega (arith, f, l)
 
-parts_of : (ts a b : List Lexeme) → ts ≡ a ++ b → AreTexts ts → AreTexts a × AreTexts b
+parts_of : (ts a b : List TextToken) → ts ≡ a ++ b → AreTexts ts → AreTexts a × AreTexts b
 parts_of ts a b e h = split a b (subst AreTexts e h)
   where
-    split : (a b : List Lexeme) → AreTexts (a ++ b) → AreTexts a × AreTexts b
+    split : (a b : List TextToken) → AreTexts (a ++ b) → AreTexts a × AreTexts b
     split [] b h = (tt, h)
     split (t ∷ a) b h = let r = split a b h.1 in ((h.0, r.0), r.1)
 
--- symbols that say a phrase and are texts, at most so many
+-- tokens that say a phrase and are texts, at most so many
 pub record Said (P : Phrase) (most : ℕ) : Type 0 where
-  pub symbols : List Lexeme
+  pub symbols : List TextToken
   pub texts : AreTexts symbols
   pub few : length symbols ≤ most
   pub is : P symbols
 
-unfoldable pub said : {P : Phrase} (ts : List Lexeme) → AreTexts ts → P ts → Said P (length ts)
+unfoldable pub said : {P : Phrase} (ts : List TextToken) → AreTexts ts → P ts → Said P (length ts)
 said ts texts h = record { symbols = ts; texts = texts; few = omega arith; is = h }
 
 -- the first of two phrases, and the other
@@ -127,7 +128,7 @@ said_then x =
     let few = x.few in
     record { symbols = h.1; texts = (parts_of x.symbols h.0 h.1 h.2 x.texts).1; few = omega (arith, c, few); is = h.4 }
 
--- together they have as many symbols as both
+-- together they have as many tokens as both
 pub said_count : {P Q : Phrase} {most : ℕ} (x : Said (Then P Q) most) → length x.symbols ≡ length (said_first x).symbols + length (said_then x).symbols
 unfolding said_first said_then
 said_count x = let h = x.is in ap length h.2 ∙ length-append h.0 h.1
@@ -186,23 +187,23 @@ content_bytes kind.AttributeAlias text h = drop_bytes 1 text h
 content_bytes kind.TypeName text h = drop_bytes 1 text h
 content_bytes _ text h = h
 
-pub held_bytes : (k : TokenKind) (content : List ℕ) (ts : List Lexeme) → AreTexts ts → Holding k content ts → AreBytes content
+pub held_bytes : (k : TokenKind) (content : List ℕ) (ts : List TextToken) → AreTexts ts → Holding k content ts → AreBytes content
 held_bytes k content ts texts h =
     let here : AreTexts (h.0 ∷ []) = subst AreTexts h.1 texts in
     subst AreBytes h.2.1 (content_bytes k h.0.text here.0)
 
-pub name_bytes_read : (name : Name) (ts : List Lexeme) → AreTexts ts → NamePhrase name ts → AreBytes name
+pub name_bytes_read : (name : Name) (ts : List TextToken) → AreTexts ts → NamePhrase name ts → AreBytes name
 name_bytes_read name ts texts (inl h) = held_bytes kind.BareName name ts texts h
 name_bytes_read name ts texts (inr h) = held_bytes kind.StringLiteral name ts texts h
 
-pub symbol_bytes_read : (name : Name) (ts : List Lexeme) → AreTexts ts → SymbolPhrase name ts → AreBytes name
+pub symbol_bytes_read : (name : Name) (ts : List TextToken) → AreTexts ts → SymbolPhrase name ts → AreBytes name
 symbol_bytes_read name ts texts (inl h) = held_bytes kind.SymbolName name ts texts h
 symbol_bytes_read name ts texts (inr h) = held_bytes kind.SymbolString name ts texts h
 
 -- ---- lists with commas
 
-pub each_read : {A : Type 0} (P : A → Phrase) (Q : A → Type 0) → ((x : A) (ts : List Lexeme) → AreTexts ts → P x ts → Q x)
-    → (xs : List A) (ts : List Lexeme) → AreTexts ts → Commas P xs ts → Each Q xs
+pub each_read : {A : Type 0} (P : A → Phrase) (Q : A → Type 0) → ((x : A) (ts : List TextToken) → AreTexts ts → P x ts → Q x)
+    → (xs : List A) (ts : List TextToken) → AreTexts ts → Commas P xs ts → Each Q xs
 each_read P Q f [] ts texts h = tt
 each_read P Q f (x ∷ []) ts texts h = (f x ts texts h, tt)
 each_read P Q f (x ∷ y ∷ xs) ts texts h =
@@ -213,7 +214,7 @@ each_read P Q f (x ∷ y ∷ xs) ts texts h =
 
 -- ---- numbers
 
-pub integer_read : (z : ℤ) (ts : List Lexeme) → IntegerPhrase z ts → IsInteger z
+pub integer_read : (z : ℤ) (ts : List TextToken) → IntegerPhrase z ts → IsInteger z
 integer_read z ts (inl h) = subst IsInteger (sym h.1) h.2.0
 integer_read z ts (inr h) = subst IsInteger (sym h.1) (below h.0 h.2.4.0)
   where
@@ -226,8 +227,8 @@ integer_read z ts (inr h) = subst IsInteger (sym h.1) (below h.0 h.2.4.0)
 
 -- ---- types
 
-element_read : (Inner : HwType → Phrase) (room : ℕ) → ((t : HwType) (ts : List Lexeme) → AreTexts ts → Inner t ts → IsType t room)
-    → (t : HwType) (ts : List Lexeme) → AreTexts ts → ElementPhrase Inner t ts → IsType t room
+element_read : (Inner : HwType → Phrase) (room : ℕ) → ((t : HwType) (ts : List TextToken) → AreTexts ts → Inner t ts → IsType t room)
+    → (t : HwType) (ts : List TextToken) → AreTexts ts → ElementPhrase Inner t ts → IsType t room
 element_read Inner room inner t ts texts (inl h) = let type = said_then (said ts texts h) in inner t type.symbols type.texts type.is
 element_read Inner room inner (int w) ts texts (inr h) = h.2.1.2.3
 element_read Inner room inner clock ts texts (inr h) = absurd h
@@ -237,8 +238,8 @@ element_read Inner room inner (struct fs) ts texts (inr h) = absurd h
 abbrev IsField : ℕ → NamedType → Type 0
 IsField room f = AreBytes f.name × IsType f.type room
 
-pub field_read : (Inner : HwType → Phrase) (room : ℕ) → ((t : HwType) (ts : List Lexeme) → AreTexts ts → Inner t ts → IsType t room)
-    → (f : NamedType) (ts : List Lexeme) → AreTexts ts → FieldPhrase Inner f ts → AreBytes f.name × IsType f.type room
+pub field_read : (Inner : HwType → Phrase) (room : ℕ) → ((t : HwType) (ts : List TextToken) → AreTexts ts → Inner t ts → IsType t room)
+    → (f : NamedType) (ts : List TextToken) → AreTexts ts → FieldPhrase Inner f ts → AreBytes f.name × IsType f.type room
 field_read Inner room inner f ts texts h =
     let both = said ts texts h in
     let name = said_first both in
@@ -249,16 +250,16 @@ fields_are : (room : ℕ) (fs : List NamedType) → Each (IsField room) fs → A
 fields_are room [] h = tt
 fields_are room (f ∷ fs) h = (h.0.0, h.0.1, fields_are room fs h.1)
 
-fields_read : (Inner : HwType → Phrase) (room : ℕ) → ((t : HwType) (ts : List Lexeme) → AreTexts ts → Inner t ts → IsType t room)
-    → (fs : FieldTypes) (ts : List Lexeme) → AreTexts ts → FieldsPhrase Inner (struct fs) ts → AreFields fs room
+fields_read : (Inner : HwType → Phrase) (room : ℕ) → ((t : HwType) (ts : List TextToken) → AreTexts ts → Inner t ts → IsType t room)
+    → (fs : FieldTypes) (ts : List TextToken) → AreTexts ts → FieldsPhrase Inner (struct fs) ts → AreFields fs room
 fields_read Inner room inner fs ts texts h =
     let same : fs ≡ fields_of h.0 = let e = h.1 in cc in
     let fields = said_first (said_then (said ts texts h.2)) in
     subst (λ (x : FieldTypes). AreFields x room) (sym same)
     (fields_are room h.0 (each_read (FieldPhrase Inner) (IsField room) (field_read Inner room inner) h.0 fields.symbols fields.texts fields.is))
 
-type_with : (Inner : HwType → Phrase) (room : ℕ) → ((t : HwType) (ts : List Lexeme) → AreTexts ts → Inner t ts → IsType t room)
-    → (t : HwType) (ts : List Lexeme) → AreTexts ts → TypeWith Inner t ts → IsType t (suc room)
+type_with : (Inner : HwType → Phrase) (room : ℕ) → ((t : HwType) (ts : List TextToken) → AreTexts ts → Inner t ts → IsType t room)
+    → (t : HwType) (ts : List TextToken) → AreTexts ts → TypeWith Inner t ts → IsType t (suc room)
 type_with Inner room inner (int w) ts texts h = h.2.1.2.3
 type_with Inner room inner clock ts texts h = tt
 type_with Inner room inner (array n t) ts texts h =
@@ -269,7 +270,7 @@ type_with Inner room inner (array n t) ts texts h =
 type_with Inner room inner (struct fs) ts texts h =
     let fields = said_then (said ts texts h) in fields_read Inner room inner fs fields.symbols fields.texts fields.is
 
-pub type_read : (room : ℕ) (t : HwType) (ts : List Lexeme) → AreTexts ts → TypePhrase room t ts → IsType t room
+pub type_read : (room : ℕ) (t : HwType) (ts : List TextToken) → AreTexts ts → TypePhrase room t ts → IsType t room
 type_read zero (int w) ts texts h = h.2.1.2.3
 type_read zero clock ts texts h = tt
 type_read zero (array n t) ts texts h = absurd h
@@ -282,14 +283,14 @@ literals_are : (room : ℕ) (ls : List Literal) → Each (λ (l : Literal). IsLi
 literals_are room [] h = tt
 literals_are room (l ∷ ls) h = (h.0, literals_are room ls h.1)
 
-pub parts_read : (Part : Literal → Phrase) (room : ℕ) → ((l : Literal) (ts : List Lexeme) → AreTexts ts → Part l ts → IsLiteral l room)
-    → (ls : Literals) (ts : List Lexeme) → AreTexts ts → PartsPhrase Part ls ts → AreLiterals ls room
+pub parts_read : (Part : Literal → Phrase) (room : ℕ) → ((l : Literal) (ts : List TextToken) → AreTexts ts → Part l ts → IsLiteral l room)
+    → (ls : Literals) (ts : List TextToken) → AreTexts ts → PartsPhrase Part ls ts → AreLiterals ls room
 parts_read Part room part ls ts texts h =
     let inner = said_first (said_then (said ts texts h.2)) in
     subst (λ (x : Literals). AreLiterals x room) (sym h.1)
     (literals_are room h.0 (each_read Part (λ (l : Literal). IsLiteral l room) part h.0 inner.symbols inner.texts inner.is))
 
-leaf_read : (room : ℕ) (Lists : Literals → Phrase) (z : ℤ) (t : HwType) (ts : List Lexeme) → AreTexts ts → LiteralWith Lists room (leaf z t) ts
+leaf_read : (room : ℕ) (Lists : Literals → Phrase) (z : ℤ) (t : HwType) (ts : List TextToken) → AreTexts ts → LiteralWith Lists room (leaf z t) ts
     → IsLiteral (leaf z t) room
 leaf_read room Lists z t ts texts (inl h) =
     let type = said_then (said_then (said ts texts h)) in
@@ -300,13 +301,13 @@ leaf_read room Lists z t ts texts (inr h) = subst (λ l. IsLiteral l room) (sym 
     small true = (omega arith, omega arith)
     small false = (omega arith, omega arith)
 
-literal_read : (room : ℕ) (l : Literal) (ts : List Lexeme) → AreTexts ts → LiteralPhrase room l ts → IsLiteral l room
+literal_read : (room : ℕ) (l : Literal) (ts : List TextToken) → AreTexts ts → LiteralPhrase room l ts → IsLiteral l room
 literal_read zero (leaf z t) ts texts h = leaf_read zero (λ ls ts. ⊥) z t ts texts h
 literal_read zero (parts ls) ts texts h = absurd h
 literal_read (suc room) (leaf z t) ts texts h = leaf_read (suc room) (PartsPhrase (LiteralPhrase room)) z t ts texts h
 literal_read (suc room) (parts ls) ts texts h = parts_read (LiteralPhrase room) room (literal_read room) ls ts texts h
 
-pub aggregate_read : (ls : Literals) (ts : List Lexeme) → AreTexts ts → AggregatePhrase ls ts → AreLiterals ls 31
+pub aggregate_read : (ls : Literals) (ts : List TextToken) → AreTexts ts → AggregatePhrase ls ts → AreLiterals ls 31
 aggregate_read ls ts texts h = parts_read (LiteralPhrase 31) 31 (literal_read 31) ls ts texts h
 
 -- ---- attributes and entries
@@ -315,11 +316,11 @@ attributes_are : (room : ℕ) (l : List Attribute) → Each (λ (a : Attribute).
 attributes_are room [] h = tt
 attributes_are room (a ∷ l) h = (h.0, attributes_are room l h.1)
 
-stored_type : (room : ℕ) (t : HwType) (ts : List Lexeme) → AreTexts ts → IntegerType room t ts → IsType t room
+stored_type : (room : ℕ) (t : HwType) (ts : List TextToken) → AreTexts ts → IntegerType room t ts → IsType t room
 stored_type room t ts texts (inl h) = let type = said_then (said ts texts h) in type_read room t type.symbols type.texts type.is
 stored_type room t ts texts (inr h) = subst (λ u. IsType u room) (sym h.0) (omega arith)
 
-pub attribute_read : (room : ℕ) (a : Attribute) (ts : List Lexeme) → AreTexts ts → AttributePhrase room a ts → IsAttribute a room
+pub attribute_read : (room : ℕ) (a : Attribute) (ts : List TextToken) → AreTexts ts → AttributePhrase room a ts → IsAttribute a room
 attribute_read zero unit_value ts texts h = h
 attribute_read zero (text_value text) ts texts h = held_bytes kind.StringLiteral text ts texts h
 attribute_read zero (symbol_value name) ts texts h = symbol_bytes_read name ts texts h
@@ -345,12 +346,12 @@ value_of b (truth_value t) e h = (e, h)
 value_of b (integer_value z t) e h = (e, h)
 value_of b (list_value inner) e h = (e, h)
 
-value_read : (strings : List Name) (e : Entry) (ts : List Lexeme) → AreTexts ts → ValuePhrase strings e ts → IsValue (is_among e.key strings) e.value
+value_read : (strings : List Name) (e : Entry) (ts : List TextToken) → AreTexts ts → ValuePhrase strings e ts → IsValue (is_among e.key strings) e.value
 value_read strings e ts texts (inl h) = value_of (is_among e.key strings) e.value h.0 (attribute_read most_open e.value ts texts h.1)
 value_read strings e ts texts (inr h) =
     subst (λ (a : Attribute). IsValue (is_among e.key strings) a) (sym h.1.1) (held_bytes kind.StringLiteral h.1.0 ts texts h.1.2)
 
-pub entry_read : (strings : List Name) (e : Entry) (ts : List Lexeme) → AreTexts ts → EntryPhrase strings e ts → IsEntry strings e
+pub entry_read : (strings : List Name) (e : Entry) (ts : List TextToken) → AreTexts ts → EntryPhrase strings e ts → IsEntry strings e
 entry_read strings e ts texts (inl h) =
     let both = said ts texts h in
     let key = said_first both in

@@ -4,7 +4,7 @@ use Rattle.std.specs.Prelude.{Option, Some, None, ⊤}
 use Rattle.hw_model.specs.Types.{Name}
 use Rattle.hw_model.specs.Types.HwType.{int}
 use Rattle.hw_model.specs.TypeViews.{NamedType}
-use Rattle.mlir_lexer.specs.Tokens.{Lexeme}
+use Rattle.mlir_lexer.specs.Tokens.{TextToken}
 use Rattle.mlir_lexer.specs.declared.token.TokenKind.TheVariants as kind
 use Rattle.mlir_syntax.specs.Numerals.{count_limit}
 use Rattle.mlir_syntax.specs.TypeText.{most_open}
@@ -14,9 +14,9 @@ use Rattle.mlir_syntax.specs.Spelling.{Phrase, TypePhrase}
 use Rattle.mlir_operations.specs.Spelling.{InputPhrase, OutputPhrase, InnerSymbol, InstancePhrase, ResetPhrase, FormatElementPhrase, ElementsPhrase}
 use Rattle.assembly_format.specs.declared.elements.FormatElement.{FormatElement}
 use Rattle.assembly_format.specs.declared.elements.FormatElement.TheVariants as element
-use Rattle.canonical_form.specs.Bytes.{Each, AreBytes, MayBeBytes}
-use Rattle.canonical_form.specs.Limits.{IsInteger, IsAnyType, AreLiterals}
-use Rattle.canonical_form.specs.Kinds.{IsWrittenInstance}
+use Rattle.stored_form.specs.Bytes.{Each, AreBytes, MayBeBytes}
+use Rattle.stored_form.specs.Limits.{IsInteger, IsAnyType, AreLiterals}
+use Rattle.stored_form.specs.Kinds.{IsWrittenInstance}
 use Rattle.mlir_reader.proofs.canonical.ReadBytes.{AreTexts, said, said_first, said_then, held_bytes, name_bytes_read, symbol_bytes_read, each_read, integer_read, type_read, field_read, aggregate_read}
 
 -- what is said besides operands and types is within its limits
@@ -53,18 +53,18 @@ IsInput j = AreBytes j.port × IsAnyType j.type
 abbrev IsOutput : NamedType → Type 0
 IsOutput q = AreBytes q.name × IsAnyType q.type
 
-input_read : (j : Joined) (ts : List Lexeme) → AreTexts ts → InputPhrase j ts → IsInput j
+input_read : (j : Joined) (ts : List TextToken) → AreTexts ts → InputPhrase j ts → IsInput j
 input_read j ts texts h =
     let all = said ts texts h in
     let port = said_first all in
     let type = said_then (said_then (said_then (said_then all))) in
     (name_bytes_read j.port port.symbols port.texts port.is, type_read most_open j.type type.symbols type.texts type.is)
 
-inner_read : (inner : Option Name) (ts : List Lexeme) → AreTexts ts → InnerSymbol inner ts → MayBeBytes inner
+inner_read : (inner : Option Name) (ts : List TextToken) → AreTexts ts → InnerSymbol inner ts → MayBeBytes inner
 inner_read None ts texts h = tt
 inner_read (Some name) ts texts h = let symbol = said_then (said ts texts h) in symbol_bytes_read name symbol.symbols symbol.texts symbol.is
 
-instance_read : (g h : Gathered) (ts : List Lexeme) → AreTexts ts → IsReadPart g → InstancePhrase g h ts → IsReadPart h
+instance_read : (g h : Gathered) (ts : List TextToken) → AreTexts ts → IsReadPart g → InstancePhrase g h ts → IsReadPart h
 instance_read g h ts texts r i =
     let all = said ts texts i.6 in
     let name = said_first all in
@@ -100,13 +100,13 @@ truth_read : (b : Bool) → IsInteger (truth_number b)
 truth_read true = omega arith
 truth_read false = omega arith
 
-reset_read : {Reset : Phrase} (g h : Gathered) (ts : List Lexeme) → IsReadPart g → ResetPhrase Reset with_reset g h ts → IsReadPart h
+reset_read : {Reset : Phrase} (g h : Gathered) (ts : List TextToken) → IsReadPart g → ResetPhrase Reset with_reset g h ts → IsReadPart h
 reset_read g h ts r i = subst IsReadPart (sym i.2) (record { types = r.types; inherent = tt })
 
-async_reset_read : {Reset : Phrase} (g h : Gathered) (ts : List Lexeme) → IsReadPart g → ResetPhrase Reset with_async_reset g h ts → IsReadPart h
+async_reset_read : {Reset : Phrase} (g h : Gathered) (ts : List TextToken) → IsReadPart g → ResetPhrase Reset with_async_reset g h ts → IsReadPart h
 async_reset_read g h ts r i = subst IsReadPart (sym i.2) (record { types = r.types; inherent = tt })
 
-element_read : (p : FormatElement) (g h : Gathered) (ts : List Lexeme) → AreTexts ts → IsReadPart g → FormatElementPhrase p g h ts → IsReadPart h
+element_read : (p : FormatElement) (g h : Gathered) (ts : List TextToken) → AreTexts ts → IsReadPart g → FormatElementPhrase p g h ts → IsReadPart h
 element_read (element.Mark k) g h ts texts r i = subst IsReadPart (sym i.0) r
 element_read (element.Word w) g h ts texts r i = subst IsReadPart (sym i.0) r
 element_read element.Operand g h ts texts r i = subst IsReadPart (sym i.1) (record { types = r.types; inherent = r.inherent })
@@ -139,7 +139,7 @@ element_read element.Types g h ts texts r i =
       inherent = r.inherent;
     })
 
-pub elements_read : (ps : List FormatElement) (g h : Gathered) (ts : List Lexeme) → AreTexts ts → IsReadPart g → ElementsPhrase ps g h ts → IsReadPart h
+pub elements_read : (ps : List FormatElement) (g h : Gathered) (ts : List TextToken) → AreTexts ts → IsReadPart g → ElementsPhrase ps g h ts → IsReadPart h
 elements_read [] g h ts texts r i = subst IsReadPart (sym i.0) r
 elements_read (p ∷ ps) g h ts texts r i =
     let both = said ts texts i.1 in

@@ -17,7 +17,7 @@ use Rattle.hw_model.specs.Design.Attribute.{text_value}
 use Rattle.ir_store.specs.ResultTypes.{result_types}
 use Rattle.mlir_lexer.specs.Classes.{is_digit}
 use Rattle.mlir_lexer.specs.Runs.{run}
-use Rattle.mlir_lexer.specs.Tokens.{Lexeme}
+use Rattle.mlir_lexer.specs.Tokens.{TextToken}
 use Rattle.mlir_lexer.specs.declared.token.TokenKind.TheVariants as kind
 use Rattle.mlir_syntax.specs.Numerals.{count_limit}
 use Rattle.mlir_syntax.specs.AttributeText.{is_among}
@@ -25,22 +25,23 @@ use Rattle.mlir_operations.specs.OperandText.{ResultNames}
 use Rattle.mlir_operations.specs.OperandText.ResultNames.{no_names, names, pack}
 use Rattle.mlir_operations.specs.ElementText.{InherentAttributes, Gathered, gathered_nothing}
 use Rattle.mlir_operations.specs.ElementText.InherentAttributes.{with_async_reset, position, number, literals, field_name, child}
-use Rattle.assembly_format.specs.Formats.{front_elements, type_elements}
+use Rattle.assembly_format.specs.Formats.{prefix_elements, type_elements}
 use Rattle.assembly_format.specs.declared.elements.Format.{Format}
 use Rattle.mlir_operations.specs.OperationText.{OperationText, given_entries}
-use Rattle.canonical_form.specs.Dictionaries.{takes_bin, string_keys}
+use Rattle.stored_form.specs.Dictionaries.{takes_bin, string_keys}
 use Rattle.mlir_reader.specs.Resolving as read
-use Rattle.mlir_reader.specs.Resolving.{Meanings, resolve_operand, inherent_position, inherent_number, inherent_literals, inherent_field, inherent_instance, firreg_kind, inherent_kind, kind_named, sort_entries, without, kept_entries, text_in, given_name, unless_digits, name_or, own_name_of, marks, marked_results, operation_definitions, operation_at}
-use Rattle.canonical_form.specs.Constants.{has_negative, kept_number, kept_integer, kept_by_first, kept_literal, kept_literals}
-use Rattle.canonical_form.specs.Dictionaries.{is_dropped, has_name, is_name_entry}
+use Rattle.mlir_reader.specs.Resolving.{Meanings, resolve_operand, inherent_position, inherent_number, inherent_literals, inherent_field, inherent_instance, firreg_kind, inherent_kind, kind_named}
+use Rattle.mlir_reader.specs.Resolving.{sort_entries, without, kept_entries, text_in, given_name, unless_digits, name_or, own_name_of, marks, marked_results, operation_definitions, operation_at}
+use Rattle.stored_form.specs.Constants.{has_negative, kept_number, kept_integer, kept_by_first, kept_literal, kept_literals}
+use Rattle.stored_form.specs.Dictionaries.{is_dropped, has_name, is_name_entry}
 use Rattle.mlir_operations.specs.Spelling.{Stands, IsOneOf, FormPhrase, BinPhrase, ResultsPhrase, StandsInBody, OperationPhrase}
 use Rattle.mlir_syntax.specs.Spelling.{AreOnce, DictionaryPhrase, EntryPhrase, MaybeDictionary}
-use Rattle.canonical_form.specs.Canonical.{IsCanonicalOp}
-use Rattle.canonical_form.specs.ResultTypes.{HaveTypes}
-use Rattle.canonical_form.specs.Bytes.{Each, AreBytes}
-use Rattle.canonical_form.specs.Limits.{IsInteger, IsLiteral, AreLiterals, IsValue, IsEntry}
-use Rattle.canonical_form.specs.Dictionaries.{AreInOrder, IsKeptDictionary}
-use Rattle.canonical_form.specs.Kinds.{KeepsConstants, IsWritten, IsWrittenInstance}
+use Rattle.stored_form.specs.Canonical.{IsCanonicalOp}
+use Rattle.stored_form.specs.ResultTypes.{HaveTypes}
+use Rattle.stored_form.specs.Bytes.{Each, AreBytes}
+use Rattle.stored_form.specs.Limits.{IsInteger, IsLiteral, AreLiterals, IsValue, IsEntry}
+use Rattle.stored_form.specs.Dictionaries.{AreInOrder, IsKeptDictionary}
+use Rattle.stored_form.specs.Kinds.{KeepsConstants, IsWritten, IsWrittenInstance}
 use Rattle.mlir_reader.proofs.canonical.EntryOrder.{put_in_order, each_put}
 use Rattle.mlir_reader.proofs.canonical.TokenCounts.{names_few}
 use Rattle.mlir_reader.proofs.canonical.ReadBytes.{AreTexts, said, said_first, said_then, held_bytes, each_read, entry_read}
@@ -71,11 +72,11 @@ once_apart : (earlier : List Name) (es : List Entry) → AreOnce earlier es → 
 once_apart earlier [] h = (tt, tt)
 once_apart earlier (e ∷ es) h =
     let r = once_apart (earlier ++ e.key ∷ []) es h.1 in
-    let front = each_weaker (λ (x : Entry). is_among x.key (earlier ++ e.key ∷ []) ≡ false) (λ (x : Entry). is_among x.key earlier ≡ false)
+    let prefix = each_weaker (λ (x : Entry). is_among x.key (earlier ++ e.key ∷ []) ≡ false) (λ (x : Entry). is_among x.key earlier ≡ false)
     (λ x a. (among_push x.key earlier e.key a).0) es r.0 in
     let apart = each_weaker (λ (x : Entry). is_among x.key (earlier ++ e.key ∷ []) ≡ false) (λ (x : Entry). same_name e.key x.key ≡ false)
     (λ x a. (among_push x.key earlier e.key a).1) es r.0 in
-    ((h.0, front), (apart, r.1))
+    ((h.0, prefix), (apart, r.1))
 
 each_without : (P : Entry → Type 0) (test : Entry → Bool) (es : List Entry) → Each P es → Each P (without test es)
 each_without P test [] h = tt
@@ -122,13 +123,13 @@ kept_read o strings es h = record {
   entries = each_sorted (IsEntry strings) (without (is_dropped o) es) (each_without (IsEntry strings) (is_dropped o) es h.each);
 }
 
-pub dictionary_read : (strings : List Name) (es : List Entry) (ts : List Lexeme) → AreTexts ts → DictionaryPhrase strings es ts
+pub dictionary_read : (strings : List Name) (es : List Entry) (ts : List TextToken) → AreTexts ts → DictionaryPhrase strings es ts
     → IsReadDictionary strings es
 dictionary_read strings es ts texts h =
     let entries = said_first (said_then (said ts texts h.1)) in
     record { once = h.0; each = each_read (EntryPhrase strings) (IsEntry strings) (entry_read strings) es entries.symbols entries.texts entries.is }
 
-maybe_read : (strings : List Name) (es : Option (List Entry)) (ts : List Lexeme) → AreTexts ts → MaybeDictionary strings es ts
+maybe_read : (strings : List Name) (es : Option (List Entry)) (ts : List TextToken) → AreTexts ts → MaybeDictionary strings es ts
     → IsReadDictionary strings (given_entries es)
 maybe_read strings None ts texts h = record { once = tt; each = tt }
 maybe_read strings (Some es) ts texts h = dictionary_read strings es ts texts h
@@ -282,7 +283,7 @@ unless_bytes n h = go (nat_eq (run is_digit n) (length n))
     go true = tt
     go false = h
 
-first_bytes : (r : ResultNames) (ts : List Lexeme) → AreTexts ts → ResultsPhrase r ts → AreBytes (read.first_name r)
+first_bytes : (r : ResultNames) (ts : List TextToken) → AreTexts ts → ResultsPhrase r ts → AreBytes (read.first_name r)
 first_bytes no_names ts texts h = tt
 first_bytes (names n []) ts texts h = let name = said_first (said ts texts h) in unless_bytes n (held_bytes kind.ValueName n name.symbols name.texts name.is)
 first_bytes (names n (m ∷ ns)) ts texts h =
@@ -308,7 +309,7 @@ have_types [] (m ∷ ms) = (refl, have_types [] ms)
 have_types (t ∷ ts) [] = (refl, have_types ts [])
 have_types (t ∷ ts) (m ∷ ms) = (refl, have_types ts ms)
 
-bin_read : (o : Listed) (b : Bool) (ts : List Lexeme) → BinPhrase o b ts → b ≡ true → takes_bin o ≡ true
+bin_read : (o : Listed) (b : Bool) (ts : List TextToken) → BinPhrase o b ts → b ≡ true → takes_bin o ≡ true
 bin_read o true ts h e = h.0
 bin_read o false ts h e = cc
 
@@ -317,7 +318,7 @@ record IsReadTail (strings : List Name) (g : Gathered) (es : List Entry) : Type 
   part : IsReadPart g
   dictionary : IsReadDictionary strings es
 
-form_read : (strings : List Name) (format : Format) (h : Gathered) (es : List Entry) (ts : List Lexeme) → AreTexts ts → FormPhrase strings format h es ts
+form_read : (strings : List Name) (format : Format) (h : Gathered) (es : List Entry) (ts : List TextToken) → AreTexts ts → FormPhrase strings format h es ts
     → IsReadTail strings h es
 form_read strings format h es ts texts f =
     let all = said ts texts f.4 in
@@ -325,14 +326,14 @@ form_read strings format h es ts texts f =
     let before = said_first (said_then all) in
     let types = said_first (said_then (said_then all)) in
     let following = said_then (said_then (said_then all)) in
-    let front = elements_read (front_elements format) gathered_nothing f.0 elements.symbols elements.texts (record { types = tt; inherent = tt }) elements.is in
+    let prefix = elements_read (prefix_elements format) gathered_nothing f.0 elements.symbols elements.texts (record { types = tt; inherent = tt }) elements.is in
     record {
-      part = elements_read (type_elements format) f.0 h types.symbols types.texts front types.is;
+      part = elements_read (type_elements format) f.0 h types.symbols types.texts prefix types.is;
       dictionary = one_read strings f.1 f.2 es f.3 (maybe_read strings f.1 before.symbols before.texts before.is)
           (maybe_read strings f.2 following.symbols following.texts following.is);
     }
 
-pub op_read : (At : Stands) (o : OperationText) (ts : List Lexeme) (means earlier : Meanings) (i : ℕ) → AreTexts ts → length ts < count_limit
+pub op_read : (At : Stands) (o : OperationText) (ts : List TextToken) (means earlier : Meanings) (i : ℕ) → AreTexts ts → length ts < count_limit
     → OperationPhrase At o ts → IsCanonicalOp (operation_at means earlier i o)
 op_read At o ts means earlier i texts small h =
     let all = said ts texts h.1 in

@@ -1,8 +1,8 @@
 use Rattle.std.proofs.Common.{◌++◌, length, get_or, map, ap, ◌∙◌, arith}
 use Rattle.ir_store.specs.Bodies.{ops_of, op_id, read_op}
 use Rattle.ir_store.specs.Designs.{design_of}
-use Rattle.aggregate_rows.specs.Made.{made_in}
-use Rattle.aggregate_rows.specs.Reading.{new_seen}
+use Rattle.lowering_rules.specs.Made.{made_in}
+use Rattle.lowering_rules.specs.Reading.{new_seen}
 use Rattle.aggregate_lower.specs.MadeBodies.{blocks_made}
 use Rattle.aggregate_lower.proofs.BlocksMade.{read_there, block_next}
 use Rattle.aggregate_lower.proofs.WireSteps.{number_at}

@@ -1,7 +1,7 @@
 use Rattle.std.proofs.Common.{◌≡◌, ◌++◌, drop}
 use Rattle.ir_store.specs.Bodies.{ops_of}
 use Rattle.ir_store.specs.Designs.{design_of}
-use Rattle.aggregate_rows.specs.Made.{made_in}
+use Rattle.lowering_rules.specs.Made.{made_in}
 use Rattle.aggregate_lower.specs.MadeBodies.{blocks_made}
 use Rattle.aggregate_lower.proofs.lowering.all_blocks.Given as goal
 

@@ -1,7 +1,7 @@
 use Rattle.std.proofs.Common.{map, ap, ◌∙◌, ◌∷◌, []}
 use Rattle.std.proofs.lemmas.List.{map-append}
 use Rattle.ir_store.specs.Designs.{modules_of, module_of, ports_in}
-use Rattle.aggregate_rows.specs.Callees.{module_leaves}
+use Rattle.lowering_rules.specs.Callees.{module_leaves}
 use Rattle.aggregate_lower.proofs.ModuleSteps.{one_more}
 use Rattle.aggregate_lower.proofs.lowering.all_ports.Goals as goal
 

@@ -1,7 +1,7 @@
 use Rattle.std.proofs.Common.{◌∙◌}
 use Rattle.ir_store.specs.Bodies.{ops_of}
 use Rattle.ir_store.specs.Designs.{design_of, ports_in}
-use Rattle.aggregate_rows.specs.LoweringRules.{leaf_named}
+use Rattle.lowering_rules.specs.LoweringRules.{leaf_named}
 use Rattle.aggregate_lower.proofs.BodiesJoined.{starts_many, ends_many, can_leave, can_join, body_joined}
 use Rattle.aggregate_lower.proofs.lowering.lowered_body.Goals as goal
 

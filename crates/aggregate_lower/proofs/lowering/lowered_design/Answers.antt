@@ -1,8 +1,8 @@
 use Rattle.std.proofs.Common.{map, length, ap, ◌∙◌, ◌∷◌, [], arith}
 use Rattle.std.proofs.lemmas.List.{map-append, length_push}
 use Rattle.ir_store.specs.Designs.{modules_of, module_of, numbered_module, design_of}
-use Rattle.aggregate_accepted.specs.Joins.{joined_module}
-use Rattle.aggregate_rows.specs.LoweringRules.{lowering_rules}
+use Rattle.aggregate_acceptance.specs.Joins.{joined_module}
+use Rattle.lowering_rules.specs.LoweringRules.{lowering_rules}
 use Rattle.aggregate_lower.proofs.ModuleSteps.{one_more, module_there}
 use Rattle.aggregate_lower.proofs.lowering.lowered_design.Goals as goal
 

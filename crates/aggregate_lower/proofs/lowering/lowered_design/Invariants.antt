@@ -1,7 +1,7 @@
 use Rattle.std.proofs.Common.{◌≡◌, map, take, length}
 use Rattle.ir_store.specs.Designs.{design_of, modules_of}
-use Rattle.aggregate_accepted.specs.Joins.{joined_module}
-use Rattle.aggregate_rows.specs.LoweringRules.{lowering_rules}
+use Rattle.aggregate_acceptance.specs.Joins.{joined_module}
+use Rattle.lowering_rules.specs.LoweringRules.{lowering_rules}
 use Rattle.aggregate_lower.proofs.lowering.lowered_design.Given as goal
 
 abbrev pub invariant-loop-number : goal.invariant-loop-number

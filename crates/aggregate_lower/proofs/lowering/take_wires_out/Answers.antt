@@ -6,8 +6,8 @@ use Rattle.ir_store.specs.declared.operation.OpId.{OpId}
 use Rattle.ir_store.specs.declared.operation.Value.TheVariants.{Result}
 use Rattle.ir_store.proofs.BodyLemmas.{ids_once}
 use Rattle.ir_store.proofs.Living.{ids-all_replaced}
-use Rattle.inline_pass.specs.WiresOut.{StandTogether, carried_value}
-use Rattle.inline_pass.proofs.WiresTakenOut.{wire_there, wire_unused, others_together}
+use Rattle.body_edits.specs.WiresOut.{StandTogether, carried_value}
+use Rattle.body_edits.proofs.WiresTakenOut.{wire_there, wire_unused, others_together}
 use Rattle.aggregate_lower.specs.JoinsOut.{ids_between, wires_out}
 use Rattle.aggregate_lower.proofs.WireSteps.{between_from}
 use Rattle.aggregate_lower.proofs.lowering.take_wires_out.Goals as goal

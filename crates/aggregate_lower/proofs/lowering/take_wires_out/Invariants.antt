@@ -1,6 +1,6 @@
 use Rattle.std.proofs.Common.{◌≡◌}
 use Rattle.ir_store.specs.Bodies.{ops_of}
-use Rattle.inline_pass.specs.WiresOut.{StandTogether}
+use Rattle.body_edits.specs.WiresOut.{StandTogether}
 use Rattle.aggregate_lower.specs.JoinsOut.{ids_between, wires_out}
 use Rattle.aggregate_lower.proofs.lowering.take_wires_out.Given as goal
 

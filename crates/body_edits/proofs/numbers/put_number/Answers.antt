@@ -1,7 +1,7 @@
 use Rattle.std.proofs.Common.{sym}
 use Rattle.std.proofs.lemmas.Result.{on_ok_weaker}
 use Rattle.hw_model.specs.TypeViews.{type_of}
-use Rattle.ir_store.specs.OperationViews.{place_of}
+use Rattle.ir_store.specs.OperationViews.{location_of}
 use Rattle.body_edits.specs.Views.{body_ops, position_in, op_seen}
 use Rattle.body_edits.proofs.NumberOps.{untyped_none, number_named, has_number}
 use Rattle.body_edits.proofs.ReadBodies.{op_seen_at}
@@ -14,7 +14,7 @@ unreachable-requires c =
 
 pub put_in_place-requires-clause-named : goal.put_in_place-requires-clause-named
 put_in_place-requires-clause-named c =
-    number_named c.args.body.now c.args.number (type_of c.in-Some.ty.now) (place_of c.op-found.result.place) c.in_ok-constant-in-Some.constant c.in_ok-constant-in-Some.ensures
+    number_named c.args.body.now c.args.number (type_of c.in-Some.ty.now) (location_of c.op-found.result.location) c.in_ok-constant-in-Some.constant c.in_ok-constant-in-Some.ensures
 
 pub returns-clause-has : goal.returns-clause-has
 returns-clause-has c =

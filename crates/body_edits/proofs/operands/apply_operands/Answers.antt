@@ -10,5 +10,5 @@ then_ok (Err e) P Q f h = tt
 pub returns-clause-folded : goal.returns-clause-folded
 returns-clause-folded g c =
     then_ok c.edit_operands.result _ _
-    (operands_folded g.R.OperandRow.operands c.in-Some.edit c.args.body.now c.edit_operands.new.body (position_in c.args.body.now c.args.op) c.in-Some.ensures.operands)
+    (operands_folded g.R.OperandPattern.operands c.in-Some.edit c.args.body.now c.edit_operands.new.body (position_in c.args.body.now c.args.op) c.in-Some.ensures.operands)
     c.edit_operands.ensures.ok

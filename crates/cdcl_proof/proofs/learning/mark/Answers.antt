@@ -28,4 +28,5 @@ pub returns-else-is_at_least-clause-count : goal.returns-else-is_at_least-clause
 returns-else-is_at_least-clause-count c =
     let es = c.args.trail.now.entries in
     let tidy = apart_once c.args.trail.now.variables es c.is_at_least.ensures.apart in
-    c.requires.count ∙ sym (count_seen-set_off c.args.trail.now.variables c.args.seen.now c.args.variable true (drop c.args.floor es) c.requires.positive (within_drop c.args.trail.now.variables c.args.floor es tidy.1) (sym c.if-is_at_least.ensures.after))
+    c.requires.count ∙ sym (count_seen-set_off c.args.trail.now.variables c.args.seen.now c.args.variable true (drop c.args.floor es) c.requires.positive
+    (within_drop c.args.trail.now.variables c.args.floor es tidy.1) (sym c.if-is_at_least.ensures.after))

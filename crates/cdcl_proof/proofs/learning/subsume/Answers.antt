@@ -19,7 +19,9 @@ returns-in_ok-push-in-Some-clause-resolving c =
 
 pub returns-in_ok-push-in-Some-clause-pivots : goal.returns-in_ok-push-in-Some-clause-pivots
 returns-in_ok-push-in-Some-clause-pivots c =
-    rw c.in_ok-push-in-Some.ensures.items (pivots_more c.args.trail.now.entries c.args.place c.args.hints.now.items (record { clause = c.in-Some.number; pivot = c.entry-entry.result.literal.variable }) c.requires.pivots c.requires.place (ap (λ (e : Entry). e.literal.variable) (sym c.entry-entry.ensures.entry)))
+    rw c.in_ok-push-in-Some.ensures.items (pivots_more c.args.trail.now.entries c.args.place c.args.hints.now.items
+    (record { clause = c.in-Some.number; pivot = c.entry-entry.result.literal.variable }) c.requires.pivots c.requires.place
+    (ap (λ (e : Entry). e.literal.variable) (sym c.entry-entry.ensures.entry)))
 
 pub returns-in_ok-push-in-Some-clause-count : goal.returns-in_ok-push-in-Some-clause-count
 returns-in_ok-push-in-Some-clause-count c floor below =

@@ -14,7 +14,11 @@ returns-then-sources-lt2 c =
     let taken = taken_of c.first_input.result.now c.accept.result c.in-Ok.verified c.first_input.ensures c.accept.ensures c.in-Ok.is in
     let few : length c.args.sources.now < 2 = omega (arith, c.if-sources-lt2.true) in
     concluded (string_bytes c.args.pair.now.left) (string_bytes c.args.pair.now.right) c.args.pair.now.conflict_limit c.args.sources.now
-    (design_of c.in-Ok.verified.design) (design_of c.in-Ok.verified.design) (taken, subst (λ bytes. Accepted bytes (design_of c.in-Ok.verified.design)) (sym (last_of_one c.args.sources.now few)) taken) 0 c.conclude.result (omega (arith, few)) c.conclude.ensures
+    (design_of c.in-Ok.verified.design) (design_of c.in-Ok.verified.design) (
+      taken,
+      subst (λ bytes. Accepted bytes (design_of c.in-Ok.verified.design))
+          (sym (last_of_one c.args.sources.now few)) taken,
+    ) 0 c.conclude.result (omega (arith, few)) c.conclude.ensures
 
 pub returns-in-Ok-accept : goal.returns-in-Ok-accept
 returns-in-Ok-accept c =

@@ -1,7 +1,7 @@
 use Rattle.std.proofs.Common.{◌≡◌, map, sym, ◌∙◌, ap, subst, arith}
 use Rattle.circt_top.specs.Accepting.{first_input}
 use Rattle.circt_top.specs.Pieces.{pieces_of}
-use Rattle.circt_top.specs.Outcomes.{GivesPieces}
+use Rattle.circt_top.specs.OutcomeParts.{GivesPieces}
 use Rattle.circt_top.specs.PieceViews.{piece_of}
 use Rattle.circt_top.proofs.PieceTexts.{pieces_give}
 use Rattle.circt_top.proofs.outcome.print_pieces.Goals as goal

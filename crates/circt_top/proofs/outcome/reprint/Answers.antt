@@ -1,8 +1,8 @@
 use Rattle.std.proofs.lemmas.Result.{IfOk-weaker}
 use Rattle.ir_store.specs.Designs.{design_of}
-use Rattle.circt_top.specs.Outcomes.{IsPrinted}
+use Rattle.circt_top.specs.OutcomeParts.{IsPrinted}
 use Rattle.circt_top.specs.Reprint.{IsReprint}
-use Rattle.circt_top.proofs.Outcomes.{reprinted}
+use Rattle.circt_top.proofs.OutcomeParts.{reprinted}
 use Rattle.circt_top.proofs.outcome.reprint.Goals as goal
 
 pub returns : goal.returns
@@ -17,8 +17,8 @@ returns g c =
       finite = c.accepted_designs_are_sound.ensures.finite;
       acyclic = c.accepted_designs_are_sound.ensures.acyclic;
       heights = c.heights_are_acyclic.ensures.heights;
-      placeless = c.places_decide_no_verdict.ensures;
-      same = c.places_decide_nothing.ensures;
+      unlocated = c.locations_decide_no_verdict.ensures;
+      same = c.locations_decide_nothing.ensures;
     })
     (record { after = c.results_follow.ensures })
     c.args.source.now (design_of c.args.verified.design) c.args.verified.canonical c.requires c.args.passes.now)

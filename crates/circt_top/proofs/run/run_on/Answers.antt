@@ -1,13 +1,15 @@
 -- What is answered for the bytes read is answered for the told files.
 use Rattle.std.proofs.Common.{◌≡◌, ap, map}
 use Rattle.std.specs.Prelude.{string_bytes}
-use Rattle.io_edge.specs.Faults.{HasRisen}
 use Rattle.command_line.specs.Invocations.{command_of}
 use Rattle.circt_top.specs.Inputs.{HasRead, AreReads}
+use Rattle.circt_top.specs.ReadOrder.{IsFirstUnread}
 use Rattle.circt_top.specs.Ends.{end_of}
 use Rattle.circt_top.specs.Views.{subject_of}
 use Rattle.circt_top.proofs.Answered.{none_missing, refused_whole, made_whole}
-use Rattle.circt_top.proofs.Ends.{refused_on, answered_on, write_fault_on, unread_refuses, unread_ends}
+use Rattle.circt_top.proofs.Ends.{refused_on, answered_on, write_fault_on, unread_refuses, unread_ends, unread_answers}
+use Rattle.circt_top.proofs.ReadOrder.{unread_reads, unread_named, worked_reads}
+use Rattle.circt_top.proofs.Reported.{silent}
 use Rattle.circt_top.proofs.Subjects.{subject_named}
 use Rattle.circt_top.proofs.run.run_on.Goals as goal
 
@@ -18,7 +20,38 @@ pub returns-in-Err-clause-refused : goal.returns-in-Err-clause-refused
 returns-in-Err-clause-refused g c = rw c.report_unread.ensures.status (unread_refuses _ c.in-Err.unread)
 
 pub returns-in-Err-clause-read_once : goal.returns-in-Err-clause-read_once
-returns-in-Err-clause-read_once g c = rw c.report_unread.ensures.status (unread_refuses _ c.in-Err.unread)
+returns-in-Err-clause-read_once g c =
+    let same : c.as_slice.result.now ≡ c.args.invocation.now.inputs.items = cc in
+    let names : map string_bytes c.as_slice.result.now ≡ (command_of c.args.invocation.now).inputs = ap (map string_bytes) same in
+    rw c.report_unread.ensures.status
+    (unread_reads g.F.Files.reads g.F.Files.files g.F.Files.writes c.in-Err.unread (command_of c.args.invocation.now) c.args.files.now c.read_inputs.new.files (rw (← names) c.in-Err.ensures.stops))
+
+pub returns-in-Err-clause-silent : goal.returns-in-Err-clause-silent
+returns-in-Err-clause-silent g c = rw c.report_unread.ensures.status (unread_answers _ c.in-Err.unread)
+
+pub returns-in-Err-clause-report : goal.returns-in-Err-clause-report
+returns-in-Err-clause-report g c =
+    let same : c.as_slice.result.now ≡ c.args.invocation.now.inputs.items = cc in
+    let names : map string_bytes c.as_slice.result.now ≡ (command_of c.args.invocation.now).inputs = ap (map string_bytes) same in
+    let r = c.report_unread.ensures.report in
+    rw c.report_unread.ensures.status (
+      r.0,
+      unread_named g.F.Files.reads g.F.Files.files g.F.Files.read_faults (g.F.Files.files c.args.files.now) c.in-Err.unread (command_of c.args.invocation.now) c.args.files.now c.read_inputs.new.files r.0
+          (rw (← names) c.in-Err.ensures.stops) (rw (← names) c.in-Err.ensures.fault) r.1,
+      r.2,
+    )
+
+pub returns-clause-read_once : goal.returns-clause-read_once
+returns-clause-read_once g c =
+    let same : c.as_slice.result.now ≡ c.args.invocation.now.inputs.items = cc in
+    let names : map string_bytes c.as_slice.result.now ≡ (command_of c.args.invocation.now).inputs = ap (map string_bytes) same in
+    let read : HasRead g.F.Files.reads g.F.Files.files c.args.files.now (command_of c.args.invocation.now).inputs c.in-Ok.sources.items c.read_inputs.new.files = rw (← names) c.in-Ok.ensures.read in
+    worked_reads g.F.Files.reads g.F.Files.files g.F.Files.writes (end_of c.answer-status.result)
+    (command_of c.args.invocation.now) c.args.files.now c.read_inputs.new.files c.answer-status.new.files c.in-Ok.sources.items read c.answer-status.ensures.written
+
+pub returns-clause-silent : goal.returns-clause-silent
+returns-clause-silent g c =
+    silent g.E.Sink.puts g.E.Sink.told g.E.Sink.faults c.args.err.now c.report.new.err (subject_of c.subject_of.result) (end_of c.answer-status.result) c.report.ensures.report
 
 pub returns-clause-missing : goal.returns-clause-missing
 returns-clause-missing g c = λ missing.
@@ -45,8 +78,8 @@ returns-clause-done g c =
     (λ verdict x. (x.0, (c.read_inputs.new.files, c.in-Ok.sources.items, read, x.1), made_whole (command_of c.args.invocation.now) (g.F.Files.files c.args.files.now) c.as_slice-2.result.now verdict x.0 told x.2))
     c.answer-status.ensures.done
 
-pub returns-clause-front : goal.returns-clause-front
-returns-clause-front g c =
+pub returns-clause-prefix : goal.returns-clause-prefix
+returns-clause-prefix g c =
     let same : c.as_slice.result.now ≡ c.args.invocation.now.inputs.items = cc in
     let viewed : c.as_slice-2.result.now ≡ c.in-Ok.sources.items = cc in
     let names : map string_bytes c.as_slice.result.now ≡ (command_of c.args.invocation.now).inputs = ap (map string_bytes) same in
@@ -54,7 +87,7 @@ returns-clause-front g c =
     let read : HasRead g.F.Files.reads g.F.Files.files c.args.files.now (command_of c.args.invocation.now).inputs c.in-Ok.sources.items c.read_inputs.new.files = rw (← names) c.in-Ok.ensures.read in
     write_fault_on _ _ (end_of c.answer-status.result)
     (λ x. (x.0, x.1, (c.read_inputs.new.files, c.in-Ok.sources.items, read, x.2), made_whole (command_of c.args.invocation.now) (g.F.Files.files c.args.files.now) c.as_slice-2.result.now x.0 x.1 told x.3))
-    c.answer-status.ensures.front
+    c.answer-status.ensures.prefix
 
 pub returns-clause-report : goal.returns-clause-report
 returns-clause-report g c =
@@ -63,8 +96,14 @@ returns-clause-report g c =
     let names : map string_bytes c.as_slice.result.now ≡ (command_of c.args.invocation.now).inputs = ap (map string_bytes) same in
     let told : AreReads (g.F.Files.files c.args.files.now) (command_of c.args.invocation.now).inputs c.as_slice-3.result.now = rw (← names, viewed) c.in-Ok.ensures.told in (
       subject_of c.subject_of.result,
-      subject_named (λ name. HasRisen (g.F.Files.read_faults c.args.files.now name) (g.F.Files.read_faults c.answer-status.new.files name)) (g.F.Files.files c.args.files.now)
+      subject_named (IsFirstUnread g.F.Files.reads g.F.Files.files g.F.Files.read_faults c.args.files.now c.answer-status.new.files) (g.F.Files.files c.args.files.now)
           c.as_slice-3.result.now (command_of c.args.invocation.now) (end_of c.answer-status.result) (subject_of c.subject_of.result) c.answer-status.ensures.kinds told
           c.subject_of.ensures.refused c.subject_of.ensures.output,
-      c.report.ensures,
+      c.report.ensures.report,
     )
+
+pub returns-in-Err-clause-at_once : goal.returns-in-Err-clause-at_once
+returns-in-Err-clause-at_once g c = rw c.report_unread.ensures.status c.report_unread.ensures.at_once
+
+pub returns-clause-at_once : goal.returns-clause-at_once
+returns-clause-at_once g c = c.report.ensures.at_once

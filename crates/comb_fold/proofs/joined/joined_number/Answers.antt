@@ -1,7 +1,7 @@
 use Rattle.std.proofs.Common.{◌≡◌, Some, None, sym, ap, ◌∙◌}
 use Rattle.bits_core.specs.Word.{number}
 use Rattle.body_edits.specs.Sites.{ops_at, ref_at, kind_at}
-use Rattle.comb_fold.proofs.JoinedRow.{first_word, second_word, words_taken, number_joined}
+use Rattle.comb_fold.proofs.JoinedPattern.{first_word, second_word, words_taken, number_joined}
 use Rattle.comb_fold.proofs.joined.joined_number.Goals as goal
 
 pub op_value-requires-clause-words : goal.op_value-requires-clause-words

@@ -1,6 +1,6 @@
 use Rattle.std.proofs.Common.{sym}
 use Rattle.body_edits.specs.Views.{position_in, value_ref, op_seen}
-use Rattle.comb_fold.proofs.StandingRows.{chosen_at, may_stand, stood_folded}
+use Rattle.comb_fold.proofs.StandingPatterns.{chosen_at, may_stand, stood_folded}
 use Rattle.comb_fold.proofs.standing.stand_chosen.Goals as goal
 
 pub stand_in-requires-clause-may : goal.stand_in-requires-clause-may

@@ -3,7 +3,7 @@ use Rattle.std.specs.Prelude.{is_some}
 use Rattle.fold_laws.specs.Unused.{fold_unused}
 use Rattle.body_edits.specs.Views.{body_ops, position_in}
 use Rattle.body_edits.proofs.FitOps.{fit_live}
-use Rattle.body_edits.proofs.UnusedRow.{pure_test, other_test}
+use Rattle.body_edits.proofs.UnusedPattern.{pure_test, other_test}
 use Rattle.cse_pass.proofs.Trimming.{taken_trimmed, taken_ids, trimmed_fit, stays_trimmed}
 use Rattle.cse_pass.proofs.trims.trim_at.Goals as goal
 use Rattle.cse_pass.proofs.trims.trim_at.Goals.{else-is_pure-via-then-is_pure+else-is_unused, else-is_pure-via-else-is_pure}

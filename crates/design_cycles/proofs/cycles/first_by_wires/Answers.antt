@@ -6,33 +6,33 @@ use Rattle.ir_store.specs.Designs.{StoredModule, modules_of, design_of, module_o
 use Rattle.design_cycles.specs.Asked.{IsCyclicAt}
 use Rattle.graphs.specs.Graphs.{lists_of, edges, has_mark}
 use Rattle.design_cycles.specs.Graphs.{ReturnsWithin}
-use Rattle.design_cycles.specs.Nodes.{rows_by}
+use Rattle.design_cycles.specs.Nodes.{bit_sets_by}
 use Rattle.design_cycles.specs.Places.{ids_at}
 use Rattle.design_cycles.proofs.Cyclic.{position_cyclic, position_acyclic, cyclic_within}
 use Rattle.design_cycles.proofs.Graphing.{graph_small}
 use Rattle.graphs.proofs.Marking.{length-lists}
-use Rattle.design_cycles.proofs.Placing.{placed_no_cycle}
+use Rattle.graphs.proofs.Placing.{placed_no_cycle}
 use Rattle.design_cycles.proofs.Pushing.{ids_count, spans_below}
 use Rattle.design_cycles.proofs.Returning.{none_more, first_found, id_at_position}
 use Rattle.design_cycles.proofs.cycles.first_by_wires.Goals as goal
 
 pub callees_first-requires : goal.callees_first-requires
 callees_first-requires c =
-    let rows = rows_by (map (λ (m : StoredModule). m.symbol) (modules_of c.args.design.now)) c.args.summaries.now in
+    let bit_sets = bit_sets_by (map (λ (m : StoredModule). m.symbol) (modules_of c.args.design.now)) c.args.summaries.now in
     omega (
       arith,
       length-lists c.as_slice.result.now,
-      graph_small (length c.module.result.now.ports.ports.items) rows (ops_by_position (ops_of c.module.result.now.body)) (lists_of c.as_slice.result.now)
+      graph_small (length c.module.result.now.ports.ports.items) bit_sets (ops_by_position (ops_of c.module.result.now.body)) (lists_of c.as_slice.result.now)
           (ap lists_of c.as_slice.ensures.value ∙ c.in_ok-wired.ensures.graph) (ids_of c.module.result.now.body) c.in_ok-wired.wired.layout c.in_ok-wired.ensures.layout c.in_ok-wired.ensures.small,
     )
 
 pub index-span-requires : goal.index-span-requires
 index-span-requires c =
-    let rows = rows_by (map (λ (m : StoredModule). m.symbol) (modules_of c.args.design.now)) c.args.summaries.now in
+    let bit_sets = bit_sets_by (map (λ (m : StoredModule). m.symbol) (modules_of c.args.design.now)) c.args.summaries.now in
     omega (
       arith,
       c.in_ok-wired.wired.layout.spans.ok.0,
-      spans_below c.module.result.now.body rows (length c.module.result.now.ports.ports.items) c.in_ok-wired.wired.layout c.in_ok-wired.ensures.layout c.in_ok-wired.wired.ids.items
+      spans_below c.module.result.now.body bit_sets (length c.module.result.now.ports.ports.items) c.in_ok-wired.wired.layout c.in_ok-wired.ensures.layout c.in_ok-wired.wired.ids.items
           c.in_ok-wired.ensures.ids c.loop-position.position (omega (arith, c.loop-position-test.true, c.len-position-end.ensures, c.in_ok-wired.wired.ids.ok.0)),
     )
 
@@ -44,7 +44,7 @@ has_cycle-requires-clause-placed c =
 
 pub returns-then-branch : goal.returns-then-branch
 returns-then-branch c =
-    let rows = rows_by (map (λ (m : StoredModule). m.symbol) (modules_of c.args.design.now)) c.args.summaries.now in
+    let bit_sets = bit_sets_by (map (λ (m : StoredModule). m.symbol) (modules_of c.args.design.now)) c.args.summaries.now in
     let below : c.loop-position.position < length c.in_ok-wired.wired.ids.items = omega (arith, c.loop-position-test.true, c.len-position-end.ensures, c.in_ok-wired.wired.ids.ok.0) in
     let graph = lists_of c.as_slice-in-loop-position.result.now in
     let span = c.index-span.result.now in
@@ -52,7 +52,7 @@ returns-then-branch c =
     (position_cyclic (modules_of c.args.design.now) c.requires.distinct c.args.number c.module.result.now c.module.ensures c.args.summaries.now c.requires.inner c.in_ok-wired.wired.layout
     c.in_ok-wired.ensures.layout c.in_ok-wired.wired.graph.items c.as_slice-in-loop-position.result.now c.in_ok-wired.ensures.graph c.as_slice-in-loop-position.ensures.value
     c.loop-position.position span
-    (spans_below c.module.result.now.body rows (length c.module.result.now.ports.ports.items) c.in_ok-wired.wired.layout c.in_ok-wired.ensures.layout c.in_ok-wired.wired.ids.items
+    (spans_below c.module.result.now.body bit_sets (length c.module.result.now.ports.ports.items) c.in_ok-wired.wired.layout c.in_ok-wired.ensures.layout c.in_ok-wired.wired.ids.items
     c.in_ok-wired.ensures.ids c.loop-position.position below)
     c.index-span.ensures
     (subst (λ b. MatchBool b (ReturnsWithin graph span.start span.size) (ReturnsWithin graph span.start span.size → ⊥)) c.if-branch.true c.in_ok-has_cycle.ensures))
@@ -61,7 +61,7 @@ returns-then-branch c =
 
 pub loop-position-preserved : goal.loop-position-preserved
 loop-position-preserved c =
-    let rows = rows_by (map (λ (m : StoredModule). m.symbol) (modules_of c.args.design.now)) c.args.summaries.now in
+    let bit_sets = bit_sets_by (map (λ (m : StoredModule). m.symbol) (modules_of c.args.design.now)) c.args.summaries.now in
     let below : c.loop-position.position < length c.in_ok-wired.wired.ids.items = omega (arith, c.loop-position-test.true, c.len-position-end.ensures, c.in_ok-wired.wired.ids.ok.0) in
     let graph = lists_of c.as_slice-in-loop-position.result.now in
     let span = c.index-span.result.now in
@@ -69,7 +69,7 @@ loop-position-preserved c =
     (position_acyclic (modules_of c.args.design.now) c.requires.distinct c.args.number c.module.result.now c.module.ensures c.args.summaries.now c.requires.inner c.in_ok-wired.wired.layout
     c.in_ok-wired.ensures.layout c.in_ok-wired.wired.graph.items c.as_slice-in-loop-position.result.now c.in_ok-wired.ensures.graph c.as_slice-in-loop-position.ensures.value
     c.loop-position.position span
-    (spans_below c.module.result.now.body rows (length c.module.result.now.ports.ports.items) c.in_ok-wired.wired.layout c.in_ok-wired.ensures.layout c.in_ok-wired.wired.ids.items
+    (spans_below c.module.result.now.body bit_sets (length c.module.result.now.ports.ports.items) c.in_ok-wired.wired.layout c.in_ok-wired.ensures.layout c.in_ok-wired.wired.ids.items
     c.in_ok-wired.ensures.ids c.loop-position.position below)
     c.index-span.ensures
     (subst (λ b. MatchBool b (ReturnsWithin graph span.start span.size) (ReturnsWithin graph span.start span.size → ⊥)) c.if-branch.false c.in_ok-has_cycle.ensures))

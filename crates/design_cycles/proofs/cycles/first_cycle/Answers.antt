@@ -2,7 +2,7 @@ use Rattle.std.proofs.Common.{length, map, arith, subst, sym}
 use Rattle.ir_store.specs.Designs.{StoredModule, modules_of, design_of}
 use Rattle.design_cycles.specs.Asked.{IsCyclicAt}
 use Rattle.graphs.specs.Graphs.{lists_of}
-use Rattle.design_cycles.specs.Nodes.{rows_by}
+use Rattle.design_cycles.specs.Nodes.{bit_sets_by}
 use Rattle.design_cycles.specs.Places.{FindsOp, ids_at, symbol_at}
 use Rattle.design_cycles.specs.Summing.{KnowsCallees}
 use Rattle.design_cycles.proofs.Cyclic.{cyclic_module}
@@ -20,7 +20,7 @@ summaries_of-requires-clause-whole c =
 pub first_in_module-requires-clause-inner : goal.first_in_module-requires-clause-inner
 first_in_module-requires-clause-inner c =
     subst
-    (λ ss. KnowsCallees (design_of c.args.design.now) (rows_by (map (λ (m : StoredModule). m.symbol) (modules_of c.args.design.now)) ss) (symbol_at (modules_of c.args.design.now) c.loop-module.module))
+    (λ ss. KnowsCallees (design_of c.args.design.now) (bit_sets_by (map (λ (m : StoredModule). m.symbol) (modules_of c.args.design.now)) ss) (symbol_at (modules_of c.args.design.now) c.loop-module.module))
     (sym c.as_slice-in-loop-module.ensures.value) (c.in_ok-summaries.ensures (symbol_at (modules_of c.args.design.now) c.loop-module.module))
 
 pub returns-in-Some : goal.returns-in-Some

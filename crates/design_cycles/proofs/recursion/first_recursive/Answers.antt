@@ -2,7 +2,7 @@ use Rattle.std.proofs.Common.{arith, subst, sym}
 use Rattle.ir_store.specs.Designs.{modules_of, design_of}
 use Rattle.design_cycles.specs.Asked.{IsRecursiveAt}
 use Rattle.graphs.specs.Graphs.{lists_of}
-use Rattle.design_cycles.specs.Graphs.{IsOrder}
+use Rattle.graphs.specs.Orders.{IsOrder}
 use Rattle.design_cycles.specs.Places.{FindsOp, ids_at}
 use Rattle.design_cycles.proofs.Returning.{no_module_more, place_found_first, placed_none, recursive_module, none_recursive}
 use Rattle.design_cycles.proofs.recursion.first_recursive.Goals as goal
@@ -31,4 +31,5 @@ returns-clause-found c = λ i j r. c.loop-module.invariant i (omega (arith, recu
 
 pub returns-clause-none : goal.returns-clause-none
 returns-clause-none c =
-    λ same. none_recursive (design_of c.args.design.now) c.requires.distinct (λ i j r. c.loop-module.invariant i (omega (arith, recursive_module (modules_of c.args.design.now) i j r, c.module_count-module-end.ensures, c.loop-module-test.false)) j r)
+    λ same. none_recursive (design_of c.args.design.now) c.requires.distinct (λ i j r. c.loop-module.invariant i
+    (omega (arith, recursive_module (modules_of c.args.design.now) i j r, c.module_count-module-end.ensures, c.loop-module-test.false)) j r)

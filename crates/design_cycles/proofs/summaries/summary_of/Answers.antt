@@ -3,7 +3,7 @@ use Rattle.ir_store.specs.Bodies.{ids_of, ops_of}
 use Rattle.ir_store.specs.Numbered.{ops_by_position}
 use Rattle.ir_store.specs.Designs.{StoredModule, modules_of, port_of}
 use Rattle.graphs.specs.Graphs.{lists_of}
-use Rattle.design_cycles.specs.Nodes.{rows_by}
+use Rattle.design_cycles.specs.Nodes.{bit_sets_by}
 use Rattle.design_cycles.proofs.Graphing.{graph_small}
 use Rattle.graphs.proofs.Marking.{length-lists}
 use Rattle.design_cycles.specs.Summing.{inputs_from}
@@ -18,11 +18,11 @@ pub lists_of_outputs-requires : goal.lists_of_outputs-requires
 lists_of_outputs-requires c = record {
   ids = c.in_ok-wired.ensures.ids;
   nodes =
-      let rows = rows_by (map (λ (m : StoredModule). m.symbol) (modules_of c.args.design.now)) c.args.summaries.now in
+      let bit_sets = bit_sets_by (map (λ (m : StoredModule). m.symbol) (modules_of c.args.design.now)) c.args.summaries.now in
       omega (
         arith,
         length-lists c.in_ok-wired.wired.graph.items,
-        graph_small (length c.module-module.result.now.ports.ports.items) rows (ops_by_position (ops_of c.module-module.result.now.body)) (lists_of c.in_ok-wired.wired.graph.items)
+        graph_small (length c.module-module.result.now.ports.ports.items) bit_sets (ops_by_position (ops_of c.module-module.result.now.body)) (lists_of c.in_ok-wired.wired.graph.items)
             c.in_ok-wired.ensures.graph (ids_of c.module-module.result.now.body) c.in_ok-wired.wired.layout c.in_ok-wired.ensures.layout c.in_ok-wired.ensures.small,
       );
   small = inputs_small c.module-module.result.now.ports.ports.items c.as_slice-3.result.now (2 ^ 32) c.in_ok-wired.ensures.small

@@ -1,6 +1,6 @@
 use Rattle.std.proofs.Common.{◌≡◌, ◌++◌}
-use Rattle.graphs.specs.Graphs.{lists_of}
-use Rattle.design_cycles.specs.Nodes.{value_nodes, times_over}
+use Rattle.graphs.specs.Graphs.{lists_of, times_over}
+use Rattle.design_cycles.specs.Nodes.{value_nodes}
 use Rattle.design_cycles.proofs.wires.push_made.Given as goal
 
 abbrev pub invariant-loop : goal.invariant-loop

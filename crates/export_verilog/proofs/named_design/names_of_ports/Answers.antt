@@ -1,6 +1,5 @@
 use Rattle.std.proofs.Common.{◌≡◌, map, length, Some, slice_get, subst, sym, ◌∙◌, ap, arith}
 use Rattle.std.specs.Prelude.{option_map}
-use Rattle.wiring.specs.Options.{omap}
 use Rattle.ir_store.specs.Designs.{design_of, modules_of, module_of, numbered_module, port_of}
 use Rattle.export_verilog.specs.NamedDesigns.{AreNamesWhere, ArePortsOf}
 use Rattle.export_verilog.proofs.items.Operands.{get_map}
@@ -15,7 +14,7 @@ loop-number-preserved c =
     let l = c.in_ok-list.list in
     let x = module_of c.module.result.now in
     let at : slice_get (design_of d) (length ls) ≡ Some (numbered_module x) =
-    ap (slice_get (design_of d)) c.loop-number.invariant.count ∙ get_map numbered_module (modules_of d) i ∙ ap (omap numbered_module) (sym c.module.ensures) in
+    ap (slice_get (design_of d)) c.loop-number.invariant.count ∙ get_map numbered_module (modules_of d) i ∙ ap (option_map numbered_module) (sym c.module.ensures) in
     let named : ArePortsOf (numbered_module x) l =
     subst (λ ps. AreNamesWhere (map port_of ps) (option_map (λ (n : _). n.items) l.names)) c.as_slice-in-loop-number.ensures.value c.in_ok-list.ensures in
     record {

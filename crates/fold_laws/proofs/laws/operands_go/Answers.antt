@@ -1,6 +1,6 @@
 use Rattle.fold_laws.specs.Fewer.{add_zero, or_zero, xor_zero, and_ones, mul_one, repeated_operand, xor_pair}
 use Rattle.fold_laws.proofs.FewerOperands.{reduction_is_fold}
-use Rattle.fold_laws.proofs.FewerRows.{add_zero_reduces, or_zero_reduces, xor_zero_reduces, and_ones_reduces, mul_one_reduces, repeated_reduces}
+use Rattle.fold_laws.proofs.FewerPatterns.{add_zero_reduces, or_zero_reduces, xor_zero_reduces, and_ones_reduces, mul_one_reduces, repeated_reduces}
 use Rattle.fold_laws.proofs.Pairs.{xor_pair_reduces}
 use Rattle.fold_laws.proofs.laws.operands_go.Goals as goal
 

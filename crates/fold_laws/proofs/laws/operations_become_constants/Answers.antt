@@ -2,7 +2,7 @@ use Rattle.fold_laws.specs.Evaluated.{value_of_constants}
 use Rattle.fold_laws.specs.Numbers.{sub_self, xor_self, shift_out, rest_by_one, icmp_self}
 use Rattle.fold_laws.proofs.Evaluated.{evaluated_makes}
 use Rattle.fold_laws.proofs.Numbered.{number_is_fold}
-use Rattle.fold_laws.proofs.NumberRows.{sub_self_makes, xor_self_makes, shift_out_makes, rest_by_one_makes, icmp_self_makes}
+use Rattle.fold_laws.proofs.NumberPatterns.{sub_self_makes, xor_self_makes, shift_out_makes, rest_by_one_makes, icmp_self_makes}
 use Rattle.fold_laws.proofs.laws.operations_become_constants.Goals as goal
 
 pub returns-clause-value_of_constants : goal.returns-clause-value_of_constants

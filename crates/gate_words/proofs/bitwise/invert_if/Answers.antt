@@ -2,7 +2,7 @@ use Rattle.std.proofs.Common.{◌≡◌, sym, ap, subst, ◌∙◌, List, length
 use Rattle.gates.specs.declared.signal.Signal.{Signal}
 use Rattle.gates.specs.Build.{Build, exclusive}
 use Rattle.gates.specs.Circuits.{Runs}
-use Rattle.gate_words.specs.Rows.{each}
+use Rattle.gate_words.specs.GateLists.{each}
 use Rattle.gate_words.proofs.bitwise.invert_if.Goals as goal
 use Rattle.gate_words.proofs.Widths.{flipped_is_each}
 

@@ -1,6 +1,6 @@
 use Rattle.std.proofs.Common.{◌≤◌, length, drop}
 use Rattle.gates.specs.Circuits.{Runs}
-use Rattle.gate_words.specs.Rows.{reduced}
+use Rattle.gate_words.specs.GateLists.{reduced}
 use Rattle.gate_words.specs.Bitwise.{building_of}
 use Rattle.gate_words.proofs.bitwise.reduce.Given as goal
 

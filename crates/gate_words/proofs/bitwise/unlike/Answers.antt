@@ -1,7 +1,7 @@
 use Rattle.std.proofs.Common.{◌≡◌, subst, IfOk}
 use Rattle.gates.specs.Circuits.{Runs}
 use Rattle.gates.proofs.Running.{runs_last}
-use Rattle.gate_words.specs.Rows.{any, unlike}
+use Rattle.gate_words.specs.GateLists.{any, unlike}
 use Rattle.gate_words.proofs.bitwise.unlike.Goals as goal
 
 pub returns : goal.returns

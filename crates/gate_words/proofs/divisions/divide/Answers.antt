@@ -1,7 +1,7 @@
 use Rattle.std.proofs.Common.{◌≡◌, sym, ap, subst, ◌∙◌, [], ◌∷◌, ◌++◌, get_or, false, arith, append_assoc, append-nil}
 use Rattle.gates.specs.declared.signal.Signal.TheVariants.{Fixed}
 use Rattle.gates.specs.Circuits.{Runs}
-use Rattle.gate_words.specs.Rows.{tried, divided}
+use Rattle.gate_words.specs.GateLists.{tried, divided}
 use Rattle.gate_words.proofs.divisions.divide.Goals as goal
 use Rattle.gate_words.proofs.Widths.{divided_next, divided_end}
 

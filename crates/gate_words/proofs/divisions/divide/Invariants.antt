@@ -1,7 +1,7 @@
 use Rattle.std.proofs.Common.{◌≡◌, List, ◌++◌, length, drop}
 use Rattle.gates.specs.declared.signal.Signal.{Signal}
 use Rattle.gates.specs.Circuits.{Circuit, Runs}
-use Rattle.gate_words.specs.Rows.{divided, divided_from}
+use Rattle.gate_words.specs.GateLists.{divided, divided_from}
 use Rattle.gate_words.proofs.divisions.divide.Given as goal
 
 abbrev pub invariant-loop-x : goal.invariant-loop-x

@@ -3,7 +3,7 @@ use Rattle.gates.specs.declared.signal.Signal.TheVariants.{Fixed}
 use Rattle.gates.specs.Build.{choice}
 use Rattle.gates.specs.Circuits.{Runs}
 use Rattle.gates.proofs.Running.{runs-done, runs_then}
-use Rattle.gate_words.specs.Rows.{tried, sum, each, inverses, Total}
+use Rattle.gate_words.specs.GateLists.{tried, sum, each, inverses, Total}
 use Rattle.gate_words.proofs.divisions.division_step.Goals as goal
 use Rattle.gate_words.proofs.Widths.{length-sum_word, length-each, length-wide, length-complement}
 

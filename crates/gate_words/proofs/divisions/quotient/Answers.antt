@@ -1,7 +1,7 @@
 use Rattle.std.proofs.Common.{◌≡◌, subst, List, IfOk, Vec, Global}
 use Rattle.gates.specs.declared.signal.Signal.{Signal}
 use Rattle.gates.specs.Circuits.{Runs}
-use Rattle.gate_words.specs.Rows.{quotient, masked}
+use Rattle.gate_words.specs.GateLists.{quotient, masked}
 use Rattle.gate_words.proofs.divisions.quotient.Goals as goal
 use Rattle.gate_words.proofs.Widths.{runs_last_by}
 

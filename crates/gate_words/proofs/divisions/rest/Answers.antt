@@ -1,5 +1,5 @@
 use Rattle.gates.proofs.Running.{runs-done, runs_then}
-use Rattle.gate_words.specs.Rows.{rest}
+use Rattle.gate_words.specs.GateLists.{rest}
 use Rattle.gate_words.proofs.divisions.rest.Goals as goal
 
 pub returns : goal.returns

@@ -2,7 +2,7 @@ use Rattle.std.proofs.Common.{sym, ap, subst, ◌∙◌, List, length, IfOk, Vec
 use Rattle.gates.specs.declared.signal.Signal.{Signal}
 use Rattle.gates.specs.Build.{exclusive}
 use Rattle.gates.specs.Circuits.{Runs}
-use Rattle.gate_words.specs.Rows.{quotient, negated, top, signed_quotient}
+use Rattle.gate_words.specs.GateLists.{quotient, negated, top, signed_quotient}
 use Rattle.gate_words.proofs.divisions.signed_quotient.Goals as goal
 use Rattle.gate_words.proofs.Widths.{runs_last_by, length-negated}
 

@@ -1,7 +1,7 @@
 use Rattle.std.proofs.Common.{sym, ap, subst, ◌∙◌, List, length, IfOk, Vec, Global}
 use Rattle.gates.specs.declared.signal.Signal.{Signal}
 use Rattle.gates.specs.Circuits.{Runs}
-use Rattle.gate_words.specs.Rows.{rest, negated, signed_rest}
+use Rattle.gate_words.specs.GateLists.{rest, negated, signed_rest}
 use Rattle.gate_words.proofs.divisions.signed_rest.Goals as goal
 use Rattle.gate_words.proofs.Widths.{runs_last_by, length-negated}
 

@@ -1,7 +1,7 @@
 use Rattle.std.proofs.Common.{◌≡◌, subst, get_or, false, arith}
 use Rattle.gates.specs.declared.signal.Signal.TheVariants.{Fixed}
 use Rattle.gates.specs.Circuits.{Runs}
-use Rattle.gate_words.specs.Rows.{product_step}
+use Rattle.gate_words.specs.GateLists.{product_step}
 use Rattle.gate_words.proofs.products.product.Goals as goal
 use Rattle.gate_words.proofs.Widths.{product_next, product_end}
 

@@ -1,7 +1,7 @@
 use Rattle.std.proofs.Common.{◌≡◌, List, length, drop}
 use Rattle.gates.specs.declared.signal.Signal.{Signal}
 use Rattle.gates.specs.Circuits.{Circuit, Runs}
-use Rattle.gate_words.specs.Rows.{product, product_from}
+use Rattle.gate_words.specs.GateLists.{product, product_from}
 use Rattle.gate_words.proofs.products.product.Given as goal
 
 abbrev pub invariant-loop-y : goal.invariant-loop-y

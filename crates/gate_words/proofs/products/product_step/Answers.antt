@@ -2,7 +2,7 @@ use Rattle.std.proofs.Common.{◌≡◌, sym, ap, subst, ◌∙◌, length, fals
 use Rattle.gates.specs.declared.signal.Signal.TheVariants.{Fixed}
 use Rattle.gates.specs.Circuits.{Runs}
 use Rattle.gates.proofs.Running.{runs-done, runs_then}
-use Rattle.gate_words.specs.Rows.{Total, sum, doubled, product_step}
+use Rattle.gate_words.specs.GateLists.{Total, sum, doubled, product_step}
 use Rattle.gate_words.proofs.products.product_step.Goals as goal
 use Rattle.gate_words.proofs.Widths.{length-masked, length-sum_word, length-doubled}
 

@@ -1,7 +1,7 @@
 use Rattle.std.proofs.Common.{◌≡◌, ap, subst, ◌∙◌, suc, ◌-◌, ◌^◌, ◌<◌, ◌≤◌, false, length, get_or, arith}
 use Rattle.gates.specs.declared.signal.Signal.TheVariants.{Fixed}
 use Rattle.gates.specs.Circuits.{Runs}
-use Rattle.gate_words.specs.Rows.{Shifted, stage}
+use Rattle.gate_words.specs.GateLists.{Shifted, stage}
 use Rattle.gate_words.specs.Directions.{move_of}
 use Rattle.gate_words.proofs.shifts.moved_from.Goals as goal
 use Rattle.gate_words.proofs.Stages.{moved_before, moved_start, twice_more, twice_same}

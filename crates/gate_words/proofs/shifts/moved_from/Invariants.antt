@@ -1,6 +1,6 @@
 use Rattle.std.proofs.Common.{◌≡◌, ◌-◌, ◌^◌, ◌<◌, ◌≤◌, length, drop}
 use Rattle.gates.specs.Circuits.{Runs}
-use Rattle.gate_words.specs.Rows.{moved_from}
+use Rattle.gate_words.specs.GateLists.{moved_from}
 use Rattle.gate_words.specs.Directions.{move_of}
 use Rattle.gate_words.proofs.shifts.moved_from.Given as goal
 

@@ -2,7 +2,7 @@ use Rattle.std.proofs.Common.{◌≡◌, sym, ap, subst, ◌∙◌, List, length
 use Rattle.gates.specs.declared.signal.Signal.{Signal}
 use Rattle.gates.specs.Build.{choice}
 use Rattle.gates.specs.Circuits.{Runs}
-use Rattle.gate_words.specs.Rows.{each, moved}
+use Rattle.gate_words.specs.GateLists.{each, moved}
 use Rattle.gate_words.specs.Directions.{move_of}
 use Rattle.gate_words.proofs.shifts.shift.Goals as goal
 use Rattle.gate_words.proofs.Stages.{length-move}

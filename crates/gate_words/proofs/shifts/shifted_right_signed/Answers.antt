@@ -1,6 +1,6 @@
 use Rattle.std.proofs.Common.{subst, IfOk}
 use Rattle.gates.specs.Circuits.{Runs}
-use Rattle.gate_words.specs.Rows.{moved, moved_down}
+use Rattle.gate_words.specs.GateLists.{moved, moved_down}
 use Rattle.gate_words.proofs.shifts.shifted_right_signed.Goals as goal
 
 pub returns : goal.returns

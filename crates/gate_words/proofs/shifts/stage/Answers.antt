@@ -1,7 +1,7 @@
 use Rattle.std.proofs.Common.{◌≡◌, sym, ap, subst, ◌∙◌, length}
 use Rattle.gates.specs.Build.{choice}
 use Rattle.gates.specs.Circuits.{Runs}
-use Rattle.gate_words.specs.Rows.{Shifted, stage, each}
+use Rattle.gate_words.specs.GateLists.{Shifted, stage, each}
 use Rattle.gate_words.specs.Directions.{move_of}
 use Rattle.gate_words.proofs.shifts.stage.Goals as goal
 use Rattle.gate_words.proofs.Stages.{stage_near, stage_far, length-move}

@@ -1,5 +1,5 @@
 use Rattle.gates.proofs.Running.{runs-done, runs_then}
-use Rattle.gate_words.specs.Rows.{added}
+use Rattle.gate_words.specs.GateLists.{added}
 use Rattle.gate_words.proofs.sums.add.Goals as goal
 
 pub returns : goal.returns

@@ -1,6 +1,6 @@
 use Rattle.std.proofs.Common.{◌≤◌, length, drop}
 use Rattle.gates.specs.Circuits.{Runs}
-use Rattle.gate_words.specs.Rows.{carried}
+use Rattle.gate_words.specs.GateLists.{carried}
 use Rattle.gate_words.proofs.sums.carry_out.Given as goal
 
 abbrev pub invariant-loop-i : goal.invariant-loop-i

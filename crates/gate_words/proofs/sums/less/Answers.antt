@@ -2,7 +2,7 @@ use Rattle.std.proofs.Common.{◌≡◌, sym, subst, true}
 use Rattle.gates.specs.declared.signal.Signal.TheVariants.{Fixed}
 use Rattle.gates.specs.Circuits.{Runs}
 use Rattle.gates.proofs.Running.{runs-done, runs_then}
-use Rattle.gate_words.specs.Rows.{carried, inverses, less}
+use Rattle.gate_words.specs.GateLists.{carried, inverses, less}
 use Rattle.gate_words.proofs.sums.less.Goals as goal
 
 pub returns : goal.returns

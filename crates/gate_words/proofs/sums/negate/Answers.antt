@@ -1,7 +1,7 @@
 use Rattle.std.proofs.Common.{◌≡◌, subst, length, arith}
 use Rattle.gates.specs.Circuits.{Runs}
 use Rattle.gates.proofs.Running.{runs-done, runs_then}
-use Rattle.gate_words.specs.Rows.{Total, sum, no_bits, negated}
+use Rattle.gate_words.specs.GateLists.{Total, sum, no_bits, negated}
 use Rattle.gate_words.proofs.sums.negate.Goals as goal
 
 pub returns : goal.returns

@@ -1,6 +1,6 @@
 use Rattle.std.proofs.Common.{◌≡◌, sym, ap, subst, ◌∙◌, length, IfOk}
 use Rattle.gates.specs.Circuits.{Runs}
-use Rattle.gate_words.specs.Rows.{less, top_inverted}
+use Rattle.gate_words.specs.GateLists.{less, top_inverted}
 use Rattle.gate_words.proofs.sums.signed_less.Goals as goal
 use Rattle.gate_words.proofs.Stages.{length-top_inverted}
 

@@ -1,5 +1,5 @@
 use Rattle.gates.proofs.Running.{runs-done, runs_then}
-use Rattle.gate_words.specs.Rows.{subtracted}
+use Rattle.gate_words.specs.GateLists.{subtracted}
 use Rattle.gate_words.proofs.sums.subtract.Goals as goal
 
 pub returns : goal.returns

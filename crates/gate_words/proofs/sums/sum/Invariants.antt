@@ -1,6 +1,6 @@
 use Rattle.std.proofs.Common.{◌≡◌, ◌≤◌, length, drop}
 use Rattle.gates.specs.Circuits.{Runs}
-use Rattle.gate_words.specs.Rows.{sum}
+use Rattle.gate_words.specs.GateLists.{sum}
 use Rattle.gate_words.proofs.sums.sum.Given as goal
 
 abbrev pub invariant-loop-i : goal.invariant-loop-i

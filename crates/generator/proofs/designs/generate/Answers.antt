@@ -1,6 +1,6 @@
 use Rattle.std.proofs.Common.{sym, subst}
 use Rattle.ir_store.specs.Designs.{design_of}
-use Rattle.canonical_form.specs.Canonical.{IsCanonical}
+use Rattle.stored_form.specs.Canonical.{IsCanonical}
 use Rattle.op_verifier.specs.Answered.{Explains}
 use Rattle.op_verifier.specs.Verdict.{IsAccepted}
 use Rattle.generator.proofs.AcceptedDesigns.{accepted_design, never_refused}

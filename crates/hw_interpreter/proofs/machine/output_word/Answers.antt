@@ -19,4 +19,5 @@ returns-clause-value c =
 pub returns-in_err-words-clause-refuses : goal.returns-in_err-words-clause-refuses
 returns-in_err-words-clause-refuses c is all =
     c.in_err-words.ensures.refuses (search rules)
-    (λ n here. nets_taken (map module_of c.args.at.now.modules.now) c.args.at.now.top.now c.args.at.now.inputs.now c.args.at.now.content.now c.args.depth [] (outputs_of (find_module (map module_of c.args.at.now.modules.now) c.args.at.now.top.now)) all n (rw (← c.top_operands.ensures) here))
+    (λ n here. nets_taken (map module_of c.args.at.now.modules.now) c.args.at.now.top.now c.args.at.now.inputs.now c.args.at.now.content.now c.args.depth []
+    (outputs_of (find_module (map module_of c.args.at.now.modules.now) c.args.at.now.top.now)) all n (rw (← c.top_operands.ensures) here))

@@ -25,7 +25,8 @@ loop-inputs-preserved c =
     here ∙ ap (λ k. c.inputs-item.result ∷ drop k c.args.steps.now) next in
     record {
       outputs =
-          ap₂ (λ xs b. xs ++ run_after_within (map module_of c.args.modules.now) c.args.top.now c.args.depth b c.in_ok-stepped.stepped.content (drop (c.loop-inputs.inputs-index + 1) c.args.steps.now)) c.in_ok-push.ensures.items c.as_slice-before.ensures
+          ap₂ (λ xs b. xs ++ run_after_within (map module_of c.args.modules.now) c.args.top.now c.args.depth b c.in_ok-stepped.stepped.content
+          (drop (c.loop-inputs.inputs-index + 1) c.args.steps.now)) c.in_ok-push.ensures.items c.as_slice-before.ensures
           ∙ run_more (map module_of c.args.modules.now) c.args.top.now c.args.depth c.loop-inputs.before.now c.loop-inputs.held (drop c.loop-inputs.inputs-index c.args.steps.now) c.inputs-item.result
           (drop (c.loop-inputs.inputs-index + 1) c.args.steps.now) c.loop-inputs.outputs.items (run_within (map module_of c.args.modules.now) c.args.top.now c.args.depth c.args.content.now c.args.steps.now)
           c.in_ok-stepped.stepped.outputs c.in_ok-stepped.stepped.content is c.in_ok-stepped.ensures.outputs c.in_ok-stepped.ensures.content c.loop-inputs.invariant.outputs;

@@ -10,8 +10,8 @@ use Rattle.ir_store.proofs.BodyLemmas.{ids_once}
 use Rattle.ir_store.proofs.Living.{ids-all_replaced}
 use Rattle.inline_laws.specs.Unwire.{unwire}
 use Rattle.body_edits.specs.Views.{body_ops}
-use Rattle.inline_pass.specs.WiresOut.{StandTogether, first_position, ids_without, carried_value}
-use Rattle.inline_pass.proofs.WiresTakenOut.{wire_there, wire_unused, wire_ids, others_together, wire_out}
+use Rattle.body_edits.specs.WiresOut.{StandTogether, first_position, ids_without, carried_value}
+use Rattle.body_edits.proofs.WiresTakenOut.{wire_there, wire_unused, wire_ids, others_together, wire_out}
 use Rattle.inline_pass.proofs.body_changes.take_wires_out.Goals as goal
 
 pub carried_value-value-requires : goal.carried_value-value-requires

@@ -2,7 +2,7 @@ use Rattle.std.proofs.Common.{◌≡◌, length, drop}
 use Rattle.ir_store.specs.Bodies.{ops_of, ids_of}
 use Rattle.inline_laws.specs.Unwire.{unwire}
 use Rattle.body_edits.specs.Views.{body_ops}
-use Rattle.inline_pass.specs.WiresOut.{StandTogether, first_position, ids_without}
+use Rattle.body_edits.specs.WiresOut.{StandTogether, first_position, ids_without}
 use Rattle.inline_pass.proofs.body_changes.take_wires_out.Given as goal
 
 abbrev pub invariant-loop-wire : goal.invariant-loop-wire

@@ -1,6 +1,6 @@
 use Rattle.std.proofs.Common.{OnOk, sym, subst}
 use Rattle.ir_store.specs.Designs.{design_of}
-use Rattle.accepted_edits.specs.Keeps.{IsFit}
+use Rattle.acceptance_laws.specs.Keeps.{IsFit}
 use Rattle.inline_pass.specs.DeadModules.{IsWithoutDead}
 use Rattle.inline_pass.proofs.FlatteningLaw.{flat_fit}
 use Rattle.inline_pass.proofs.flattening.flatten_modules.Goals as goal

@@ -9,7 +9,7 @@ use Rattle.body_edits.specs.Views.{body_ops}
 use Rattle.inline_pass.specs.Callees.{callee_seen}
 use Rattle.inline_pass.specs.Inlinable.{own_name}
 use Rattle.inline_pass.specs.MovedOps.{results_replaced}
-use Rattle.inline_pass.specs.WiresOut.{StandTogether, first_position, ids_without}
+use Rattle.body_edits.specs.WiresOut.{StandTogether, first_position, ids_without}
 use Rattle.inline_pass.proofs.InstanceInlined.{unused, together, still_there}
 use Rattle.inline_pass.proofs.BodyInlined.{is_put, olds, inlined}
 use Rattle.inline_pass.proofs.inlining.inline_instance.Goals as goal
@@ -26,7 +26,7 @@ erase-requires-clause-live c =
     c.in_ok-wires.ensures in
     let now = c.replace_results.ensures ∙ ap (λ (ws : List OpId). results_replaced c.args.op 0 ws (ops_of c.put_inlined.new.body)) c.as_slice.ensures.value in
     subst (λ (os : List BodyOp). Contains (ids_in os) c.args.op.index) (sym now)
-    (still_there p.front p.x p.back c.args.op p.same (own_name p.x.parts.kind) (callee_seen c.args.callee) (ops_of c.args.callee.body.now) c.in_ok-wires.wires.items
+    (still_there p.prefix p.x p.back c.args.op p.same (own_name p.x.parts.kind) (callee_seen c.args.callee) (ops_of c.args.callee.body.now) c.in_ok-wires.wires.items
     (ops_of c.put_inlined.new.body) p.put (ids_once c.put_inlined.new.body))
 
 pub erase-requires-clause-unused : goal.erase-requires-clause-unused
@@ -35,7 +35,7 @@ erase-requires-clause-unused c =
     c.in_ok-wires.ensures in
     let now = c.replace_results.ensures ∙ ap (λ (ws : List OpId). results_replaced c.args.op 0 ws (ops_of c.put_inlined.new.body)) c.as_slice.ensures.value in
     subst (IsUnused c.args.op.index) (sym now)
-    (unused p.front p.x p.back c.args.op p.same (own_name p.x.parts.kind) (callee_seen c.args.callee) (ops_of c.args.callee.body.now) c.in_ok-wires.wires.items
+    (unused p.prefix p.x p.back c.args.op p.same (own_name p.x.parts.kind) (callee_seen c.args.callee) (ops_of c.args.callee.body.now) c.in_ok-wires.wires.items
     (ops_of c.put_inlined.new.body) p.put (ids_once c.put_inlined.new.body)
     (olds c.args.body.now c.put_inlined.new.body c.requires.fit c.args.op (callee_seen c.args.callee) (ops_of c.args.callee.body.now) c.in_ok-wires.wires.items p))
 
@@ -46,7 +46,7 @@ take_wires_out-requires c =
     let now = c.erase.ensures.ops ∙ ap (taken_out c.args.op.index) (c.replace_results.ensures ∙ ap (λ (ws : List OpId). results_replaced c.args.op 0 ws (ops_of c.put_inlined.new.body)) c.as_slice.ensures.value) in
     subst (λ (ws : List OpId). StandTogether ws (ops_of c.erase.new.self)) (sym c.as_slice-2.ensures.value)
     (subst (StandTogether c.in_ok-wires.wires.items) (sym now)
-    (together p.front p.x p.back c.args.op p.same (own_name p.x.parts.kind) (callee_seen c.args.callee) (ops_of c.args.callee.body.now) c.in_ok-wires.wires.items
+    (together p.prefix p.x p.back c.args.op p.same (own_name p.x.parts.kind) (callee_seen c.args.callee) (ops_of c.args.callee.body.now) c.in_ok-wires.wires.items
     (ops_of c.put_inlined.new.body) p.put (ids_once c.put_inlined.new.body)
     (olds c.args.body.now c.put_inlined.new.body c.requires.fit c.args.op (callee_seen c.args.callee) (ops_of c.args.callee.body.now) c.in_ok-wires.wires.items p)))
 

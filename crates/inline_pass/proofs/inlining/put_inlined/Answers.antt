@@ -27,7 +27,8 @@ put_all_before-requires-2 c = put_stays c.args.op.index c.args.op.index _ (ops_o
 
 pub move_operands-requires-clause-places : goal.move_operands-requires-clause-places
 move_operands-requires-clause-places c =
-    places_told (record { joined = c.as_slice-2.result; ids = c.as_slice-3.result; positions = c.as_slice-4.result; copies = c.as_slice-5.result }) c.own_name.result.now (ops_of c.args.callee.body.now) c.in_ok-moved.moved.ids.items c.in_ok-copies.copies.items c.in_ok-moved.moved.copies.items
+    places_told (record { joined = c.as_slice-2.result; ids = c.as_slice-3.result; positions = c.as_slice-4.result; copies = c.as_slice-5.result }) c.own_name.result.now
+    (ops_of c.args.callee.body.now) c.in_ok-moved.moved.ids.items c.in_ok-copies.copies.items c.in_ok-moved.moved.copies.items
     c.in_ok-moved.moved.given.items c.in_ok-positions.positions.items c.in_ok-moved.ensures (ids_once c.args.callee.body.now)
     (subst (λ (is : List OpId). ArePositions (map (λ (i : OpId). i.index) is) c.in_ok-positions.positions.items) c.as_slice.ensures.value c.in_ok-positions.ensures) c.in_ok-copies.ensures.many
     c.as_slice-3.ensures.value c.as_slice-4.ensures.value c.as_slice-5.ensures.value
@@ -41,7 +42,8 @@ move_operands-requires-clause-live c =
 
 pub move_operands-requires-2-clause-places : goal.move_operands-requires-2-clause-places
 move_operands-requires-2-clause-places c =
-    places_told (record { joined = c.as_slice-2.result; ids = c.as_slice-3.result; positions = c.as_slice-4.result; copies = c.as_slice-5.result }) c.own_name.result.now (ops_of c.args.callee.body.now) c.in_ok-moved.moved.ids.items c.in_ok-copies.copies.items c.in_ok-moved.moved.copies.items
+    places_told (record { joined = c.as_slice-2.result; ids = c.as_slice-3.result; positions = c.as_slice-4.result; copies = c.as_slice-5.result }) c.own_name.result.now
+    (ops_of c.args.callee.body.now) c.in_ok-moved.moved.ids.items c.in_ok-copies.copies.items c.in_ok-moved.moved.copies.items
     c.in_ok-moved.moved.given.items c.in_ok-positions.positions.items c.in_ok-moved.ensures (ids_once c.args.callee.body.now)
     (subst (λ (is : List OpId). ArePositions (map (λ (i : OpId). i.index) is) c.in_ok-positions.positions.items) c.as_slice.ensures.value c.in_ok-positions.ensures) c.in_ok-copies.ensures.many
     c.as_slice-3.ensures.value c.as_slice-4.ensures.value c.as_slice-5.ensures.value
@@ -67,7 +69,7 @@ returns c =
     let put = are_put_before c.own_name.result.now (ports_in c.args.callee.header.now.ports) (ops_of c.args.callee.body.now) o (ops_of c.args.body.now) (ops_of c.put_all_before.new.body)
     (ops_of c.put_all_before-2.new.body) (ops_of c.move_operands.new.body) (ops_of c.move_operands-2.new.body) c.in_ok-wires-2.wires.items c.in_ok-copies.copies.items
     c.in_ok-moved.moved.ids.items c.in_ok-moved.moved.copies.items c.in_ok-wires.wires.items c.in_ok-moved.moved.given.items joined (value_there places) c.in_ok-moved.ensures
-    (c.in_ok-wires.ensures ∙ ap (wires_of o.parts.place o.parts.results) c.as_slice-given.ensures.value) c.in_ok-wires-2.ensures.many c.in_ok-wires-2.ensures.few c.in_ok-copies.ensures.many
+    (c.in_ok-wires.ensures ∙ ap (wires_of o.parts.location o.parts.results) c.as_slice-given.ensures.value) c.in_ok-wires-2.ensures.many c.in_ok-wires-2.ensures.few c.in_ok-copies.ensures.many
     c.in_ok-wires-2.ensures.put c.in_ok-copies.ensures.put there c.in_ok-joined.ensures
     (c.in_ok-move_operands.ensures ∙ ap (λ (ids : List OpId). operands_moved (value_there places) ids (ops_of c.put_all_before-2.new.body)) c.as_slice-6.ensures.value)
     (c.in_ok-move_operands-2.ensures ∙ ap (λ (ids : List OpId). operands_moved (value_there places) ids (ops_of c.move_operands.new.body)) c.as_slice-7.ensures.value) in

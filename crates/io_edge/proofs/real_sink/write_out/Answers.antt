@@ -1,7 +1,7 @@
--- Each turn writes a front of what is left.
+-- Each turn writes a prefix of what is left.
 use Rattle.std.proofs.Common.{take, [], refl, sym, arith}
 use Rattle.std.proofs.lemmas.List.{take-append-drop}
-use Rattle.io_edge.proofs.Sending.{HasSent-more, AppendsFront-rest, AppendsFront-none, AppendsFront-piece}
+use Rattle.io_edge.proofs.Sending.{HasSent-more, AppendsPrefix-rest, AppendsPrefix-none, AppendsPrefix-piece}
 use Rattle.io_edge.proofs.real_sink.write_out.Goals as goal
 
 pub writes-preserved : goal.writes-preserved
@@ -12,7 +12,7 @@ writes-preserved g c = record {
 
 pub returns-in-Err-clause-err : goal.returns-in-Err-clause-err
 returns-in-Err-clause-err g c =
-    AppendsFront-rest c.writes.invariant.bytes (AppendsFront-piece [] c.writes.rest.now refl (λ held known. (0, omega arith, c.in-Err.ensures.err held known)))
+    AppendsPrefix-rest c.writes.invariant.bytes (AppendsPrefix-piece [] c.writes.rest.now refl (λ held known. (0, omega arith, c.in-Err.ensures.err held known)))
 
 pub returns-clause-err : goal.returns-clause-err
-returns-clause-err g c = AppendsFront-rest c.writes.invariant.bytes (AppendsFront-none _ c.writes.rest.now)
+returns-clause-err g c = AppendsPrefix-rest c.writes.invariant.bytes (AppendsPrefix-none _ c.writes.rest.now)

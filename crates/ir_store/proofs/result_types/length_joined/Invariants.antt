@@ -6,6 +6,7 @@ use Rattle.ir_store.proofs.result_types.length_joined.Given as goal
 
 abbrev pub invariant-loop-ty : goal.invariant-loop-ty
 invariant-loop-ty l = record {
-  same : option_map kept_size (length_joined (option_map (λ t. type_of t.now) l.fn.element) (map type_of l.types)) ≡ option_map (λ n. kept_size (l.length + n)) (length_joined (option_map (λ t. type_of t.now) l.fn.element) (map type_of (drop l.ty-index l.types)));
+  same : option_map kept_size (length_joined (option_map (λ t. type_of t.now) l.fn.element) (map type_of l.types))
+      ≡ option_map (λ n. kept_size (l.length + n)) (length_joined (option_map (λ t. type_of t.now) l.fn.element) (map type_of (drop l.ty-index l.types)));
   small : l.length ≤ 4294967295;
 }

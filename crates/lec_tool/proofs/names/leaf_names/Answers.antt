@@ -1,6 +1,6 @@
 use Rattle.std.proofs.Common.{◌≡◌, ap, map, ◌∙◌, subst, Some, length, slice_get, arith}
 use Rattle.ir_store.specs.Designs.{design_of, modules_of, module_of, numbered_module}
-use Rattle.printable_designs.proofs.VerifiedDesigns.{canonical_designs_are_printable}
+use Rattle.printing_laws.proofs.VerifiedDesigns.{canonical_designs_are_printable}
 use Rattle.miter_blast.specs.Pairs.{IsFoundAt}
 use Rattle.miter_blast.proofs.Finding.{found_at, stored_at}
 use Rattle.miter_blast.proofs.Differences.{first_alone}

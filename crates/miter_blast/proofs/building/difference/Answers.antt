@@ -2,7 +2,7 @@ use Rattle.std.proofs.Common.{ap, ◌∙◌, length, sym}
 use Rattle.std.specs.Prelude.{IfOk}
 use mathlib.Core.Path.{subst₂}
 use Rattle.gates.specs.Circuits.{Runs}
-use Rattle.gate_words.specs.Rows.{unlike}
+use Rattle.gate_words.specs.GateLists.{unlike}
 use Rattle.ir_store.specs.Designs.{design_of}
 use Rattle.miter_blast.proofs.Differences.{same_long, difference_from, order_from}
 use Rattle.miter_blast.proofs.building.difference.Goals as goal

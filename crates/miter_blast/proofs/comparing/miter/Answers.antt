@@ -2,7 +2,7 @@ use Rattle.std.proofs.Common.{◌≡◌, ap, ◌∙◌, sym, subst, arith}
 use Rattle.hw_model.specs.Design.{Module}
 use Rattle.ir_store.specs.Designs.{design_of, module_of, numbered_module}
 use Rattle.op_verifier.specs.Answered.{modules_verified}
-use Rattle.printable_designs.proofs.VerifiedDesigns.{canonical_designs_are_printable}
+use Rattle.printing_laws.proofs.VerifiedDesigns.{canonical_designs_are_printable}
 use Rattle.diag.specs.declared.cause.Cause.TheVariants.{RegistersDiffer, TooManyGates}
 use Rattle.miter_blast.specs.Comparisons.{IsComparisonRefusal}
 use Rattle.miter_blast.specs.Leaves.{held_widths}
@@ -50,14 +50,16 @@ returns-then-not-are_same-clause-refused c =
     let pair = c.in-Ok.ensures.ok in
     let left_printable = canonical_designs_are_printable (design_of c.args.left.now.design) c.args.left.now.accepted c.args.left.now.canonical in
     let right_printable = canonical_designs_are_printable (design_of c.args.right.now.design) c.args.right.now.accepted c.args.right.now.canonical in
-    let first_is = first_alone (design_of c.in_ok-first.first.design) (numbered_module (module_of c.module_in.result.now)) (first_one (design_of c.args.left.now.design) c.args.a.now (design_of c.args.right.now.design) c.args.b.now c.in-Ok.pair.left c.in-Ok.pair.right pair c.args.left.now.accepted left_printable c.args.right.now.accepted right_printable (design_of c.in_ok-first.first.design) c.in_ok-first.ensures (design_of c.in_ok-second.second.design) c.in_ok-second.ensures) c.module_in.ensures (first_one_is (design_of c.args.left.now.design) c.args.a.now (design_of c.args.right.now.design) c.args.b.now c.in-Ok.pair.left c.in-Ok.pair.right pair c.args.left.now.accepted left_printable c.args.right.now.accepted right_printable (design_of c.in_ok-first.first.design) c.in_ok-first.ensures (design_of c.in_ok-second.second.design) c.in_ok-second.ensures) in
-    let second_is = first_alone (design_of c.in_ok-second.second.design) (numbered_module (module_of c.module_in-2.result.now)) (second_one (design_of c.args.left.now.design) c.args.a.now (design_of c.args.right.now.design) c.args.b.now c.in-Ok.pair.left c.in-Ok.pair.right pair c.args.left.now.accepted left_printable c.args.right.now.accepted right_printable (design_of c.in_ok-first.first.design) c.in_ok-first.ensures (design_of c.in_ok-second.second.design) c.in_ok-second.ensures) c.module_in-2.ensures (second_one_is (design_of c.args.left.now.design) c.args.a.now (design_of c.args.right.now.design) c.args.b.now c.in-Ok.pair.left c.in-Ok.pair.right pair c.args.left.now.accepted left_printable c.args.right.now.accepted right_printable (design_of c.in_ok-first.first.design) c.in_ok-first.ensures (design_of c.in_ok-second.second.design) c.in_ok-second.ensures) in
-    let first_held = c.in_ok-held.ensures ∙ ap (λ (x : Module). held_widths x.body) first_is in
-    let second_held = c.in_ok-held_too.ensures ∙ ap (λ (x : Module). held_widths x.body) second_is in
+    let first_is = first_alone (design_of c.in_ok-first.first.design) (numbered_module (module_of c.module_in.result.now))
+    (first_one (design_of c.args.left.now.design) c.args.a.now (design_of c.args.right.now.design) c.args.b.now c.in-Ok.pair.left c.in-Ok.pair.right pair c.args.left.now.accepted left_printable c.args.right.now.accepted right_printable (design_of c.in_ok-first.first.design) c.in_ok-first.ensures (design_of c.in_ok-second.second.design) c.in_ok-second.ensures) c.module_in.ensures (first_one_is (design_of c.args.left.now.design) c.args.a.now (design_of c.args.right.now.design) c.args.b.now c.in-Ok.pair.left c.in-Ok.pair.right pair c.args.left.now.accepted left_printable c.args.right.now.accepted right_printable (design_of c.in_ok-first.first.design) c.in_ok-first.ensures (design_of c.in_ok-second.second.design) c.in_ok-second.ensures) in
+    let second_is = first_alone (design_of c.in_ok-second.second.design) (numbered_module (module_of c.module_in-2.result.now))
+    (second_one (design_of c.args.left.now.design) c.args.a.now (design_of c.args.right.now.design) c.args.b.now c.in-Ok.pair.left c.in-Ok.pair.right pair c.args.left.now.accepted left_printable c.args.right.now.accepted right_printable (design_of c.in_ok-first.first.design) c.in_ok-first.ensures (design_of c.in_ok-second.second.design) c.in_ok-second.ensures) c.module_in-2.ensures (second_one_is (design_of c.args.left.now.design) c.args.a.now (design_of c.args.right.now.design) c.args.b.now c.in-Ok.pair.left c.in-Ok.pair.right pair c.args.left.now.accepted left_printable c.args.right.now.accepted right_printable (design_of c.in_ok-first.first.design) c.in_ok-first.ensures (design_of c.in_ok-second.second.design) c.in_ok-second.ensures) in
+    let first_held = c.in_ok-first_widths.ensures ∙ ap (λ (x : Module). held_widths x.body) first_is in
+    let second_held = c.in_ok-second_widths.ensures ∙ ap (λ (x : Module). held_widths x.body) second_is in
     let apart = not_told c.are_same.result (c.as_slice.result.now ≡ c.as_slice-2.result.now) c.are_same.ensures c.if-not-are_same.true in
     let place = same_there (design_of c.args.right.now.design) c.in-Ok.pair.right (numbered_module (module_of c.module_in-then-not-are_same.result.now)) pair.right c.module_in-then-not-are_same.ensures pair.right_at in
     rw c.at_module.ensures
-    (subst (λ p. IsComparisonRefusal (design_of c.args.left.now.design) c.args.a.now (design_of c.args.right.now.design) c.args.b.now (at_module 1 p RegistersDiffer)) (sym (ap (λ (x : Module). x.place) place))
+    (subst (λ p. IsComparisonRefusal (design_of c.args.left.now.design) c.args.a.now (design_of c.args.right.now.design) c.args.b.now (at_module 1 p RegistersDiffer)) (sym (ap (λ (x : Module). x.location) place))
     (refused_registers (design_of c.args.left.now.design) c.args.a.now (design_of c.args.right.now.design) c.args.b.now c.in-Ok.pair.left c.in-Ok.pair.right pair c.args.left.now.accepted left_printable c.args.right.now.accepted right_printable (design_of c.in_ok-first.first.design) c.in_ok-first.ensures (design_of c.in_ok-second.second.design) c.in_ok-second.ensures
     (λ same. apart (c.as_slice.ensures.value ∙ first_held ∙ same ∙ sym second_held ∙ sym c.as_slice-2.ensures.value))))
 
@@ -85,15 +87,17 @@ returns-then-branch-gt-MOST_GATES-clause-refused c =
     let pair = c.in-Ok.ensures.ok in
     let left_printable = canonical_designs_are_printable (design_of c.args.left.now.design) c.args.left.now.accepted c.args.left.now.canonical in
     let right_printable = canonical_designs_are_printable (design_of c.args.right.now.design) c.args.right.now.accepted c.args.right.now.canonical in
-    let first_is = first_alone (design_of c.in_ok-first.first.design) (numbered_module (module_of c.module_in.result.now)) (first_one (design_of c.args.left.now.design) c.args.a.now (design_of c.args.right.now.design) c.args.b.now c.in-Ok.pair.left c.in-Ok.pair.right pair c.args.left.now.accepted left_printable c.args.right.now.accepted right_printable (design_of c.in_ok-first.first.design) c.in_ok-first.ensures (design_of c.in_ok-second.second.design) c.in_ok-second.ensures) c.module_in.ensures (first_one_is (design_of c.args.left.now.design) c.args.a.now (design_of c.args.right.now.design) c.args.b.now c.in-Ok.pair.left c.in-Ok.pair.right pair c.args.left.now.accepted left_printable c.args.right.now.accepted right_printable (design_of c.in_ok-first.first.design) c.in_ok-first.ensures (design_of c.in_ok-second.second.design) c.in_ok-second.ensures) in
-    let second_is = first_alone (design_of c.in_ok-second.second.design) (numbered_module (module_of c.module_in-2.result.now)) (second_one (design_of c.args.left.now.design) c.args.a.now (design_of c.args.right.now.design) c.args.b.now c.in-Ok.pair.left c.in-Ok.pair.right pair c.args.left.now.accepted left_printable c.args.right.now.accepted right_printable (design_of c.in_ok-first.first.design) c.in_ok-first.ensures (design_of c.in_ok-second.second.design) c.in_ok-second.ensures) c.module_in-2.ensures (second_one_is (design_of c.args.left.now.design) c.args.a.now (design_of c.args.right.now.design) c.args.b.now c.in-Ok.pair.left c.in-Ok.pair.right pair c.args.left.now.accepted left_printable c.args.right.now.accepted right_printable (design_of c.in_ok-first.first.design) c.in_ok-first.ensures (design_of c.in_ok-second.second.design) c.in_ok-second.ensures) in
-    let first_held = c.in_ok-held.ensures ∙ ap (λ (x : Module). held_widths x.body) first_is in
-    let second_held = c.in_ok-held_too.ensures ∙ ap (λ (x : Module). held_widths x.body) second_is in
+    let first_is = first_alone (design_of c.in_ok-first.first.design) (numbered_module (module_of c.module_in.result.now))
+    (first_one (design_of c.args.left.now.design) c.args.a.now (design_of c.args.right.now.design) c.args.b.now c.in-Ok.pair.left c.in-Ok.pair.right pair c.args.left.now.accepted left_printable c.args.right.now.accepted right_printable (design_of c.in_ok-first.first.design) c.in_ok-first.ensures (design_of c.in_ok-second.second.design) c.in_ok-second.ensures) c.module_in.ensures (first_one_is (design_of c.args.left.now.design) c.args.a.now (design_of c.args.right.now.design) c.args.b.now c.in-Ok.pair.left c.in-Ok.pair.right pair c.args.left.now.accepted left_printable c.args.right.now.accepted right_printable (design_of c.in_ok-first.first.design) c.in_ok-first.ensures (design_of c.in_ok-second.second.design) c.in_ok-second.ensures) in
+    let second_is = first_alone (design_of c.in_ok-second.second.design) (numbered_module (module_of c.module_in-2.result.now))
+    (second_one (design_of c.args.left.now.design) c.args.a.now (design_of c.args.right.now.design) c.args.b.now c.in-Ok.pair.left c.in-Ok.pair.right pair c.args.left.now.accepted left_printable c.args.right.now.accepted right_printable (design_of c.in_ok-first.first.design) c.in_ok-first.ensures (design_of c.in_ok-second.second.design) c.in_ok-second.ensures) c.module_in-2.ensures (second_one_is (design_of c.args.left.now.design) c.args.a.now (design_of c.args.right.now.design) c.args.b.now c.in-Ok.pair.left c.in-Ok.pair.right pair c.args.left.now.accepted left_printable c.args.right.now.accepted right_printable (design_of c.in_ok-first.first.design) c.in_ok-first.ensures (design_of c.in_ok-second.second.design) c.in_ok-second.ensures) in
+    let first_held = c.in_ok-first_widths.ensures ∙ ap (λ (x : Module). held_widths x.body) first_is in
+    let second_held = c.in_ok-second_widths.ensures ∙ ap (λ (x : Module). held_widths x.body) second_is in
     let lists = so_told c.are_same.result (c.as_slice.result.now ≡ c.as_slice-2.result.now) c.are_same.ensures c.if-not-are_same.false in
     let same = sym first_held ∙ sym c.as_slice.ensures.value ∙ lists ∙ c.as_slice-2.ensures.value ∙ second_held in
     let place = same_there (design_of c.args.left.now.design) c.in-Ok.pair.left (numbered_module (module_of c.module_in-then-branch-gt-MOST_GATES.result.now)) pair.left c.module_in-then-branch-gt-MOST_GATES.ensures pair.left_at in
     rw c.at_module-then-branch-gt-MOST_GATES.ensures
-    (subst (λ p. IsComparisonRefusal (design_of c.args.left.now.design) c.args.a.now (design_of c.args.right.now.design) c.args.b.now (at_module 0 p TooManyGates)) (sym (ap (λ (x : Module). x.place) place))
+    (subst (λ p. IsComparisonRefusal (design_of c.args.left.now.design) c.args.a.now (design_of c.args.right.now.design) c.args.b.now (at_module 0 p TooManyGates)) (sym (ap (λ (x : Module). x.location) place))
     (refused_price (design_of c.args.left.now.design) c.args.a.now (design_of c.args.right.now.design) c.args.b.now c.in-Ok.pair.left c.in-Ok.pair.right pair c.args.left.now.accepted left_printable c.args.right.now.accepted right_printable (design_of c.in_ok-first.first.design) c.in_ok-first.ensures (design_of c.in_ok-second.second.design) c.in_ok-second.ensures same c.in_ok-price_of.field-0 c.in_ok-price_of.ensures c.if-branch-gt-MOST_GATES.true))
 
 pub built-requires-clause-ready : goal.built-requires-clause-ready
@@ -101,23 +105,27 @@ built-requires-clause-ready c =
     let pair = c.in-Ok.ensures.ok in
     let left_printable = canonical_designs_are_printable (design_of c.args.left.now.design) c.args.left.now.accepted c.args.left.now.canonical in
     let right_printable = canonical_designs_are_printable (design_of c.args.right.now.design) c.args.right.now.accepted c.args.right.now.canonical in
-    let first_is = first_alone (design_of c.in_ok-first.first.design) (numbered_module (module_of c.module_in.result.now)) (first_one (design_of c.args.left.now.design) c.args.a.now (design_of c.args.right.now.design) c.args.b.now c.in-Ok.pair.left c.in-Ok.pair.right pair c.args.left.now.accepted left_printable c.args.right.now.accepted right_printable (design_of c.in_ok-first.first.design) c.in_ok-first.ensures (design_of c.in_ok-second.second.design) c.in_ok-second.ensures) c.module_in.ensures (first_one_is (design_of c.args.left.now.design) c.args.a.now (design_of c.args.right.now.design) c.args.b.now c.in-Ok.pair.left c.in-Ok.pair.right pair c.args.left.now.accepted left_printable c.args.right.now.accepted right_printable (design_of c.in_ok-first.first.design) c.in_ok-first.ensures (design_of c.in_ok-second.second.design) c.in_ok-second.ensures) in
-    let second_is = first_alone (design_of c.in_ok-second.second.design) (numbered_module (module_of c.module_in-2.result.now)) (second_one (design_of c.args.left.now.design) c.args.a.now (design_of c.args.right.now.design) c.args.b.now c.in-Ok.pair.left c.in-Ok.pair.right pair c.args.left.now.accepted left_printable c.args.right.now.accepted right_printable (design_of c.in_ok-first.first.design) c.in_ok-first.ensures (design_of c.in_ok-second.second.design) c.in_ok-second.ensures) c.module_in-2.ensures (second_one_is (design_of c.args.left.now.design) c.args.a.now (design_of c.args.right.now.design) c.args.b.now c.in-Ok.pair.left c.in-Ok.pair.right pair c.args.left.now.accepted left_printable c.args.right.now.accepted right_printable (design_of c.in_ok-first.first.design) c.in_ok-first.ensures (design_of c.in_ok-second.second.design) c.in_ok-second.ensures) in
-    let first_held = c.in_ok-held.ensures ∙ ap (λ (x : Module). held_widths x.body) first_is in
-    let second_held = c.in_ok-held_too.ensures ∙ ap (λ (x : Module). held_widths x.body) second_is in
+    let first_is = first_alone (design_of c.in_ok-first.first.design) (numbered_module (module_of c.module_in.result.now))
+    (first_one (design_of c.args.left.now.design) c.args.a.now (design_of c.args.right.now.design) c.args.b.now c.in-Ok.pair.left c.in-Ok.pair.right pair c.args.left.now.accepted left_printable c.args.right.now.accepted right_printable (design_of c.in_ok-first.first.design) c.in_ok-first.ensures (design_of c.in_ok-second.second.design) c.in_ok-second.ensures) c.module_in.ensures (first_one_is (design_of c.args.left.now.design) c.args.a.now (design_of c.args.right.now.design) c.args.b.now c.in-Ok.pair.left c.in-Ok.pair.right pair c.args.left.now.accepted left_printable c.args.right.now.accepted right_printable (design_of c.in_ok-first.first.design) c.in_ok-first.ensures (design_of c.in_ok-second.second.design) c.in_ok-second.ensures) in
+    let second_is = first_alone (design_of c.in_ok-second.second.design) (numbered_module (module_of c.module_in-2.result.now))
+    (second_one (design_of c.args.left.now.design) c.args.a.now (design_of c.args.right.now.design) c.args.b.now c.in-Ok.pair.left c.in-Ok.pair.right pair c.args.left.now.accepted left_printable c.args.right.now.accepted right_printable (design_of c.in_ok-first.first.design) c.in_ok-first.ensures (design_of c.in_ok-second.second.design) c.in_ok-second.ensures) c.module_in-2.ensures (second_one_is (design_of c.args.left.now.design) c.args.a.now (design_of c.args.right.now.design) c.args.b.now c.in-Ok.pair.left c.in-Ok.pair.right pair c.args.left.now.accepted left_printable c.args.right.now.accepted right_printable (design_of c.in_ok-first.first.design) c.in_ok-first.ensures (design_of c.in_ok-second.second.design) c.in_ok-second.ensures) in
+    let first_held = c.in_ok-first_widths.ensures ∙ ap (λ (x : Module). held_widths x.body) first_is in
+    let second_held = c.in_ok-second_widths.ensures ∙ ap (λ (x : Module). held_widths x.body) second_is in
     let lists = so_told c.are_same.result (c.as_slice.result.now ≡ c.as_slice-2.result.now) c.are_same.ensures c.if-not-are_same.false in
     let same = sym first_held ∙ sym c.as_slice.ensures.value ∙ lists ∙ c.as_slice-2.ensures.value ∙ second_held in
-    ready (design_of c.args.left.now.design) c.args.a.now (design_of c.args.right.now.design) c.args.b.now c.in-Ok.pair.left c.in-Ok.pair.right pair c.args.left.now.accepted left_printable c.args.right.now.accepted right_printable (design_of c.in_ok-first.first.design) c.in_ok-first.ensures (design_of c.in_ok-second.second.design) c.in_ok-second.ensures same c.in_ok-held.held.items first_held
+    ready (design_of c.args.left.now.design) c.args.a.now (design_of c.args.right.now.design) c.args.b.now c.in-Ok.pair.left c.in-Ok.pair.right pair c.args.left.now.accepted left_printable c.args.right.now.accepted right_printable (design_of c.in_ok-first.first.design) c.in_ok-first.ensures (design_of c.in_ok-second.second.design) c.in_ok-second.ensures same c.in_ok-first_widths.first_widths.items first_held
 
 pub built-requires-clause-few : goal.built-requires-clause-few
 built-requires-clause-few c =
     let pair = c.in-Ok.ensures.ok in
     let left_printable = canonical_designs_are_printable (design_of c.args.left.now.design) c.args.left.now.accepted c.args.left.now.canonical in
     let right_printable = canonical_designs_are_printable (design_of c.args.right.now.design) c.args.right.now.accepted c.args.right.now.canonical in
-    let first_is = first_alone (design_of c.in_ok-first.first.design) (numbered_module (module_of c.module_in.result.now)) (first_one (design_of c.args.left.now.design) c.args.a.now (design_of c.args.right.now.design) c.args.b.now c.in-Ok.pair.left c.in-Ok.pair.right pair c.args.left.now.accepted left_printable c.args.right.now.accepted right_printable (design_of c.in_ok-first.first.design) c.in_ok-first.ensures (design_of c.in_ok-second.second.design) c.in_ok-second.ensures) c.module_in.ensures (first_one_is (design_of c.args.left.now.design) c.args.a.now (design_of c.args.right.now.design) c.args.b.now c.in-Ok.pair.left c.in-Ok.pair.right pair c.args.left.now.accepted left_printable c.args.right.now.accepted right_printable (design_of c.in_ok-first.first.design) c.in_ok-first.ensures (design_of c.in_ok-second.second.design) c.in_ok-second.ensures) in
-    let second_is = first_alone (design_of c.in_ok-second.second.design) (numbered_module (module_of c.module_in-2.result.now)) (second_one (design_of c.args.left.now.design) c.args.a.now (design_of c.args.right.now.design) c.args.b.now c.in-Ok.pair.left c.in-Ok.pair.right pair c.args.left.now.accepted left_printable c.args.right.now.accepted right_printable (design_of c.in_ok-first.first.design) c.in_ok-first.ensures (design_of c.in_ok-second.second.design) c.in_ok-second.ensures) c.module_in-2.ensures (second_one_is (design_of c.args.left.now.design) c.args.a.now (design_of c.args.right.now.design) c.args.b.now c.in-Ok.pair.left c.in-Ok.pair.right pair c.args.left.now.accepted left_printable c.args.right.now.accepted right_printable (design_of c.in_ok-first.first.design) c.in_ok-first.ensures (design_of c.in_ok-second.second.design) c.in_ok-second.ensures) in
-    let first_held = c.in_ok-held.ensures ∙ ap (λ (x : Module). held_widths x.body) first_is in
-    let second_held = c.in_ok-held_too.ensures ∙ ap (λ (x : Module). held_widths x.body) second_is in
+    let first_is = first_alone (design_of c.in_ok-first.first.design) (numbered_module (module_of c.module_in.result.now))
+    (first_one (design_of c.args.left.now.design) c.args.a.now (design_of c.args.right.now.design) c.args.b.now c.in-Ok.pair.left c.in-Ok.pair.right pair c.args.left.now.accepted left_printable c.args.right.now.accepted right_printable (design_of c.in_ok-first.first.design) c.in_ok-first.ensures (design_of c.in_ok-second.second.design) c.in_ok-second.ensures) c.module_in.ensures (first_one_is (design_of c.args.left.now.design) c.args.a.now (design_of c.args.right.now.design) c.args.b.now c.in-Ok.pair.left c.in-Ok.pair.right pair c.args.left.now.accepted left_printable c.args.right.now.accepted right_printable (design_of c.in_ok-first.first.design) c.in_ok-first.ensures (design_of c.in_ok-second.second.design) c.in_ok-second.ensures) in
+    let second_is = first_alone (design_of c.in_ok-second.second.design) (numbered_module (module_of c.module_in-2.result.now))
+    (second_one (design_of c.args.left.now.design) c.args.a.now (design_of c.args.right.now.design) c.args.b.now c.in-Ok.pair.left c.in-Ok.pair.right pair c.args.left.now.accepted left_printable c.args.right.now.accepted right_printable (design_of c.in_ok-first.first.design) c.in_ok-first.ensures (design_of c.in_ok-second.second.design) c.in_ok-second.ensures) c.module_in-2.ensures (second_one_is (design_of c.args.left.now.design) c.args.a.now (design_of c.args.right.now.design) c.args.b.now c.in-Ok.pair.left c.in-Ok.pair.right pair c.args.left.now.accepted left_printable c.args.right.now.accepted right_printable (design_of c.in_ok-first.first.design) c.in_ok-first.ensures (design_of c.in_ok-second.second.design) c.in_ok-second.ensures) in
+    let first_held = c.in_ok-first_widths.ensures ∙ ap (λ (x : Module). held_widths x.body) first_is in
+    let second_held = c.in_ok-second_widths.ensures ∙ ap (λ (x : Module). held_widths x.body) second_is in
     let lists = so_told c.are_same.result (c.as_slice.result.now ≡ c.as_slice-2.result.now) c.are_same.ensures c.if-not-are_same.false in
     let same = sym first_held ∙ sym c.as_slice.ensures.value ∙ lists ∙ c.as_slice-2.ensures.value ∙ second_held in
     few_gates (design_of c.args.left.now.design) c.args.a.now (design_of c.args.right.now.design) c.args.b.now c.in-Ok.pair.left c.in-Ok.pair.right pair c.args.left.now.accepted left_printable c.args.right.now.accepted right_printable (design_of c.in_ok-first.first.design) c.in_ok-first.ensures (design_of c.in_ok-second.second.design) c.in_ok-second.ensures same c.in_ok-price_of.field-0 c.in_ok-price_of.ensures (omega (arith, c.if-branch-gt-MOST_GATES.false))
@@ -127,10 +135,12 @@ returns-in-Ok-built-clause-ok c =
     let pair = c.in-Ok.ensures.ok in
     let left_printable = canonical_designs_are_printable (design_of c.args.left.now.design) c.args.left.now.accepted c.args.left.now.canonical in
     let right_printable = canonical_designs_are_printable (design_of c.args.right.now.design) c.args.right.now.accepted c.args.right.now.canonical in
-    let first_is = first_alone (design_of c.in_ok-first.first.design) (numbered_module (module_of c.module_in.result.now)) (first_one (design_of c.args.left.now.design) c.args.a.now (design_of c.args.right.now.design) c.args.b.now c.in-Ok.pair.left c.in-Ok.pair.right pair c.args.left.now.accepted left_printable c.args.right.now.accepted right_printable (design_of c.in_ok-first.first.design) c.in_ok-first.ensures (design_of c.in_ok-second.second.design) c.in_ok-second.ensures) c.module_in.ensures (first_one_is (design_of c.args.left.now.design) c.args.a.now (design_of c.args.right.now.design) c.args.b.now c.in-Ok.pair.left c.in-Ok.pair.right pair c.args.left.now.accepted left_printable c.args.right.now.accepted right_printable (design_of c.in_ok-first.first.design) c.in_ok-first.ensures (design_of c.in_ok-second.second.design) c.in_ok-second.ensures) in
-    let second_is = first_alone (design_of c.in_ok-second.second.design) (numbered_module (module_of c.module_in-2.result.now)) (second_one (design_of c.args.left.now.design) c.args.a.now (design_of c.args.right.now.design) c.args.b.now c.in-Ok.pair.left c.in-Ok.pair.right pair c.args.left.now.accepted left_printable c.args.right.now.accepted right_printable (design_of c.in_ok-first.first.design) c.in_ok-first.ensures (design_of c.in_ok-second.second.design) c.in_ok-second.ensures) c.module_in-2.ensures (second_one_is (design_of c.args.left.now.design) c.args.a.now (design_of c.args.right.now.design) c.args.b.now c.in-Ok.pair.left c.in-Ok.pair.right pair c.args.left.now.accepted left_printable c.args.right.now.accepted right_printable (design_of c.in_ok-first.first.design) c.in_ok-first.ensures (design_of c.in_ok-second.second.design) c.in_ok-second.ensures) in
-    let first_held = c.in_ok-held.ensures ∙ ap (λ (x : Module). held_widths x.body) first_is in
-    let second_held = c.in_ok-held_too.ensures ∙ ap (λ (x : Module). held_widths x.body) second_is in
+    let first_is = first_alone (design_of c.in_ok-first.first.design) (numbered_module (module_of c.module_in.result.now))
+    (first_one (design_of c.args.left.now.design) c.args.a.now (design_of c.args.right.now.design) c.args.b.now c.in-Ok.pair.left c.in-Ok.pair.right pair c.args.left.now.accepted left_printable c.args.right.now.accepted right_printable (design_of c.in_ok-first.first.design) c.in_ok-first.ensures (design_of c.in_ok-second.second.design) c.in_ok-second.ensures) c.module_in.ensures (first_one_is (design_of c.args.left.now.design) c.args.a.now (design_of c.args.right.now.design) c.args.b.now c.in-Ok.pair.left c.in-Ok.pair.right pair c.args.left.now.accepted left_printable c.args.right.now.accepted right_printable (design_of c.in_ok-first.first.design) c.in_ok-first.ensures (design_of c.in_ok-second.second.design) c.in_ok-second.ensures) in
+    let second_is = first_alone (design_of c.in_ok-second.second.design) (numbered_module (module_of c.module_in-2.result.now))
+    (second_one (design_of c.args.left.now.design) c.args.a.now (design_of c.args.right.now.design) c.args.b.now c.in-Ok.pair.left c.in-Ok.pair.right pair c.args.left.now.accepted left_printable c.args.right.now.accepted right_printable (design_of c.in_ok-first.first.design) c.in_ok-first.ensures (design_of c.in_ok-second.second.design) c.in_ok-second.ensures) c.module_in-2.ensures (second_one_is (design_of c.args.left.now.design) c.args.a.now (design_of c.args.right.now.design) c.args.b.now c.in-Ok.pair.left c.in-Ok.pair.right pair c.args.left.now.accepted left_printable c.args.right.now.accepted right_printable (design_of c.in_ok-first.first.design) c.in_ok-first.ensures (design_of c.in_ok-second.second.design) c.in_ok-second.ensures) in
+    let first_held = c.in_ok-first_widths.ensures ∙ ap (λ (x : Module). held_widths x.body) first_is in
+    let second_held = c.in_ok-second_widths.ensures ∙ ap (λ (x : Module). held_widths x.body) second_is in
     let lists = so_told c.are_same.result (c.as_slice.result.now ≡ c.as_slice-2.result.now) c.are_same.ensures c.if-not-are_same.false in
     let same = sym first_held ∙ sym c.as_slice.ensures.value ∙ lists ∙ c.as_slice-2.ensures.value ∙ second_held in
     compared (design_of c.args.left.now.design) c.args.a.now (design_of c.args.right.now.design) c.args.b.now c.in-Ok.pair.left c.in-Ok.pair.right pair c.args.left.now.accepted left_printable c.args.right.now.accepted right_printable (design_of c.in_ok-first.first.design) c.in_ok-first.ensures (design_of c.in_ok-second.second.design) c.in_ok-second.ensures same c.in-Ok-built.miter c.in-Ok-built.ensures (few_gates (design_of c.args.left.now.design) c.args.a.now (design_of c.args.right.now.design) c.args.b.now c.in-Ok.pair.left c.in-Ok.pair.right pair c.args.left.now.accepted left_printable c.args.right.now.accepted right_printable (design_of c.in_ok-first.first.design) c.in_ok-first.ensures (design_of c.in_ok-second.second.design) c.in_ok-second.ensures same c.in_ok-price_of.field-0 c.in_ok-price_of.ensures (omega (arith, c.if-branch-gt-MOST_GATES.false)))

@@ -2,17 +2,17 @@ use Rattle.std.proofs.Common.{ap, ◌∙◌, arith, length, ◌≡◌, ◌+◌, 
 use Rattle.std.proofs.lemmas.List.{take_all}
 use Rattle.bits_core.specs.Word.{number, bits}
 use Rattle.bits_core.proofs.Numbers.{bits-number}
-use Rattle.miter_blast.proofs.WordNumbers.{number_more, bit_most, front_below}
+use Rattle.miter_blast.proofs.WordNumbers.{number_more, bit_most, prefix_below}
 use Rattle.miter_blast.proofs.input.word_of.Goals as goal
 
 pub overflow_mul-value : goal.overflow_mul-value
 overflow_mul-value c =
-    let below = front_below c.args.bits.now c.loop-bit.bit-index c.loop-bit-test.true c.requires.few in
+    let below = prefix_below c.args.bits.now c.loop-bit.bit-index c.loop-bit-test.true c.requires.few in
     omega (arith, below, c.loop-bit.invariant)
 
 pub overflow_add-value : goal.overflow_add-value
 overflow_add-value c =
-    let below = front_below c.args.bits.now c.loop-bit.bit-index c.loop-bit-test.true c.requires.few in
+    let below = prefix_below c.args.bits.now c.loop-bit.bit-index c.loop-bit-test.true c.requires.few in
     let most = bit_most (get_or c.args.bits.now c.loop-bit.bit-index false) in
     omega (arith, below, c.loop-bit.invariant, c.bit_number.ensures, most)
 

@@ -1,7 +1,7 @@
 use Rattle.std.proofs.Common.{◌≡◌, map, ap, ◌∙◌, subst, sym}
 use Rattle.std.proofs.lemmas.Result.{IfOk-weaker}
 use Rattle.ir_store.specs.Designs.{modules_of, numbered_module, design_of}
-use Rattle.mlir_reader.specs.Spelling.{SpellsPlacelessly}
+use Rattle.mlir_reader.specs.Spelling.{SpellsUnlocated}
 use Rattle.mlir_printer.specs.Texts.{ir_text}
 use Rattle.mlir_printer.proofs.design_text.print_design.Goals as goal
 
@@ -11,7 +11,7 @@ returns-clause-spelled c =
     let d = design_of verified.design in
     let printable = c.what_is_canonical_is_printable.ensures d verified.accepted verified.canonical in
     let same : modules_of c.design.result.now ≡ modules_of verified.design = c.design.ensures in
-    IfOk-weaker c.design_text.result (λ text. text ≡ ir_text (design_of c.design.result.now)) (λ text. SpellsPlacelessly text d)
+    IfOk-weaker c.design_text.result (λ text. text ≡ ir_text (design_of c.design.result.now)) (λ text. SpellsUnlocated text d)
     (λ text e.
-    subst (λ t. SpellsPlacelessly t d) (sym (e ∙ ap (λ ms. ir_text (map numbered_module ms)) same)) (c.what_is_printable_is_spelled.ensures d printable))
+    subst (λ t. SpellsUnlocated t d) (sym (e ∙ ap (λ ms. ir_text (map numbered_module ms)) same)) (c.what_is_printable_is_spelled.ensures d printable))
     c.design_text.ensures

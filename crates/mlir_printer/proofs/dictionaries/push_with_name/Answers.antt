@@ -15,5 +15,7 @@ returns c =
     (c.in_ok-push_entries.ensures ∙ ap (λ l. c.push_bytes.new.self ++ items_from entry_bytes 0 l) (map_take entry_of p c.args.entries.now) ∙ ap (λ k. c.push_bytes.new.self ++ items_from entry_bytes 0 (take k es)) e)
     (c.in_ok-push_comma.ensures ∙ ap (λ k. c.push_entries.new.out ++ comma_bytes k) e)
     c.in_ok-push_name_entry.ensures
-    (c.in_ok-push_entries-2.ensures ∙ ap (λ l. c.push_name_entry.new.out ++ items_from entry_bytes (p + 1) (map entry_of l)) (rest_all p c.args.entries.now) ∙ ap (λ l. c.push_name_entry.new.out ++ items_from entry_bytes (p + 1) l) (map_drop entry_of p c.args.entries.now) ∙ ap (λ k. c.push_name_entry.new.out ++ items_from entry_bytes (k + 1) (drop k es)) e)
+    (c.in_ok-push_entries-2.ensures ∙ ap (λ l. c.push_name_entry.new.out ++ items_from entry_bytes (p + 1) (map entry_of l)) (rest_all p c.args.entries.now)
+    ∙ ap (λ l. c.push_name_entry.new.out ++ items_from entry_bytes (p + 1) l) (map_drop entry_of p c.args.entries.now)
+    ∙ ap (λ k. c.push_name_entry.new.out ++ items_from entry_bytes (k + 1) (drop k es)) e)
     c.in_ok-push_bytes-2.ensures.ok

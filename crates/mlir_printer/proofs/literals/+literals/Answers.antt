@@ -1,6 +1,6 @@
 use Rattle.std.proofs.Common.{◌++◌, ap, ◌∙◌, arith}
 use Rattle.hw_model.specs.KindViews.{literal_of}
-use Rattle.printable_designs.specs.Numbers.{shown_literal}
+use Rattle.printing_laws.specs.Numbers.{shown_literal}
 use Rattle.mlir_printer.specs.Literals.{literal_bytes}
 use Rattle.mlir_printer.specs.Commas.{items_from}
 use Rattle.mlir_printer.proofs.steps.Steps.{items_end, literals_items}

@@ -1,7 +1,7 @@
 use Rattle.std.proofs.Common.{◌≡◌, ◌++◌, drop}
 use Rattle.hw_model.specs.KindViews.{literal_of}
 use Rattle.mlir_printer.specs.Commas.{items_from}
-use Rattle.printable_designs.specs.Numbers.{shown_literal}
+use Rattle.printing_laws.specs.Numbers.{shown_literal}
 use Rattle.mlir_printer.specs.Literals.{literal_bytes}
 use Rattle.mlir_printer.proofs.literals.+literals.Given as goal
 

@@ -4,14 +4,14 @@ use Rattle.mlir_reader.specs.Meanings.{meanings_of}
 use Rattle.mlir_reader.proofs.Defining.{names_step_at, marks_step_at}
 use Rattle.mlir_reader.proofs.definitions.define_each.Goals as goal
 
-pub loop-place-preserved : goal.loop-place-preserved
-loop-place-preserved c =
-    let l = c.loop-place in
+pub loop-index-preserved : goal.loop-index-preserved
+loop-index-preserved c =
+    let l = c.loop-index in
     let d : Bor (List ℕ) = record { ref_ptr = (0, 0); now = [] } in
     let m = meanings_of l.names in
-    let n = meanings_of c.define-in-loop-place.new.self in
+    let n = meanings_of c.define-in-loop-index.new.self in
     record {
-      means = names_step_at m n c.args.others.now c.args.position l.place d c.loop-place-test.true c.in_ok-again-2.ensures.means ∙ l.invariant.means;
-      marks = marks_step_at m n c.args.others.now c.args.position l.place d l.found.items c.push-in-loop-place.new.self.items c.in_ok-again-2.again
-          c.loop-place-test.true c.in_ok-again-2.ensures.means c.in_ok-again-2.ensures.again c.in_ok-push-2.ensures.ok ∙ l.invariant.marks;
+      means = names_step_at m n c.args.others.now c.args.position l.index d c.loop-index-test.true c.in_ok-again-2.ensures.means ∙ l.invariant.means;
+      marks = marks_step_at m n c.args.others.now c.args.position l.index d l.found.items c.push-in-loop-index.new.self.items c.in_ok-again-2.again
+          c.loop-index-test.true c.in_ok-again-2.ensures.means c.in_ok-again-2.ensures.again c.in_ok-push-2.ensures.ok ∙ l.invariant.marks;
     }

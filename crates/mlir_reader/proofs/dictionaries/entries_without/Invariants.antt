@@ -1,7 +1,7 @@
 use Rattle.std.proofs.Common.{◌≡◌, ◌++◌, map}
 use Rattle.ir_store.specs.DictionaryViews.{entry_of}
 use Rattle.mlir_reader.specs.Resolving.{without}
-use Rattle.canonical_form.specs.Dictionaries.{is_dropped}
+use Rattle.stored_form.specs.Dictionaries.{is_dropped}
 use Rattle.mlir_reader.proofs.dictionaries.entries_without.Given as goal
 
 abbrev pub invariant-loop-entry : goal.invariant-loop-entry

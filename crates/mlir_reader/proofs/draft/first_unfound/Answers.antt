@@ -9,11 +9,11 @@ use Rattle.mlir_reader.proofs.draft.first_unfound.Goals as goal
 pub returns-then-is_none : goal.returns-then-is_none
 returns-then-is_none c =
     let o : OperandName = record { name = record { ref_ptr = (0, 0); now = [] }; number = 0 } in
-    λ _. unfound_here (meanings_of c.args.names.now) c.args.operands.now c.loop-place.place o c.loop-place-test.true c.find.result c.is_none.result c.find.ensures c.is_none.ensures
-    (c.args.from + found_count (meanings_of c.args.names.now) (drop c.args.from (map operand_of c.args.operands.now))) c.if-is_none.true c.loop-place.invariant
+    λ _. unfound_here (meanings_of c.args.names.now) c.args.operands.now c.loop-index.index o c.loop-index-test.true c.find.result c.is_none.result c.find.ensures c.is_none.ensures
+    (c.args.from + found_count (meanings_of c.args.names.now) (drop c.args.from (map operand_of c.args.operands.now))) c.if-is_none.true c.loop-index.invariant
 
-pub loop-place-preserved : goal.loop-place-preserved
-loop-place-preserved c =
+pub loop-index-preserved : goal.loop-index-preserved
+loop-index-preserved c =
     let o : OperandName = record { name = record { ref_ptr = (0, 0); now = [] }; number = 0 } in
-    found_here (meanings_of c.args.names.now) c.args.operands.now c.loop-place.place o c.loop-place-test.true c.find.result c.is_none.result c.find.ensures c.is_none.ensures
-    (c.args.from + found_count (meanings_of c.args.names.now) (drop c.args.from (map operand_of c.args.operands.now))) c.if-is_none.false c.loop-place.invariant
+    found_here (meanings_of c.args.names.now) c.args.operands.now c.loop-index.index o c.loop-index-test.true c.find.result c.is_none.result c.find.ensures c.is_none.ensures
+    (c.args.from + found_count (meanings_of c.args.names.now) (drop c.args.from (map operand_of c.args.operands.now))) c.if-is_none.false c.loop-index.invariant

@@ -2,7 +2,7 @@ use Rattle.std.proofs.Common.{◌≡◌, [], map, arith, rules, ap, sym, ◌∙�
 use Rattle.std.proofs.lemmas.List.{nil_from_length}
 use Rattle.hw_model.specs.KindViews.{literal_of, literals_of}
 use Rattle.hw_model.specs.declared.kinds.Literal.{the_lemmas}
-use Rattle.canonical_form.specs.Constants.{kept_literals}
+use Rattle.stored_form.specs.Constants.{kept_literals}
 use Rattle.mlir_reader.proofs.Constants.{kept_of, kept_one, kept_each}
 use Rattle.mlir_reader.proofs.Moving.{moved_step, moved_end}
 use Rattle.mlir_reader.proofs.kinds.+keep_literal.Goals as goal

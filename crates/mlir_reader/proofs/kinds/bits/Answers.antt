@@ -2,7 +2,7 @@ use Rattle.std.proofs.Common.{◌≡◌, ℕ, ◌*◌, ◌-◌, ◌^◌, ◌<◌
 use Rattle.std.specs.Prelude.{◌%◌, ◌&&◌, nat_lt}
 use Rattle.std.proofs.lemmas.Bool.{and_parts, ltb-true}
 use Rattle.std.proofs.Math.Nat.{pow-le-pow_right, mod-le}
-use Rattle.canonical_form.specs.Constants.{has_negative}
+use Rattle.stored_form.specs.Constants.{has_negative}
 use Rattle.mlir_reader.proofs.kinds.bits.Goals as goal
 
 -- half of the numbers of a width of at most 128 bits

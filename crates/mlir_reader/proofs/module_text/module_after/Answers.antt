@@ -42,7 +42,7 @@ returns-clause-gives c =
       ports = ports;
       dictionary = read.0.dictionary;
       operations = read.0.operations;
-      place = c.args.place;
+      location = c.args.location;
       close = read.0.close;
     } in
     let head : IsHead text (record {
@@ -50,8 +50,8 @@ returns-clause-gives c =
       private = c.private_text-private.result;
       ports = c.in_ok-ports-2.ports.list;
       outputs = c.in_ok-ports-2.ports.outputs;
-      place = c.args.place;
-    }) = record { symbol = refl; private = refl; ports = c.in_ok-ports-2.ensures.list; outputs = c.in_ok-ports-2.ensures.outputs; place = refl } in
+      location = c.args.location;
+    }) = record { symbol = refl; private = refl; ports = c.in_ok-ports-2.ensures.list; outputs = c.in_ok-ports-2.ensures.outputs; location = refl } in
     let body = subst (λ seen. IsBodyText seen read.0 c.in_ok-body.body) c.in_ok-ports-2.ensures.names read.2 in (
       text,
       rw (c.private_text-private.ensures.gives, c.in_ok-symbol.ensures.gives, c.in_ok-ports.ensures.gives, read.1) refl,

@@ -17,7 +17,8 @@ loop-port-preserved c =
     record {
       ports = port_step l.list.items c.push.new.self.items (record { name = t.name; out = c.is_none.result; ty = t.ty; again = c.in_ok-again.again }) t e f l.position l.port-iterator.rest.items next
           (ports_from (meanings_of c.args.names.now) 0 (map port_text_of c.args.ports.items))
-          c.in_ok-push.ensures.items (port_is t e f l.position (map port_text_of next) c.is_none.result c.in_ok-again.again (turned (is_some t.value) c.is_none.result c.is_none.ensures) c.in_ok-again.ensures.again c.in_ok-again.ensures.means) steps l.invariant.ports;
+          c.in_ok-push.ensures.items (port_is t e f l.position (map port_text_of next) c.is_none.result c.in_ok-again.again
+          (turned (is_some t.value) c.is_none.result c.is_none.ensures) c.in_ok-again.ensures.again c.in_ok-again.ensures.means) steps l.invariant.ports;
       means = port_means e f l.position t l.port-iterator.rest.items next (with_definitions (meanings_of c.args.names.now) (port_definitions 0 (map port_text_of c.args.ports.items))) c.in_ok-again.ensures.means steps l.invariant.means;
       count = let n = ap length steps in omega (arith, n, l.invariant.count);
     }

@@ -30,9 +30,9 @@ returns c t h b =
     ] in
     let ends = either body.ends c.args.head.outputs (ends_with_output t.operations) (has_outputs t.ports) c.if-body.ends b.operations.ends h.outputs given in
     let before = map (op_by (λ i. i)) (ops_of body.body) in
-    let closed = c.in_ok-completed.ensures.ops ∙ ap (λ place. cond c.if-body.ends before (before ++ left_out_output place ∷ [])) b.close in
+    let closed = c.in_ok-completed.ensures.ops ∙ ap (λ location. cond c.if-body.ends before (before ++ left_out_output location ∷ [])) b.close in
     let kept = c.in_ok-dictionary.ensures ∙ ap (kept_entries listed.HwModule) b.dictionary in
-    rw (h.symbol, h.private, h.place)
+    rw (h.symbol, h.private, h.location)
     (module_is t (ops_of body.body) (ops_of c.in_ok-completed.completed) (meanings t) no_meaning (port_meanings t.ports) c.if-body.ends
     (ports_in c.args.head.ports) (entries_in c.in_ok-dictionary.dictionary) refl refl h.ports refl kept
     b.operations.body.ops b.operations.body.ids closed c.in_ok-completed.ensures.ids ends)

@@ -1,4 +1,4 @@
--- After the last digit the number is whole; a front of 2^128 or more makes it so.
+-- After the last digit the number is whole; a prefix of 2^128 or more makes it so.
 use Rattle.std.proofs.Common.{◌+◌, drop, get_or, ◌∙◌, ap}
 use Rattle.std.proofs.lemmas.List.{drop_more}
 use Rattle.mlir_syntax.specs.Numerals.{number_in}

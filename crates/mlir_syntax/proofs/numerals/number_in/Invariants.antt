@@ -1,5 +1,5 @@
-use Rattle.mlir_syntax.proofs.Digits.{IsFront}
+use Rattle.mlir_syntax.proofs.Digits.{IsPrefix}
 use Rattle.mlir_syntax.proofs.numerals.number_in.Given as goal
 
 abbrev pub invariant-loop-digit : goal.invariant-loop-digit
-invariant-loop-digit l = IsFront l.base l.digits l.number l.digit-index
+invariant-loop-digit l = IsPrefix l.base l.digits l.number l.digit-index

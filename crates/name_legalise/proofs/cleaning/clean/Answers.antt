@@ -8,10 +8,10 @@ use Rattle.name_legalise.proofs.cleaning.clean.Goals as goal
 pub returns : goal.returns
 returns c =
     let wanted = c.args.wanted.now in
-    let front = c.if-not-starts_name.name.items in
+    let prefix = c.if-not-starts_name.name.items in
     c.loop-byte.invariant
-    ∙ ap (λ l. front ++ map name_byte l) (take_all c.loop-byte.byte-index wanted (omega arith))
-    ∙ elim c.if-not-starts_name.branch as (λ _. front ++ map name_byte wanted ≡ clean wanted) [
+    ∙ ap (λ l. prefix ++ map name_byte l) (take_all c.loop-byte.byte-index wanted (omega arith))
+    ∙ elim c.if-not-starts_name.branch as (λ _. prefix ++ map name_byte wanted ≡ clean wanted) [
       | then-not-starts_name+in_ok-push w ↦
           ap (λ v. v.items ++ map name_byte wanted) w.name-is
           ∙ ap (λ l. l ++ map name_byte wanted) (w.in_ok-push.ensures.items ∙ ap (λ l. l ++ 95 ∷ []) c.in_ok-name.ensures.items)

@@ -8,4 +8,5 @@ abbrev pub invariant-any_miscounted-loop-literal : goal.invariant-any_miscounted
 invariant-any_miscounted-loop-literal l = any_miscounted (literals_of (map literal_of l.literals)) (type_of l.ty) ≡ any_miscounted (literals_of (map literal_of (drop l.literal-index l.literals))) (type_of l.ty)
 
 abbrev pub invariant-are_miscounted-loop-literal : goal.invariant-are_miscounted-loop-literal
-invariant-are_miscounted-loop-literal l = are_miscounted (literals_of (map literal_of l.literals)) (fields_of (map field_of l.fields)) ≡ are_miscounted (literals_of (map literal_of l.literal-iterator.a.rest.now)) (fields_of (map field_of l.literal-iterator.b.rest.now))
+invariant-are_miscounted-loop-literal l = are_miscounted (literals_of (map literal_of l.literals)) (fields_of (map field_of l.fields))
+    ≡ are_miscounted (literals_of (map literal_of l.literal-iterator.a.rest.now)) (fields_of (map field_of l.literal-iterator.b.rest.now))

@@ -8,7 +8,8 @@ use Rattle.op_checks.proofs.type_lists.results_differ_from_fields.Goals as goal
 
 pub returns : goal.returns
 returns c =
-    ended (λ xs ys. differ (known_types (map (λ r. type_of r.ty) xs)) (known_types (field_list (fields_of (map field_of ys))))) (differ (known_types (map (λ r. type_of r.ty) c.args.results.now)) (known_types (field_list (fields_of (map field_of c.args.fields.now)))))
+    ended (λ xs ys. differ (known_types (map (λ r. type_of r.ty) xs)) (known_types (field_list (fields_of (map field_of ys)))))
+    (differ (known_types (map (λ r. type_of r.ty) c.args.results.now)) (known_types (field_list (fields_of (map field_of c.args.fields.now)))))
     c.loop-one.one-iterator.a.rest.now c.loop-one.one-iterator.b.rest.now
     (λ ys. refl) (λ xs. none_differ (known_types (map (λ r. type_of r.ty) xs)))
     (either_empty_from_Zip c.loop-one.one-iterator c.next.new.self c.next.result c.in-None.is c.next.ensures.steps)

@@ -1,7 +1,7 @@
 use Rattle.std.proofs.Common.{◌+◌, drop, nat_eq, sym, ap, ◌∙◌}
 use Rattle.opcode.specs.declared.listed.Listed.{Listed}
 use Rattle.ir_store.specs.Designs.{design_of}
-use Rattle.ir_store.specs.OperationViews.{place_of}
+use Rattle.ir_store.specs.OperationViews.{location_of}
 use Rattle.op_verifier.specs.Entries.{op_in}
 use Rattle.op_verifier.specs.BodyViews.{ports_viewed, body_viewed, position_viewed, op_viewed}
 use Rattle.op_verifier.specs.Faults.{refused_at}
@@ -18,7 +18,7 @@ returns-in-Some c =
     op_refused d (ports_viewed v) (body_viewed v) _ (drop (i + 1) (body_viewed v)) (op_viewed v (op_in e)) (nat_eq (i + 1) c.len-count.result) c.in-Some.cause c.refused_at.result _
     at.0 at.1
     (sym c.in_ok-cause.ensures ∙ c.in-Some.is)
-    (c.refused_at.ensures ∙ ap (λ (l : Listed). refused_at (place_of e.op.place) l c.in-Some.cause) c.listed-name.ensures)
+    (c.refused_at.ensures ∙ ap (λ (l : Listed). refused_at (location_of e.op.location) l c.in-Some.cause) c.listed-name.ensures)
     c.loop-place.invariant
 
 pub loop-place-preserved : goal.loop-place-preserved

@@ -6,4 +6,4 @@ use Rattle.op_verifier.proofs.WholeDesigns.{some_from}
 use Rattle.op_verifier.proofs.verdicts.refused_module.Goals as goal
 
 pub returns : goal.returns
-returns c = λ m there. c.refused_at.ensures ∙ ap (λ (s : StoredModule). refused_at s.place listed.HwModule c.args.cause) (some_from (c.module.ensures ∙ there))
+returns c = λ m there. c.refused_at.ensures ∙ ap (λ (s : StoredModule). refused_at s.location listed.HwModule c.args.cause) (some_from (c.module.ensures ∙ there))

@@ -2,7 +2,7 @@ use Rattle.std.proofs.Common.{◌≡◌, ap, ◌∙◌, sym, subst, Option, Cont
 use Rattle.opcode.specs.declared.listed.Listed.{Listed}
 use Rattle.ir_store.specs.BodyOps.{BodyOp, op_at}
 use Rattle.ir_store.specs.Bodies.{read_op}
-use Rattle.ir_store.specs.OperationViews.{place_of}
+use Rattle.ir_store.specs.OperationViews.{location_of}
 use Rattle.ir_store.specs.Designs.{StoredModule, module_of}
 use Rattle.design_cycles.specs.Places.{ids_of_module}
 use Rattle.hw_model.specs.Opcodes.{opcode_of}
@@ -17,5 +17,5 @@ pub returns : goal.returns
 returns c = λ m o there is.
     let e : module_of c.module.result.now ≡ m = some_from (c.module.ensures ∙ there) in
     let f : read_op c.args.at.op c.op-op.result ≡ o = some_from (sym c.op-op.ensures ∙ ap (λ (x : StoredModule). op_at x.ops c.args.at.op.index) e ∙ is) in
-    c.refused_at.ensures ∙ ap (λ (l : Listed). refused_at (place_of c.op-op.result.place) l c.args.cause) c.listed.ensures
-    ∙ ap (λ (x : BodyOp). refused_at x.parts.place (opcode_of x.parts.kind) c.args.cause) f
+    c.refused_at.ensures ∙ ap (λ (l : Listed). refused_at (location_of c.op-op.result.location) l c.args.cause) c.listed.ensures
+    ∙ ap (λ (x : BodyOp). refused_at x.parts.location (opcode_of x.parts.kind) c.args.cause) f

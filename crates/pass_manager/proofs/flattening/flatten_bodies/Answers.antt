@@ -3,8 +3,8 @@ use Rattle.std.proofs.Crossing.{crosses}
 use Rattle.std.proofs.Common.{map, length, ap, sym, subst, ◌∙◌}
 use Rattle.std.specs.Arc.{arc_value}
 use Rattle.ir_store.specs.Designs.{design_of, modules_of}
-use Rattle.thread_laws.proofs.Bodies.{body_send, body_sync}
-use Rattle.thread_laws.proofs.Designs.{design_sync}
+use Rattle.ir_store.proofs.ThreadBodies.{body_send, body_sync}
+use Rattle.ir_store.proofs.ThreadDesigns.{design_sync}
 use Rattle.inline_pass.specs.OneBody.{IsOwnBody, IsFlatBody, AreHeaders}
 use Rattle.pass_manager.specs.Flats.{AreListsOf}
 use Rattle.pass_manager.proofs.AllBodies.{count_emptied}

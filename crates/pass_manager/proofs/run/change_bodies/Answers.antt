@@ -1,7 +1,7 @@
 use Rattle.std.proofs.Common.{length, ap, subst, sym, ◌∙◌}
 use denote.Param.Send.{sendable}
 use Rattle.ir_store.specs.Designs.{modules_of}
-use Rattle.thread_laws.proofs.Bodies.{body_send}
+use Rattle.ir_store.proofs.ThreadBodies.{body_send}
 use Rattle.pass_manager.specs.Works.{IsFirst, IsMade}
 use Rattle.pass_manager.proofs.AllBodies.{all_made, each_first, count_taken, count_emptied}
 use Rattle.pass_manager.proofs.run.change_bodies.Goals as goal

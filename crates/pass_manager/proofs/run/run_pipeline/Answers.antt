@@ -1,12 +1,12 @@
 use Rattle.std.proofs.Common.{sym, subst, ap}
 use Rattle.ir_store.specs.Designs.{design_of, numbered_module}
 use Rattle.std.specs.Prelude.{map}
-use Rattle.accepted_edits.proofs.Accepted.{accepted_fit}
+use Rattle.acceptance_laws.proofs.Accepted.{accepted_fit}
 use Rattle.hw_model.specs.Design.{Design}
 use Rattle.op_verifier.specs.Verdict.{IsAccepted}
-use Rattle.printable_designs.specs.Printable.{Printable}
+use Rattle.printing_laws.specs.Printable.{Printable}
 use Rattle.aggregate_lower.proofs.CanonicalAgain.{canonical_again}
-use Rattle.printable_designs.proofs.VerifiedDesigns.{canonical_designs_are_printable}
+use Rattle.printing_laws.proofs.VerifiedDesigns.{canonical_designs_are_printable}
 use Rattle.pass_manager.specs.Results.{IsResult}
 use Rattle.pass_manager.proofs.Results.{chosen_after, from_one, result_of, result_is_after}
 use Rattle.pass_manager.proofs.run.run_pipeline.Goals as goal

@@ -2,7 +2,7 @@ use Rattle.std.proofs.Common.{drop}
 use Rattle.ir_store.specs.Designs.{design_of}
 use Rattle.hw_model.specs.Design.{Design}
 use Rattle.op_verifier.specs.Verdict.{IsAccepted}
-use Rattle.printable_designs.specs.Printable.{Printable}
+use Rattle.printing_laws.specs.Printable.{Printable}
 use Rattle.pass_manager.specs.Results.{IsResult}
 use Rattle.pass_manager.proofs.run.run_pipeline.Given as goal
 

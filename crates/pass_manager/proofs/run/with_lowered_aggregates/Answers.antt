@@ -1,8 +1,8 @@
 use Rattle.std.proofs.Common.{◌≡◌, map, sym, ap, subst, ◌∙◌}
 use Rattle.ir_store.specs.Designs.{design_of, numbered_module}
-use Rattle.accepted_edits.specs.Keeps.{IsFit}
-use Rattle.accepted_edits.proofs.Accepted.{accepted_fit}
-use Rattle.printable_designs.proofs.VerifiedDesigns.{canonical_designs_are_printable}
+use Rattle.acceptance_laws.specs.Keeps.{IsFit}
+use Rattle.acceptance_laws.proofs.Accepted.{accepted_fit}
+use Rattle.printing_laws.proofs.VerifiedDesigns.{canonical_designs_are_printable}
 use Rattle.aggregate_lower.specs.Lowering.{lowered_aggregates}
 use Rattle.aggregate_lower.proofs.CanonicalAgain.{canonical_again}
 use Rattle.pass_manager.proofs.Results.{lower_aggregates_keeps}

@@ -40,6 +40,7 @@ loop-number-preserved c =
           (lists_of c.args.joined.now.items) (lists_of c.loop-number.joined.items) (lists_of c.push_joined.new.joined.items)
           c.port_number-to.result c.bit_port-value.result c.optional_number.result c.port_number-to.ensures
           (c.bit_port-value.ensures
-          ∙ ap (bit_port outer) (c.operand_for.ensures ∙ ap (λ (y : Port). operand_for (Some (port_of y)) operands c.loop-number.inputs) (sym c.index-called-number.is) ∙ ap₂ (λ q k. operand_for q operands k) (sym here) c.loop-number.invariant.inputs))
+          ∙ ap (bit_port outer) (c.operand_for.ensures ∙ ap (λ (y : Port). operand_for (Some (port_of y)) operands c.loop-number.inputs) (sym c.index-called-number.is)
+          ∙ ap₂ (λ q k. operand_for q operands k) (sym here) c.loop-number.invariant.inputs))
           c.optional_number.ensures c.loop-number.invariant.pairs c.in_ok-push_joined.ensures;
     }

@@ -10,7 +10,9 @@ overflow_add-next c =
     let rows = c.args.callees.now in
     let size : length (map (λ row. row.items) rows) ≡ length rows = length-map rows (λ row. row.items) in
     let row = callees_of-map (λ v. v.items) rows c.loop-row.row-index c.row-item.result (omega arith) c.row-item.is in
-    let long : c.len-next.result ≡ length (callees_of (map (λ row. row.items) rows) c.loop-row.row-index) = (let same : length (callees_of (map (λ row. row.items) rows) c.loop-row.row-index) ≡ length c.row-item.result.items = ap length row in omega (arith, c.len-next.ensures, c.row-item.result.ok.0)) in
+    let long : c.len-next.result ≡ length (callees_of (map (λ row. row.items) rows) c.loop-row.row-index) =
+    (let same : length (callees_of (map (λ row. row.items) rows) c.loop-row.row-index)
+    ≡ length c.row-item.result.items = ap length row in omega (arith, c.len-next.ensures, c.row-item.result.ok.0)) in
     let fits : c.loop-row.next + c.len-next.result < 2 ^ 64 =
     next-fits (map (λ row. row.items) rows) c.loop-row.row-index c.loop-row.next c.len-next.result c.requires (omega arith) c.loop-row.invariant.next long in
     omega arith

@@ -18,6 +18,7 @@ loop-m-preserved g c = record {
   filled = search rules;
   empty = search rules;
   len = pushed-len (λ v. v.items) c.take.result c.loop-m.m c.loop-m.bodies c.push_made-bodies.result c.push_made-bodies.ensures c.loop-m.invariant.len;
-  bodies = pushed-bodies (λ v. v.items) c.take.result c.loop-m.m (slots_items c.args.closed.now.slots) c.loop-m.bodies c.push_made-bodies.result (ap (λ s. get_elem? s c.loop-m.m) (sym c.loop-m.invariant.items) ∙ c.take.ensures.value) c.push_made-bodies.ensures
+  bodies = pushed-bodies (λ v. v.items) c.take.result c.loop-m.m (slots_items c.args.closed.now.slots) c.loop-m.bodies c.push_made-bodies.result
+      (ap (λ s. get_elem? s c.loop-m.m) (sym c.loop-m.invariant.items) ∙ c.take.ensures.value) c.push_made-bodies.ensures
       c.loop-m.invariant.len c.loop-m.invariant.bodies;
 }

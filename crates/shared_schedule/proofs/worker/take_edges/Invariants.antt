@@ -1,6 +1,6 @@
 use Rattle.std.proofs.Common.{◌≡◌, ℕ, ◌<◌, ◌≤◌, true, false, length, Option, Some, slice_get}
 use Rattle.sched_core.specs.State.{IsEdge, callee}
-use Rattle.shared_schedule.specs.declared.view.Place.TheVariants.{Nowhere}
+use Rattle.shared_schedule.specs.declared.view.TableSlot.TheVariants.{Nowhere}
 use Rattle.shared_schedule.specs.Views.{callees_in, has_edge}
 use Rattle.shared_schedule.specs.Seats.{IsIdle}
 use Rattle.shared_schedule.proofs.worker.take_edges.Given as goal

@@ -16,7 +16,8 @@ pub put_edge-requires-clause-over : goal.put_edge-requires-clause-over
 put_edge-requires-clause-over g c =
     let callees = callees_in c.args.shared.now.plan in
     let next = next-edge callees c.args.seat.now.me.0 c.args.queue.now.items c.args.m c.args.edge.0 c.args.edge.1 c.requires.telling.0 (subst (Agrees callees) c.look.ensures.same c.look.ensures.agrees) c.requires.telling.1 in
-    ap (λ v. last_move v.moves (callee callees c.args.edge.0 c.args.edge.1)) c.look.ensures.same ∙ ap (last_move c.args.seat.now.me.0.moves) next.callee_is ∙ over-some (last_move c.args.seat.now.me.0.moves c.args.m) c.requires.telling.1.over
+    ap (λ v. last_move v.moves (callee callees c.args.edge.0 c.args.edge.1)) c.look.ensures.same ∙ ap (last_move c.args.seat.now.me.0.moves) next.callee_is
+    ∙ over-some (last_move c.args.seat.now.me.0.moves c.args.m) c.requires.telling.1.over
 
 pub put_edge-requires-clause-bare : goal.put_edge-requires-clause-bare
 put_edge-requires-clause-bare g c =
@@ -39,7 +40,8 @@ pub report-last-requires-clause-over : goal.report-last-requires-clause-over
 report-last-requires-clause-over g c =
     let callees = callees_in c.args.shared.now.plan in
     let next = next-edge callees c.args.seat.now.me.0 c.args.queue.now.items c.args.m c.args.edge.0 c.args.edge.1 c.requires.telling.0 (subst (Agrees callees) c.look.ensures.same c.look.ensures.agrees) c.requires.telling.1 in
-    ap (λ v. last_move v.moves (callee callees c.args.edge.0 c.args.edge.1)) (c.put_edge.ensures.lent ∙ ap (λ v. lent_edge v c.args.edge.0 c.args.edge.1) c.look.ensures.same) ∙ ap (last_move c.args.seat.now.me.0.moves) next.callee_is ∙ over-some (last_move c.args.seat.now.me.0.moves c.args.m) c.requires.telling.1.over
+    ap (λ v. last_move v.moves (callee callees c.args.edge.0 c.args.edge.1)) (c.put_edge.ensures.lent ∙ ap (λ v. lent_edge v c.args.edge.0 c.args.edge.1) c.look.ensures.same)
+    ∙ ap (last_move c.args.seat.now.me.0.moves) next.callee_is ∙ over-some (last_move c.args.seat.now.me.0.moves c.args.m) c.requires.telling.1.over
 
 pub report-last-requires-clause-bare : goal.report-last-requires-clause-bare
 report-last-requires-clause-bare g c =

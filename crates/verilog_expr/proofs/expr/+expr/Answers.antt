@@ -1,7 +1,7 @@
 use Rattle.std.proofs.Common.{◌≡◌, ◌++◌, [], sym, ap, ◌∙◌}
 use Rattle.verilog_model.specs.Grammar.{level}
 use Rattle.verilog_model.specs.Expression.{is_signed}
-use Rattle.verilog_expr.specs.Text.{expr_text}
+use Rattle.verilog_model.specs.Text.{expr_text}
 use Rattle.verilog_expr.specs.Scopes.{scope_ports, scope_ops, scope_ref}
 use Rattle.verilog_expr.specs.Templates.{template_text}
 use Rattle.verilog_expr.specs.Named.{named_of}

@@ -17,7 +17,8 @@ loop-value-preserved c = record {
       operands_step (result_of i 0)
       (is_narrower (kind_of c.args.kind.now) c.args.width (value_width (scope_ports c.args.scope.now) (scope_ops c.args.scope.now) (result_of i 0)))
       (is_some (instance_in (kind_of c.args.kind.now))) (scope_ref c.args.scope.now) c.args.operands.now c.loop-value.value-index (get_or c.args.operands.now c.loop-value.value-index (Port 0))
-      (mark_at c.loop-value.marks i) (mark_at c.mark_value.new.marks i) _ c.loop-value-test.true (any_default c.args.operands.now c.loop-value.value-index (Port 0) c.loop-value-test.true) (c.loop-value.invariant.kept i lt) (c.mark_value.ensures.marks i (omega (arith, lt, c.loop-value.auto.marks)));
+      (mark_at c.loop-value.marks i) (mark_at c.mark_value.new.marks i) _ c.loop-value-test.true (any_default c.args.operands.now c.loop-value.value-index (Port 0) c.loop-value-test.true)
+      (c.loop-value.invariant.kept i lt) (c.mark_value.ensures.marks i (omega (arith, lt, c.loop-value.auto.marks)));
 }
 
 pub returns : goal.returns

@@ -12,7 +12,8 @@ returns-clause-searching c =
     let s = c.requires in
     let old = c.args.self.now.watched in
     let new = c.propagate.new.self in
-    let sound = sound_propagates new.variables new.clauses old.entries new.entries e.within (subst (λ (n : ℕ). IsSound n new.clauses old.entries) (sym e.variables) (subst (λ (cs : List (List Literal)). IsSound old.variables cs old.entries) (sym e.clauses) s.sound)) e.propagates in
+    let sound = sound_propagates new.variables new.clauses old.entries new.entries e.within
+    (subst (λ (n : ℕ). IsSound n new.clauses old.entries) (sym e.variables) (subst (λ (cs : List (List Literal)). IsSound old.variables cs old.entries) (sym e.clauses) s.sound)) e.propagates in
     record {
       variables = e.variables ∙ s.variables;
       logged = rw e.clauses s.logged;

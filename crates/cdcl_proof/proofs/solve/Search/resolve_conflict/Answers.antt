@@ -66,8 +66,8 @@ returns-clause-waiting c v low high =
     let variables = b.variables in
     let same = c.in_ok-insert_variables.ensures.watched in
     let inserted : c.insert_variables.new.self.watched.variables ≡ c.args.self.now.watched.variables = ap (λ (w : Watching). w.variables) same in
-    let front : take c.in_ok-learnt.learnt.place c.insert_variables.new.self.watched.entries ≡ c.back_to.new.self.entries = ap (λ (w : Watching). take c.in_ok-learnt.learnt.place w.entries) same ∙ sym b.entries in
+    let prefix : take c.in_ok-learnt.learnt.place c.insert_variables.new.self.watched.entries ≡ c.back_to.new.self.entries = ap (λ (w : Watching). take c.in_ok-learnt.learnt.place w.entries) same ∙ sym b.entries in
     elim (c.in_ok-insert_variables.ensures.waiting v low (omega (arith, high, n, variables, inserted))) as (λ _. Waits c.insert_variables.new.self.order.heap.items v ⊎ (mentions (literals c.learn-2.new.self.entries) v ≡ true)) [
       | inl w ↦ inl w
-      | inr m ↦ inr (mentions_kept c.back_to.new.self.entries c.learn-2.new.self.entries v e.propagates.kept (subst (λ (es : List Entry). mentions (literals es) v ≡ true) front m))
+      | inr m ↦ inr (mentions_kept c.back_to.new.self.entries c.learn-2.new.self.entries v e.propagates.kept (subst (λ (es : List Entry). mentions (literals es) v ≡ true) prefix m))
     ]

@@ -30,11 +30,18 @@ loop-self-preserved c =
     let short = ap (λ (x : Vec ℕ Global). length x.items) e.short in
     let all = i.all in
     let short_head = e.short_head in
-    record { watching = e.watching; clauses = e.clauses ∙ i.clauses; variables = e.variables ∙ i.variables; propagates = propagates_on c.args.self.now.trail.entries c.loop-self.self c.read_next.new.self c.read_next.ensures.clauses c.loop-self.invariant.propagates c.read_next.ensures.propagates; all = omega (arith, short, all, short_head) }
+    record {
+      watching = e.watching;
+      clauses = e.clauses ∙ i.clauses;
+      variables = e.variables
+          ∙ i.variables;
+      propagates = propagates_on c.args.self.now.trail.entries c.loop-self.self c.read_next.new.self c.read_next.ensures.clauses c.loop-self.invariant.propagates c.read_next.ensures.propagates;
+      all = omega (arith, short, all, short_head);
+    }
 
 pub returns-clause-outcome : goal.returns-clause-outcome
 returns-clause-outcome c =
     let i = c.loop-self.invariant in
     let w = i.watching in
     let s = c.loop-self.self in
-    closed_all c.loop-self.self.table.clauses.items c.loop-self.self.table.rows.items c.loop-self.self.table.short.items c.loop-self.self.trail.entries c.loop-self.self.head c.loop-self.self.marks.items c.loop-self.self.short_head c.loop-self.self.base w.table.rows w.table.short w.progress (omega (arith, c.len.ensures.len, c.loop-self-test.false)) i.all
+    closed_all c.loop-self.self.table.clauses.items c.loop-self.self.table.stored_clauses.items c.loop-self.self.table.short.items c.loop-self.self.trail.entries c.loop-self.self.head c.loop-self.self.marks.items c.loop-self.self.short_head c.loop-self.self.base w.table.stored_clauses w.table.short w.progress (omega (arith, c.len.ensures.len, c.loop-self-test.false)) i.all

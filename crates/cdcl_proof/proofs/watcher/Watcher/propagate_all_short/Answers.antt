@@ -10,4 +10,10 @@ pub loop-self-preserved : goal.loop-self-preserved
 loop-self-preserved c =
     let e = c.propagate_short.ensures in
     let i = c.loop-self.invariant in
-    record { watching = e.watching; clauses = e.clauses ∙ i.clauses; variables = e.variables ∙ i.variables; propagates = propagates_on c.args.self.now.trail.entries c.loop-self.self c.propagate_short.new.self c.propagate_short.ensures.clauses c.loop-self.invariant.propagates c.propagate_short.ensures.propagates }
+    record {
+      watching = e.watching;
+      clauses = e.clauses ∙ i.clauses;
+      variables = e.variables
+          ∙ i.variables;
+      propagates = propagates_on c.args.self.now.trail.entries c.loop-self.self c.propagate_short.new.self c.propagate_short.ensures.clauses c.loop-self.invariant.propagates c.propagate_short.ensures.propagates;
+    }

@@ -13,7 +13,7 @@ loop-place-preserved-in-Ok-Stays c =
     record {
       reading = reading_on c.args.self.now c.loop-place.self c.visit.new.self c.args.slot i.reading e.watching e.clauses e.short e.short_head e.head e.variables e.propagates;
       within = let v = rw c.in-Ok-Stays.field-0-is at c.in-Ok-Stays.ensures.visit in let n = v.1.len in omega (arith, n, inside);
-      visited = λ all. let v = rw c.in-Ok-Stays.field-0-is at c.in-Ok-Stays.ensures.visit in visited_stays c.loop-place.self.trail.entries c.visit.new.self.trail.entries c.loop-place.self.table.rows.items c.visit.new.self.table.rows.items (list_at c.loop-place.self.table.lists.items c.args.slot) (list_at c.visit.new.self.table.lists.items c.args.slot) c.loop-place.place kept v.0 v.1 (i.visited all) v.2;
+      visited = λ all. let v = rw c.in-Ok-Stays.field-0-is at c.in-Ok-Stays.ensures.visit in visited_stays c.loop-place.self.trail.entries c.visit.new.self.trail.entries c.loop-place.self.table.stored_clauses.items c.visit.new.self.table.stored_clauses.items (list_at c.loop-place.self.table.lists.items c.args.slot) (list_at c.visit.new.self.table.lists.items c.args.slot) c.loop-place.place kept v.0 v.1 (i.visited all) v.2;
     }
 
 pub loop-place-preserved : goal.loop-place-preserved
@@ -24,8 +24,9 @@ loop-place-preserved c =
     let inside = inside_reach c.loop-place.self c.args.slot c.loop-place.place c.index.result.now c.reach.result i.reading.at_head.low c.index.ensures c.reach.ensures.within c.loop-place-test.true in
     record {
       reading = reading_on c.args.self.now c.loop-place.self c.visit.new.self c.args.slot i.reading e.watching e.clauses e.short e.short_head e.head e.variables e.propagates;
-      within = let v = rw c.in-Ok-Moved.field-0-is at c.in-Ok-Moved.ensures.visit in let n = ap length v.1 in let m = length-swap_remove (list_at c.loop-place.self.table.lists.items c.args.slot) c.loop-place.place inside in omega (arith, n, m, inside);
-      visited = λ all. let v = rw c.in-Ok-Moved.field-0-is at c.in-Ok-Moved.ensures.visit in visited_moved c.loop-place.self.trail.entries c.visit.new.self.trail.entries c.loop-place.self.table.rows.items c.visit.new.self.table.rows.items (list_at c.loop-place.self.table.lists.items c.args.slot) (list_at c.visit.new.self.table.lists.items c.args.slot) c.loop-place.place kept v.0 v.1 inside (i.visited all);
+      within = let v = rw c.in-Ok-Moved.field-0-is at c.in-Ok-Moved.ensures.visit in let n = ap length v.1 in let m = length-swap_remove
+          (list_at c.loop-place.self.table.lists.items c.args.slot) c.loop-place.place inside in omega (arith, n, m, inside);
+      visited = λ all. let v = rw c.in-Ok-Moved.field-0-is at c.in-Ok-Moved.ensures.visit in visited_moved c.loop-place.self.trail.entries c.visit.new.self.trail.entries c.loop-place.self.table.stored_clauses.items c.visit.new.self.table.stored_clauses.items (list_at c.loop-place.self.table.lists.items c.args.slot) (list_at c.visit.new.self.table.lists.items c.args.slot) c.loop-place.place kept v.0 v.1 inside (i.visited all);
     }
 
 pub returns-in-Ok-Conflict-clause-propagates : goal.returns-in-Ok-Conflict-clause-propagates

@@ -8,7 +8,7 @@ abbrev pub invariant-loop-place : goal.invariant-loop-place
 invariant-loop-place l = record {
   reading : IsReading l.fn.self l.self l.slot;
   within : l.place ≤ length (list_at l.self.table.lists.items l.slot);
-  visited : l.only_binary ≡ false → AreVisited (literals l.self.trail.entries) l.self.table.rows.items (list_at l.self.table.lists.items l.slot) l.place;
+  visited : l.only_binary ≡ false → AreVisited (literals l.self.trail.entries) l.self.table.stored_clauses.items (list_at l.self.table.lists.items l.slot) l.place;
 }
 
 abbrev pub decreases-loop-place : goal.decreases-loop-place

@@ -28,9 +28,13 @@ returns-in-Ok-None-read_list-clause-watching c =
     let w = e.watching in
     let visited = rw c.in-Ok-None-read_list.field-0-is at e.visited in
     let old = c.requires.watching in
-    let is_old : c.slot-slot.result ≡ slot_of (negation (entry_at c.args.self.now.trail.entries c.args.self.now.head).literal) = c.slot-slot.ensures ∙ ap slot_of (c.new.ensures ∙ c.negation.ensures) ∙ ap (λ (x : Entry). slot_of (negation x.literal)) c.entry-entry.ensures.entry in
-    let among : is_among c.args.self.now.table.variables (negation (entry_at c.args.self.now.trail.entries c.args.self.now.head).literal) ≡ true = subst (λ (n : ℕ). is_among n (negation (entry_at c.args.self.now.trail.entries c.args.self.now.head).literal) ≡ true) old.variables (c.entry-entry.ensures.apart.among c.args.self.now.head c.requires.more) in
-    let low : c.slot-slot.result < length c.args.self.now.table.lists.items = let s = slot_low c.args.self.now.table old.table (negation (entry_at c.args.self.now.trail.entries c.args.self.now.head).literal) among in omega (arith, s, is_old) in
+    let is_old : c.slot-slot.result ≡ slot_of (negation (entry_at c.args.self.now.trail.entries c.args.self.now.head).literal) = c.slot-slot.ensures
+    ∙ ap slot_of (c.new.ensures ∙ c.negation.ensures) ∙ ap (λ (x : Entry). slot_of (negation x.literal)) c.entry-entry.ensures.entry in
+    let among : is_among c.args.self.now.table.variables (negation (entry_at c.args.self.now.trail.entries c.args.self.now.head).literal)
+    ≡ true = subst (λ (n : ℕ). is_among n (negation (entry_at c.args.self.now.trail.entries c.args.self.now.head).literal) ≡ true) old.variables
+    (c.entry-entry.ensures.apart.among c.args.self.now.head c.requires.more) in
+    let low : c.slot-slot.result < length c.args.self.now.table.lists.items = let s = slot_low c.args.self.now.table old.table
+    (negation (entry_at c.args.self.now.trail.entries c.args.self.now.head).literal) among in omega (arith, s, is_old) in
     let h1 = still_at_head c.args.self.now c.read_list.new.self c.slot-slot.result old w1 e1.variables e1.head e1.propagates c.requires.more is_old low in
     let h = still_at_head c.read_list.new.self c.read_list-2.new.self c.slot-slot.result w1 w e.variables e.head e.propagates h1.more h1.slot_is h1.low in
     record { table = w.table; variables = w.variables; progress = progress_next c.read_list-2.new.self.table w.table c.read_list-2.new.self.trail.entries c.read_list-2.new.self.head c.slot-slot.result c.read_list-2.new.self.marks.items c.read_list-2.new.self.short_head c.read_list-2.new.self.base h.more h.slot_is h.low (visited refl) w.progress }

@@ -4,7 +4,7 @@ use Rattle.fold_laws.specs.Evaluated.{value_of_constants}
 use Rattle.fold_laws.proofs.Evaluated.{evaluated_makes}
 use Rattle.body_edits.specs.Views.{position_in, op_seen}
 use Rattle.comb_fold.proofs.EvaluatedOps.{site_evaluable}
-use Rattle.body_edits.proofs.NumberOps.{number_at, row_alone, number_folded}
+use Rattle.body_edits.proofs.NumberOps.{number_at, pattern_alone, number_folded}
 use Rattle.comb_fold.proofs.evaluated.F2Pattern.apply.Goals as goal
 
 pub value_of_constants-requires-clause-evaluable : goal.value_of_constants-requires-clause-evaluable
@@ -13,7 +13,7 @@ value_of_constants-requires-clause-evaluable c =
 
 pub put_number-requires-clause-alone : goal.put_number-requires-clause-alone
 put_number-requires-clause-alone c =
-    row_alone c.args.body.now c.requires.fit value_of_constants evaluated_makes (position_in c.args.body.now c.args.op) (op_seen c.args.body.now c.at.result.op)
+    pattern_alone c.args.body.now c.requires.fit value_of_constants evaluated_makes (position_in c.args.body.now c.args.op) (op_seen c.args.body.now c.at.result.op)
     c.at.ensures.there c.requires.matches
 
 pub returns-clause-folded : goal.returns-clause-folded

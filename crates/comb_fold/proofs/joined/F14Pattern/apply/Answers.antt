@@ -1,7 +1,7 @@
 use Rattle.std.proofs.Common.{Some, None, refl}
 use Rattle.std.proofs.lemmas.Result.{on_ok_weaker}
 use Rattle.body_edits.specs.Views.{body_ops, position_in, value_ref, op_seen}
-use Rattle.comb_fold.proofs.JoinedRow.{site_two, site_number, site_even, none_joined, joined_folded}
+use Rattle.comb_fold.proofs.JoinedPattern.{site_two, site_number, site_even, none_joined, joined_folded}
 use Rattle.comb_fold.proofs.joined.F14Pattern.apply.Goals as goal
 
 pub joined_number-number-requires-clause-even : goal.joined_number-number-requires-clause-even

@@ -1,8 +1,8 @@
 use Rattle.std.proofs.Common.{ap, ◌∙◌}
 use Rattle.std.specs.Prelude.{is_some}
 use Rattle.body_edits.specs.Views.{body_ops, position_in}
-use Rattle.comb_fold.proofs.FirstStands.{trivial_row}
+use Rattle.comb_fold.proofs.FirstStands.{trivial_pattern}
 use Rattle.comb_fold.proofs.standing.F31Pattern.matches.Goals as goal
 
 pub returns : goal.returns
-returns c = c.has_value.ensures ∙ ap is_some (trivial_row (body_ops c.args.body.now) (position_in c.args.body.now c.args.op))
+returns c = c.has_value.ensures ∙ ap is_some (trivial_pattern (body_ops c.args.body.now) (position_in c.args.body.now c.args.op))

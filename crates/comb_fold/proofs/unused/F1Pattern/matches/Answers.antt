@@ -1,6 +1,6 @@
 use Rattle.std.proofs.Common.{sym, ◌∙◌}
 use Rattle.body_edits.proofs.FitOps.{fit_live}
-use Rattle.body_edits.proofs.UnusedRow.{pure_test, other_test}
+use Rattle.body_edits.proofs.UnusedPattern.{pure_test, other_test}
 use Rattle.comb_fold.proofs.unused.F1Pattern.matches.Goals as goal
 
 pub returns-then-is_pure : goal.returns-then-is_pure

@@ -53,9 +53,25 @@ invariant_of-self-2 c =
     let lists = rw (c.reserve-3.ensures.lists, c.as_slice.ensures) at c.put.ensures.lists in
     record {
       parts_fit =
-          omega (arith, ap length items, length-put_at c.add-id.result c.into_parts.result c.args.self.now.parts.items (omega (arith, within, c.args.self.now.parts_fit)), c.add-id.ensures.count, c.reserve.ensures.count, c.args.self.now.parts_fit);
+          omega (
+            arith,
+            ap length items,
+            length-put_at c.add-id.result c.into_parts.result c.args.self.now.parts.items
+                (omega (arith, within, c.args.self.now.parts_fit)),
+            c.add-id.ensures.count,
+            c.reserve.ensures.count,
+            c.args.self.now.parts_fit,
+          );
       lists_fit =
-          omega (arith, ap length lists, length-put_at c.add-id.result c.args.op.operands.items c.args.self.now.operands.lists (omega (arith, within, c.args.self.now.lists_fit)), c.add-id.ensures.count, c.reserve.ensures.count, c.args.self.now.lists_fit);
+          omega (
+            arith,
+            ap length lists,
+            length-put_at c.add-id.result c.args.op.operands.items c.args.self.now.operands.lists
+                (omega (arith, within, c.args.self.now.lists_fit)),
+            c.add-id.ensures.count,
+            c.reserve.ensures.count,
+            c.args.self.now.lists_fit,
+          );
     }
 
 pub returns-clause-next : goal.returns-clause-next

@@ -20,7 +20,12 @@ pub returns-clause-ops : goal.returns-clause-ops
 returns-clause-ops c =
     let here = rw (ids_seen (map parts_of c.args.self.now.parts.items) c.args.self.now.operands.lists (live_ids c.args.self.now.order)) at c.requires.live in
     let once : times c.args.op.index (live_ids c.args.self.now.order) ≤ 1 =
-    omega (arith, times-append c.args.op.index (live_ids c.args.self.now.order) (walk c.args.self.now.order.links.items (length c.args.self.now.order.links.items - c.args.self.now.order.live) c.args.self.now.order.free), c.args.self.now.order.once c.args.op.index) in
+    omega (
+      arith,
+      times-append c.args.op.index (live_ids c.args.self.now.order) (walk c.args.self.now.order.links.items
+          (length c.args.self.now.order.links.items - c.args.self.now.order.live) c.args.self.now.order.free),
+      c.args.self.now.order.once c.args.op.index,
+    ) in
     let parts : map parts_of (set c.args.self.now.parts.items c.index_of-index.result c.empty.result) ≡ set (map parts_of c.args.self.now.parts.items) c.args.op.index (parts_of c.empty.result) =
     rw c.index_of-index.ensures.value (map-set parts_of c.args.self.now.parts.items c.args.op.index c.empty.result) in
     let lists = rw c.index_of-index.ensures.value at c.clear.ensures.lists in

@@ -10,7 +10,8 @@ index_of-index-requires c = rw (ids_seen (map parts_of c.args.self.now.parts.ite
 
 pub returns : goal.returns
 returns c =
-    let found = op_found (map parts_of c.args.self.now.parts.items) c.args.self.now.operands.lists (live_ids c.args.self.now.order) c.args.id.index (rw (ids_seen (map parts_of c.args.self.now.parts.items) c.args.self.now.operands.lists (live_ids c.args.self.now.order)) at c.requires) in
+    let found = op_found (map parts_of c.args.self.now.parts.items) c.args.self.now.operands.lists (live_ids c.args.self.now.order) c.args.id.index
+    (rw (ids_seen (map parts_of c.args.self.now.parts.items) c.args.self.now.operands.lists (live_ids c.args.self.now.order)) at c.requires) in
     let i_in : c.index_of-index.result < length c.args.self.now.parts.items = search rules in
     let seen = map_read parts_of c.args.self.now.parts.items c.index_of-index.result c.index-parts.result.now no_parts i_in c.index-parts.ensures in
     rw (c.read.ensures.parts, c.read.ensures.operands, c.get-operands.ensures.list, ← seen, c.index_of-index.ensures.value) found

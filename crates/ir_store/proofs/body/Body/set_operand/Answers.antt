@@ -11,7 +11,8 @@ index_of-index-requires c = rw (ids_seen (map parts_of c.args.self.now.parts.ite
 pub set-requires-clause-place : goal.set-requires-clause-place
 set-requires-clause-place c =
     rw c.index_of-index.ensures.value
-    (rw (op_found (map parts_of c.args.self.now.parts.items) c.args.self.now.operands.lists (live_ids c.args.self.now.order) c.args.op.index (rw (ids_seen (map parts_of c.args.self.now.parts.items) c.args.self.now.operands.lists (live_ids c.args.self.now.order)) at c.requires.live)) at c.requires.place)
+    (rw (op_found (map parts_of c.args.self.now.parts.items) c.args.self.now.operands.lists (live_ids c.args.self.now.order) c.args.op.index
+    (rw (ids_seen (map parts_of c.args.self.now.parts.items) c.args.self.now.operands.lists (live_ids c.args.self.now.order)) at c.requires.live)) at c.requires.place)
 
 pub returns-clause-ops : goal.returns-clause-ops
 returns-clause-ops c =

@@ -66,7 +66,8 @@ returns-clause-gone c =
     (ap (λ n. cells_with v ys (get_or c.put_first.new.self.chains (head_of n v) [])) size
     ∙ (ap (λ q. cells_with v ys (get_or c.put_first.new.self.chains q [])) (sym head)
     ∙ (ap (λ cs. cells_with v ys (get_or cs c.head_of.result [])) (c.put_first.ensures.chains ∙ ap (λ z. set z c.head_of-2.result (c.args.cell ∷ get_or z c.head_of-2.result [])) c.take_out.ensures.chains)
-    ∙ (moved v c.args.value c.self.inside.values.items c.args.cell has_it other c.self.inside.chains.chains c.head_of.result c.head_of-2.result within within_2 once ∙ ap (λ q. cut c.args.cell (cells_with v c.self.inside.values.items (get_or c.self.inside.chains.chains q []))) head))))
+    ∙ (moved v c.args.value c.self.inside.values.items c.args.cell has_it other c.self.inside.chains.chains c.head_of.result c.head_of-2.result within within_2 once
+    ∙ ap (λ q. cut c.args.cell (cells_with v c.self.inside.values.items (get_or c.self.inside.chains.chains q []))) head))))
 
 pub returns-clause-each : goal.returns-clause-each
 returns-clause-each c =

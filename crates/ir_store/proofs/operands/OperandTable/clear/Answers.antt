@@ -17,7 +17,8 @@ invariant_of-self c =
     let w = block_is c.self.inside.blocks.items c.args.i c.index_mut.result.now h c.index_mut.ensures.value in
     let nb : Block = record { start = c.index_mut.result.now.start; len = 0 } in
     rw c.wipe.ensures.owners (
-      blocks_shrunk c.self.inside.cells.values.items c.self.inside.cells.owners.items c.self.inside.blocks.items c.self.inside.live c.self.invariant.0 c.wipe.new.self.values.items c.args.i nb (c.self.inside.live - c.index-block.result.now.len) c.wipe.ensures.count h (sym (ap (λ (d : Block). d.start) w)) (omega arith)
+      blocks_shrunk c.self.inside.cells.values.items c.self.inside.cells.owners.items c.self.inside.blocks.items c.self.inside.live c.self.invariant.0 c.wipe.new.self.values.items c.args.i nb
+          (c.self.inside.live - c.index-block.result.now.len) c.wipe.ensures.count h (sym (ap (λ (d : Block). d.start) w)) (omega arith)
           (omega (arith, block_le c.self.inside.blocks.items c.args.i, ap (λ (d : Block). d.len) b, c.self.invariant.0.count)),
       (omega (arith, c.wipe.ensures.count, c.self.invariant.1.0), omega (arith, length-set c.self.inside.blocks.items c.args.i nb, c.self.invariant.1.1)),
     )

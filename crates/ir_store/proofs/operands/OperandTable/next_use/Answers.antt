@@ -21,4 +21,6 @@ returns-clause-left c =
     let most : (d : ℕ) → times d (cells_of c.value-value.result c.args.self.now.cells) ≤ 1 = λ d. omega (arith, c.next.ensures.each d, once_at_most (has_value c.value-value.result c.args.self.now.cells.items d)) in
     let s = step c.args.cell c.next.result (cells_of c.value-value.result c.args.self.now.cells) there most (λ xs ys e. c.next.ensures.next xs ys e) in
     rw (← c.value-value.ensures)
-    (ap (live_cells c.args.links.now c.args.self.now.owners c.args.self.now.blocks) s.whole ∙ (live_head c.args.links.now c.args.self.now.owners c.args.self.now.blocks c.args.cell (rest_at c.next.result (cells_of c.value-value.result c.args.self.now.cells)) c.requires.live ∙ ap (λ zs. c.args.cell ∷ zs) (sym c.seek_use.ensures.left)))
+    (ap (live_cells c.args.links.now c.args.self.now.owners c.args.self.now.blocks) s.whole
+    ∙ (live_head c.args.links.now c.args.self.now.owners c.args.self.now.blocks c.args.cell (rest_at c.next.result (cells_of c.value-value.result c.args.self.now.cells)) c.requires.live
+    ∙ ap (λ zs. c.args.cell ∷ zs) (sym c.seek_use.ensures.left)))

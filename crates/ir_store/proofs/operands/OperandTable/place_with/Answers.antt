@@ -12,7 +12,12 @@ invariant_of-self c =
     let h = in_blocks c.self.inside.cells.values.items c.self.inside.blocks.items c.args.self.now.lists c.args.i (ap (λ (t : OperandLists). t.lists) c.self.view_is) c.requires.list in
     let tail = rw (← c.self.view_is) at c.requires.tail in
     let within = rw (← c.self.view_is) at c.requires.within in
-    let empty : (block_at c.self.inside.blocks.items c.args.i).len ≡ 0 = omega (arith, ap length (rw (← c.self.view_is) at c.requires.empty), length_at c.self.inside.cells.values.items c.self.inside.cells.owners.items c.self.inside.blocks.items c.self.inside.live c.self.invariant.0 c.args.i) in
+    let empty : (block_at c.self.inside.blocks.items c.args.i).len ≡ 0 = omega (
+      arith,
+      ap length
+          (rw (← c.self.view_is) at c.requires.empty),
+      length_at c.self.inside.cells.values.items c.self.inside.cells.owners.items c.self.inside.blocks.items c.self.inside.live c.self.invariant.0 c.args.i,
+    ) in
     let kept : List Value = take (c.args.start + c.args.count - c.args.start) (drop c.args.start c.self.inside.spare.items) in
     let size : length kept ≡ c.args.count = omega (arith, length-take (c.args.start + c.args.count - c.args.start) (drop c.args.start c.self.inside.spare.items), length-drop c.args.start c.self.inside.spare.items, within) in
     let longer : length (insert kept c.args.at c.args.value) ≡ length kept + 1 = length-insert kept c.args.at c.args.value (omega (arith, size, c.requires.place)) in
@@ -21,7 +26,8 @@ invariant_of-self c =
     let owners = rw c.deref.ensures.value at c.push_with.ensures.owners in
     let nb : Block = record { start = c.end-first.result; len = c.end.result - c.end-first.result } in
     rw (values, owners) (
-      blocks_placed c.self.inside.cells.values.items c.self.inside.cells.owners.items c.self.inside.blocks.items c.self.inside.live c.self.invariant.0 c.args.i nb (insert kept c.args.at c.args.value) (length kept + 1) (c.self.inside.live + (c.args.count + 1)) c.self.inside.cells.same h empty c.end-first.ensures
+      blocks_placed c.self.inside.cells.values.items c.self.inside.cells.owners.items c.self.inside.blocks.items c.self.inside.live c.self.invariant.0 c.args.i nb
+          (insert kept c.args.at c.args.value) (length kept + 1) (c.self.inside.live + (c.args.count + 1)) c.self.inside.cells.same h empty c.end-first.ensures
           (omega (arith, c.end-first.ensures, c.end.ensures, ap length values, more, longer)) (sym longer) (omega (arith, size)),
       (omega (arith, more, longer, size, tail, c.self.invariant.1.0), omega (arith, length-set c.self.inside.blocks.items c.args.i nb, c.self.invariant.1.1)),
     )

@@ -19,7 +19,8 @@ invariant_of-self c =
     let long = length_at c.self.inside.cells.values.items c.self.inside.cells.owners.items c.self.inside.blocks.items c.self.inside.live c.self.invariant.0 c.args.i in
     let nb : Block = record { start = c.index_mut.result.now.start; len = c.index-block.result.now.len - 1 } in
     rw c.close_gap.ensures.owners (
-      blocks_shrunk c.self.inside.cells.values.items c.self.inside.cells.owners.items c.self.inside.blocks.items c.self.inside.live c.self.invariant.0 c.close_gap.new.self.values.items c.args.i nb (c.self.inside.live - 1) c.close_gap.ensures.count h (sym (ap (λ (d : Block). d.start) w)) (omega (arith, ap (λ (d : Block). d.len) b))
+      blocks_shrunk c.self.inside.cells.values.items c.self.inside.cells.owners.items c.self.inside.blocks.items c.self.inside.live c.self.invariant.0 c.close_gap.new.self.values.items c.args.i nb
+          (c.self.inside.live - 1) c.close_gap.ensures.count h (sym (ap (λ (d : Block). d.start) w)) (omega (arith, ap (λ (d : Block). d.len) b))
           (omega (arith, block_le c.self.inside.blocks.items c.args.i, ap (λ (d : Block). d.len) b, c.self.invariant.0.count, long, place)),
       (omega (arith, c.close_gap.ensures.count, c.self.invariant.1.0), omega (arith, length-set c.self.inside.blocks.items c.args.i nb, c.self.invariant.1.1)),
     )

@@ -27,7 +27,9 @@ loop-at-preserved c =
     let s = step c.in-Some.cell c.next-at.result (cells_of c.args.value c.args.self.now.cells) inv.0 most (λ xs ys e. c.next-at.ensures.next xs ys e) in
     let f : is_some (use_of c.args.links.now c.args.self.now.owners c.args.self.now.blocks c.in-Some.cell) ≡ false = ap is_some (sym c.use_of.ensures) ∙ (sym c.is_some.ensures ∙ c.if-is_some.false) in (
       if_some c.next-at.result (λ d. Contains (cells_of c.args.value c.args.self.now.cells) d) s.there,
-      inv.1 ∙ (ap (live_cells c.args.links.now c.args.self.now.owners c.args.self.now.blocks) s.whole ∙ ap (λ b. cond b (c.in-Some.cell ∷ live_cells c.args.links.now c.args.self.now.owners c.args.self.now.blocks (rest_at c.next-at.result (cells_of c.args.value c.args.self.now.cells))) (live_cells c.args.links.now c.args.self.now.owners c.args.self.now.blocks (rest_at c.next-at.result (cells_of c.args.value c.args.self.now.cells)))) f),
+      inv.1 ∙ (ap (live_cells c.args.links.now c.args.self.now.owners c.args.self.now.blocks) s.whole
+          ∙ ap (λ b. cond b (c.in-Some.cell ∷ live_cells c.args.links.now c.args.self.now.owners c.args.self.now.blocks (rest_at c.next-at.result (cells_of c.args.value c.args.self.now.cells)))
+          (live_cells c.args.links.now c.args.self.now.owners c.args.self.now.blocks (rest_at c.next-at.result (cells_of c.args.value c.args.self.now.cells)))) f),
     )
 
 pub returns-then-is_some-clause-first : goal.returns-then-is_some-clause-first

@@ -9,4 +9,5 @@ returns-clause-lists c =
     let place = rw (← c.self.view_is) at c.requires.place in
     let b = block_is c.self.inside.blocks.items c.args.i c.index.result.now h c.index.ensures in
     rw (c.set.ensures.values, ← b, ← c.self.view_is)
-    (list_set c.self.inside.cells.values.items c.self.inside.cells.owners.items c.self.inside.blocks.items c.self.inside.live c.self.invariant.0 c.args.i c.args.at c.args.value h (omega (arith, place, length_at c.self.inside.cells.values.items c.self.inside.cells.owners.items c.self.inside.blocks.items c.self.inside.live c.self.invariant.0 c.args.i)))
+    (list_set c.self.inside.cells.values.items c.self.inside.cells.owners.items c.self.inside.blocks.items c.self.inside.live c.self.invariant.0 c.args.i c.args.at c.args.value h
+    (omega (arith, place, length_at c.self.inside.cells.values.items c.self.inside.cells.owners.items c.self.inside.blocks.items c.self.inside.live c.self.invariant.0 c.args.i)))

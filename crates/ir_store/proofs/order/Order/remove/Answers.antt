@@ -18,7 +18,13 @@ pub invariant_of-self : goal.invariant_of-self
 invariant_of-self c =
     let prev = rw c.as_slice.ensures.value at c.prev_of-prev.ensures in
     let next = rw c.as_slice-2.ensures.value at c.next_of-next.ensures in
-    let live : c.args.self.now.live - 1 + 1 ≡ c.args.self.now.live = omega (arith, contained_times (live_ids c.args.self.now) c.args.id.index c.requires, times_length c.args.id.index (live_ids c.args.self.now), length-walk c.args.self.now.links.items c.args.self.now.live c.args.self.now.first) in
+    let live : c.args.self.now.live - 1 + 1 ≡ c.args.self.now.live = omega (
+      arith,
+      contained_times (live_ids c.args.self.now) c.args.id.index c.requires,
+      times_length c.args.id.index
+          (live_ids c.args.self.now),
+      length-walk c.args.self.now.links.items c.args.self.now.live c.args.self.now.first,
+    ) in
     let r = is_removed c.args.self.now c.args.id c.prev_of-prev.result c.next_of-next.result (c.args.self.now.live - 1) c.unless_none-self.result c.unless_none-self-2.result c.link_out.new.links.items
     c.requires live prev next c.link_out.ensures.items c.unless_none-self.ensures c.unless_none-self-2.ensures in
     record {
@@ -35,7 +41,13 @@ pub returns-clause-ids : goal.returns-clause-ids
 returns-clause-ids c =
     let prev = rw c.as_slice.ensures.value at c.prev_of-prev.ensures in
     let next = rw c.as_slice-2.ensures.value at c.next_of-next.ensures in
-    let live : c.args.self.now.live - 1 + 1 ≡ c.args.self.now.live = omega (arith, contained_times (live_ids c.args.self.now) c.args.id.index c.requires, times_length c.args.id.index (live_ids c.args.self.now), length-walk c.args.self.now.links.items c.args.self.now.live c.args.self.now.first) in
+    let live : c.args.self.now.live - 1 + 1 ≡ c.args.self.now.live = omega (
+      arith,
+      contained_times (live_ids c.args.self.now) c.args.id.index c.requires,
+      times_length c.args.id.index
+          (live_ids c.args.self.now),
+      length-walk c.args.self.now.links.items c.args.self.now.live c.args.self.now.first,
+    ) in
     let r = is_removed c.args.self.now c.args.id c.prev_of-prev.result c.next_of-next.result (c.args.self.now.live - 1) c.unless_none-self.result c.unless_none-self-2.result c.link_out.new.links.items
     c.requires live prev next c.link_out.ensures.items c.unless_none-self.ensures c.unless_none-self-2.ensures in
     r.ids
@@ -44,7 +56,13 @@ pub returns-clause-count : goal.returns-clause-count
 returns-clause-count c =
     let prev = rw c.as_slice.ensures.value at c.prev_of-prev.ensures in
     let next = rw c.as_slice-2.ensures.value at c.next_of-next.ensures in
-    let live : c.args.self.now.live - 1 + 1 ≡ c.args.self.now.live = omega (arith, contained_times (live_ids c.args.self.now) c.args.id.index c.requires, times_length c.args.id.index (live_ids c.args.self.now), length-walk c.args.self.now.links.items c.args.self.now.live c.args.self.now.first) in
+    let live : c.args.self.now.live - 1 + 1 ≡ c.args.self.now.live = omega (
+      arith,
+      contained_times (live_ids c.args.self.now) c.args.id.index c.requires,
+      times_length c.args.id.index
+          (live_ids c.args.self.now),
+      length-walk c.args.self.now.links.items c.args.self.now.live c.args.self.now.first,
+    ) in
     let r = is_removed c.args.self.now c.args.id c.prev_of-prev.result c.next_of-next.result (c.args.self.now.live - 1) c.unless_none-self.result c.unless_none-self-2.result c.link_out.new.links.items
     c.requires live prev next c.link_out.ensures.items c.unless_none-self.ensures c.unless_none-self-2.ensures in
     r.count

@@ -24,19 +24,27 @@ next-self-requires c = here (cells_of c.args.self.now.value c.args.self.now.oper
 
 pub invariant_of-self : goal.invariant_of-self
 invariant_of-self c =
-    let most : (d : ℕ) → times d (cells_of c.args.self.now.value c.args.self.now.operands.now.cells) ≤ 1 = λ d. omega (arith, c.next-self.ensures.each d, once_at_most (has_value c.args.self.now.value c.args.self.now.operands.now.cells.items d)) in
-    let s = step c.args.cell c.next-self.result (cells_of c.args.self.now.value c.args.self.now.operands.now.cells) (here (cells_of c.args.self.now.value c.args.self.now.operands.now.cells) c.args.self.now.at c.args.cell c.args.self.now.here c.requires) most (λ xs ys e. c.next-self.ensures.next xs ys e) in
+    let most : (d : ℕ) → times d (cells_of c.args.self.now.value c.args.self.now.operands.now.cells) ≤ 1 = λ d. omega
+    (arith, c.next-self.ensures.each d, once_at_most (has_value c.args.self.now.value c.args.self.now.operands.now.cells.items d)) in
+    let s = step c.args.cell c.next-self.result (cells_of c.args.self.now.value c.args.self.now.operands.now.cells)
+    (here (cells_of c.args.self.now.value c.args.self.now.operands.now.cells) c.args.self.now.at c.args.cell c.args.self.now.here c.requires) most (λ xs ys e. c.next-self.ensures.next xs ys e) in
     record { here = still (cells_of c.args.self.now.value c.args.self.now.operands.now.cells) c.next-self.result most s.there }
 
 pub returns-clause-left : goal.returns-clause-left
 returns-clause-left c =
-    let most : (d : ℕ) → times d (cells_of c.args.self.now.value c.args.self.now.operands.now.cells) ≤ 1 = λ d. omega (arith, c.next-self.ensures.each d, once_at_most (has_value c.args.self.now.value c.args.self.now.operands.now.cells.items d)) in
-    let s = step c.args.cell c.next-self.result (cells_of c.args.self.now.value c.args.self.now.operands.now.cells) (here (cells_of c.args.self.now.value c.args.self.now.operands.now.cells) c.args.self.now.at c.args.cell c.args.self.now.here c.requires) most (λ xs ys e. c.next-self.ensures.next xs ys e) in
+    let most : (d : ℕ) → times d (cells_of c.args.self.now.value c.args.self.now.operands.now.cells) ≤ 1 = λ d. omega
+    (arith, c.next-self.ensures.each d, once_at_most (has_value c.args.self.now.value c.args.self.now.operands.now.cells.items d)) in
+    let s = step c.args.cell c.next-self.result (cells_of c.args.self.now.value c.args.self.now.operands.now.cells)
+    (here (cells_of c.args.self.now.value c.args.self.now.operands.now.cells) c.args.self.now.at c.args.cell c.args.self.now.here c.requires) most (λ xs ys e. c.next-self.ensures.next xs ys e) in
     ap (λ o. places_of c.args.self.now.links.now c.args.self.now.operands.now.owners c.args.self.now.operands.now.blocks (rest_at o (cells_of c.args.self.now.value c.args.self.now.operands.now.cells))) c.requires
-    ∙ (ap (places_of c.args.self.now.links.now c.args.self.now.operands.now.owners c.args.self.now.operands.now.blocks) s.whole ∙ ap (λ o. with_use o (places_of c.args.self.now.links.now c.args.self.now.operands.now.owners c.args.self.now.operands.now.blocks (rest_at c.next-self.result (cells_of c.args.self.now.value c.args.self.now.operands.now.cells)))) (sym c.use_of-place.ensures))
+    ∙ (ap (places_of c.args.self.now.links.now c.args.self.now.operands.now.owners c.args.self.now.operands.now.blocks) s.whole
+    ∙ ap (λ o. with_use o (places_of c.args.self.now.links.now c.args.self.now.operands.now.owners c.args.self.now.operands.now.blocks
+    (rest_at c.next-self.result (cells_of c.args.self.now.value c.args.self.now.operands.now.cells)))) (sym c.use_of-place.ensures))
 
 pub returns-clause-fewer : goal.returns-clause-fewer
 returns-clause-fewer c =
-    let most : (d : ℕ) → times d (cells_of c.args.self.now.value c.args.self.now.operands.now.cells) ≤ 1 = λ d. omega (arith, c.next-self.ensures.each d, once_at_most (has_value c.args.self.now.value c.args.self.now.operands.now.cells.items d)) in
-    let s = step c.args.cell c.next-self.result (cells_of c.args.self.now.value c.args.self.now.operands.now.cells) (here (cells_of c.args.self.now.value c.args.self.now.operands.now.cells) c.args.self.now.at c.args.cell c.args.self.now.here c.requires) most (λ xs ys e. c.next-self.ensures.next xs ys e) in
+    let most : (d : ℕ) → times d (cells_of c.args.self.now.value c.args.self.now.operands.now.cells) ≤ 1 = λ d. omega
+    (arith, c.next-self.ensures.each d, once_at_most (has_value c.args.self.now.value c.args.self.now.operands.now.cells.items d)) in
+    let s = step c.args.cell c.next-self.result (cells_of c.args.self.now.value c.args.self.now.operands.now.cells)
+    (here (cells_of c.args.self.now.value c.args.self.now.operands.now.cells) c.args.self.now.at c.args.cell c.args.self.now.here c.requires) most (λ xs ys e. c.next-self.ensures.next xs ys e) in
     omega (arith, s.shorter, ap (λ o. length (rest_at o (cells_of c.args.self.now.value c.args.self.now.operands.now.cells))) c.requires)

@@ -1,12 +1,12 @@
 -- Each turn reads the end of a line or a gap; a token, a bad byte or the end of the text is the answer.
 use Rattle.std.proofs.Common.{arith, sym, ◌∙◌}
 use Rattle.std.proofs.lemmas.List.{nil_from_length}
-use Rattle.mlir_lexer.specs.declared.fronts.Front.TheVariants.{LineEnd, Gap, Token, Bad}
-use Rattle.mlir_lexer.proofs.Steps.{begins, line_end-place, line_end-further, gap-within, gap-place, gap-further, gap-some, token-within, token-place, token-left, token-span, bad-left, end-left}
+use Rattle.mlir_lexer.specs.declared.prefixes.Prefix.TheVariants.{LineEnd, Gap, Token, Bad}
+use Rattle.mlir_lexer.proofs.Steps.{begins, line_end-location, line_end-further, gap-within, gap-location, gap-further, gap-some, token-within, token-location, token-left, token-span, bad-left, end-left}
 use Rattle.mlir_lexer.proofs.tokens.Tokens.next.Goals as goal
 
 pub end_line-requires-clause-end : goal.end_line-requires-clause-end
-end_line-requires-clause-end c = line_end-place (begins c.loop-first.self c.in-Some.first.now c.in-Some.following.now LineEnd c.rest.ensures.rest c.in-Some.ensures.cases.0 c.in-LineEnd.ensures)
+end_line-requires-clause-end c = line_end-location (begins c.loop-first.self c.in-Some.first.now c.in-Some.following.now LineEnd c.rest.ensures.rest c.in-Some.ensures.cases.0 c.in-LineEnd.ensures)
 
 pub loop-first-preserved-in-LineEnd : goal.loop-first-preserved-in-LineEnd
 loop-first-preserved-in-LineEnd c =
@@ -16,7 +16,7 @@ pub pass-requires-clause-within : goal.pass-requires-clause-within
 pass-requires-clause-within c = gap-within c.in-Gap.count (begins c.loop-first.self c.in-Some.first.now c.in-Some.following.now (Gap c.in-Gap.count) c.rest.ensures.rest c.in-Some.ensures.cases.0 c.in-Gap.ensures)
 
 pub pass-requires-clause-line : goal.pass-requires-clause-line
-pass-requires-clause-line c = gap-place c.in-Gap.count (begins c.loop-first.self c.in-Some.first.now c.in-Some.following.now (Gap c.in-Gap.count) c.rest.ensures.rest c.in-Some.ensures.cases.0 c.in-Gap.ensures)
+pass-requires-clause-line c = gap-location c.in-Gap.count (begins c.loop-first.self c.in-Some.first.now c.in-Some.following.now (Gap c.in-Gap.count) c.rest.ensures.rest c.in-Some.ensures.cases.0 c.in-Gap.ensures)
 
 pub loop-first-smaller : goal.loop-first-smaller
 loop-first-smaller c =
@@ -35,7 +35,7 @@ token-requires-clause-within c =
 
 pub token-requires-clause-line : goal.token-requires-clause-line
 token-requires-clause-line c =
-    token-place c.in-Token.kind c.in-Token.count (begins c.loop-first.self c.in-Some.first.now c.in-Some.following.now (Token c.in-Token.kind c.in-Token.count) c.rest.ensures.rest c.in-Some.ensures.cases.0 c.in-Token.ensures)
+    token-location c.in-Token.kind c.in-Token.count (begins c.loop-first.self c.in-Some.first.now c.in-Some.following.now (Token c.in-Token.kind c.in-Token.count) c.rest.ensures.rest c.in-Some.ensures.cases.0 c.in-Token.ensures)
 
 pub returns-in-Token-clause-gives : goal.returns-in-Token-clause-gives
 returns-in-Token-clause-gives c =

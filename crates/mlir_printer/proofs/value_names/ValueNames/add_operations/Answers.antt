@@ -3,7 +3,7 @@ use Rattle.ir_store.specs.BodyOps.{BodyOp, ids_in}
 use Rattle.ir_store.specs.Bodies.{ops_of, ids_of, ids_left, op_id, read_op}
 use Rattle.ir_store.specs.Live.{AreDistinct}
 use Rattle.ir_store.proofs.BodyLemmas.{ids_once}
-use Rattle.printable_designs.specs.NameHints.{name_hints, body_name_hints, name_count}
+use Rattle.printing_laws.specs.NameHints.{name_hints, body_name_hints, name_count}
 use Rattle.mlir_printer.specs.Chosen.{Chosen, with_name_hints}
 use Rattle.mlir_printer.specs.Places.{place_at, place_in, place_for}
 use Rattle.mlir_printer.specs.Shown.{parts_in_body}

@@ -4,7 +4,7 @@ use Rattle.ir_store.specs.declared.operation.OpId.{OpId}
 use Rattle.ir_store.specs.BodyOps.{ids_in}
 use Rattle.ir_store.specs.Bodies.{ids_of, ops_of, ids_left}
 use Rattle.ir_store.specs.Live.{AreDistinct}
-use Rattle.printable_designs.specs.NameHints.{body_name_hints}
+use Rattle.printing_laws.specs.NameHints.{body_name_hints}
 use Rattle.mlir_printer.specs.Chosen.{with_name_hints}
 use Rattle.mlir_printer.specs.Places.{place_in}
 use Rattle.mlir_printer.specs.Shown.{parts_in_body}

@@ -1,6 +1,6 @@
 use Rattle.std.proofs.Common.{◌≡◌, ◌++◌, map, drop, length}
 use Rattle.ir_store.specs.Designs.{port_of}
-use Rattle.printable_designs.specs.NameHints.{port_name_hints}
+use Rattle.printing_laws.specs.NameHints.{port_name_hints}
 use Rattle.mlir_printer.specs.Chosen.{with_name_hints}
 use Rattle.mlir_printer.specs.Places.{port_places}
 use Rattle.mlir_printer.specs.Views.{names_held, chosen_names}

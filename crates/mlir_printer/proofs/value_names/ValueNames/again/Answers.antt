@@ -1,7 +1,7 @@
 use Rattle.std.proofs.Common.{◌≡◌, ◌++◌, ℕ, List, length, subst, ap, ◌∙◌}
 use Rattle.ir_store.specs.Bodies.{ops_of}
 use Rattle.ir_store.specs.Designs.{ports_in}
-use Rattle.printable_designs.specs.NameHints.{port_name_hints}
+use Rattle.printing_laws.specs.NameHints.{port_name_hints}
 use Rattle.mlir_printer.specs.Chosen.{with_name_hints}
 use Rattle.mlir_printer.specs.Places.{HavePlaces, port_places}
 use Rattle.mlir_printer.specs.Views.{names_held, chosen_names}

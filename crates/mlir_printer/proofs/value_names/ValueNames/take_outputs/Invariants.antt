@@ -1,5 +1,5 @@
 use Rattle.std.proofs.Common.{◌≡◌, drop}
-use Rattle.printable_designs.specs.NameHints.{instance_name_hints}
+use Rattle.printing_laws.specs.NameHints.{instance_name_hints}
 use Rattle.mlir_printer.specs.Chosen.{with_name_hints}
 use Rattle.mlir_printer.specs.Views.{chosen_names}
 use Rattle.mlir_printer.proofs.value_names.ValueNames.take_outputs.Given as goal

@@ -1,4 +1,4 @@
--- A plain number that stands for nothing gets its place, or is put among those far above.
+-- A plain number that stands for nothing gets its location, or is put among those far above.
 use Rattle.std.proofs.Common.{◌≡◌, Bool, false, true, refl, sym, subst, IfOk, is_some}
 use Rattle.std.proofs.Math.Path.{fun_ext}
 use Rattle.std.proofs.lemmas.Result.{on_ok_weaker}

@@ -5,7 +5,7 @@ use Rattle.hw_model.specs.declared.types.Ty.{the_lemmas}
 use Rattle.mlir_syntax.specs.TypeText.{struct_text, array_text}
 use Rattle.hw_model.specs.declared.types.Field.{Field}
 use Rattle.hw_model.specs.declared.types.Ty.{Ty}
-use Rattle.mlir_lexer.specs.Tokens.{lexeme_of}
+use Rattle.mlir_lexer.specs.Tokens.{text_token}
 use Rattle.mlir_syntax.proofs.Chains.{passed_on}
 use Rattle.mlir_syntax.proofs.Lists.{fails, ends, ends-shorter, goes_on}
 use Rattle.mlir_syntax.proofs.Types.{is_field, integer_at, clock_at, array_at, struct_at, deep_array_at, deep_struct_at, foreign_at, nothing_at}
@@ -59,7 +59,8 @@ type_text-returns-in-Struct-2-clause-gives t c =
 pub struct_text-returns-in_err-fields-clause-gives : goal.struct_text-returns-in_err-fields-clause-gives
 unfolding struct_text
 struct_text-returns-in_err-fields-clause-gives t c =
-    rw (sym c.advance.ensures, c.in_ok-want.ensures.gives) (passed_on {A = Vec Field Global} (λ fields. map field_of fields.items) type_of c.from_residual-in_err-fields.result c.in_err-fields.field-0.0 c.fields_text.new.self c.fields_text.new.self _ _ c.from_residual-in_err-fields.ensures.1 c.in_err-fields.ensures.gives)
+    rw (sym c.advance.ensures, c.in_ok-want.ensures.gives) (passed_on {A = Vec Field Global}
+    (λ fields. map field_of fields.items) type_of c.from_residual-in_err-fields.result c.in_err-fields.field-0.0 c.fields_text.new.self c.fields_text.new.self _ _ c.from_residual-in_err-fields.ensures.1 c.in_err-fields.ensures.gives)
 
 pub struct_text-returns-clause-gives : goal.struct_text-returns-clause-gives
 unfolding struct_text
@@ -75,7 +76,7 @@ pub array_text-returns-in_err-want-2-clause-gives : goal.array_text-returns-in_e
 unfolding array_text
 array_text-returns-in_err-want-2-clause-gives t c =
     rw (sym c.advance.ensures, c.in_ok-want.ensures.gives, c.in_ok-length.ensures.gives, c.in_ok-element.ensures.gives)
-    (passed_on lexeme_of type_of c.from_residual-in_err-want-2.result c.in_err-want-2.field-0.0 c.want-2.new.self c.want-2.new.self _ _ c.from_residual-in_err-want-2.ensures.1 c.in_err-want-2.ensures.gives)
+    (passed_on text_token type_of c.from_residual-in_err-want-2.result c.in_err-want-2.field-0.0 c.want-2.new.self c.want-2.new.self _ _ c.from_residual-in_err-want-2.ensures.1 c.in_err-want-2.ensures.gives)
 
 pub array_text-returns-clause-gives : goal.array_text-returns-clause-gives
 unfolding array_text

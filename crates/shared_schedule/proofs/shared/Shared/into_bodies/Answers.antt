@@ -17,9 +17,11 @@ made_bodies-bodies-requires-clause-made g c = λ m within.
     let key = sym self.key in
     let size : length (callees_in self.plan) ≡ length self.plan.callees.items = length-map self.plan.callees.items (λ row. row.items) in
     let below : m < length (callees_in self.plan) = omega arith in
-    let body = ends g.P.Pieces.first g.P.Pieces.finished g.P.Pieces.copied self.table.shared.key c.args.seat.me.0 (slots_items c.close_with-closed.result.words) (slots_items c.close_with-closed.result.slots) (c.requires.idle.plan ∙ ap Some key) c.requires.idle.out c.requires.passed c.requires.all
+    let body = ends g.P.Pieces.first g.P.Pieces.finished g.P.Pieces.copied self.table.shared.key c.args.seat.me.0 (slots_items c.close_with-closed.result.words)
+    (slots_items c.close_with-closed.result.slots) (c.requires.idle.plan ∙ ap Some key) c.requires.idle.out c.requires.passed c.requires.all
     (subst (λ p. IsFinished (callees_in p) c.args.seat.me.0) key c.requires.finished)
-    (subst (λ n. Final (Seen (Rule g.P.Pieces.first g.P.Pieces.finished g.P.Pieces.copied self.table.shared.key) n c.args.seat.me.0) (slots_items c.close_with-closed.result.words) (slots_items c.close_with-closed.result.slots)) c.requires.first c.close_with-closed.ensures.values.2)
+    (subst (λ n. Final (Seen (Rule g.P.Pieces.first g.P.Pieces.finished g.P.Pieces.copied self.table.shared.key) n c.args.seat.me.0) (slots_items c.close_with-closed.result.words)
+    (slots_items c.close_with-closed.result.slots)) c.requires.first c.close_with-closed.ensures.values.2)
     m (subst (λ p. m < length (callees_in p)) key below) in
     (body.0, body.1)
 
@@ -32,9 +34,11 @@ returns-clause-finished g c =
     let e = each m b at in
     let inside : m < c.len-modules.result = e.0 in
     let below : m < length (callees_in self.plan) = omega arith in
-    let body = ends g.P.Pieces.first g.P.Pieces.finished g.P.Pieces.copied self.table.shared.key c.args.seat.me.0 (slots_items c.close_with-closed.result.words) (slots_items c.close_with-closed.result.slots) (c.requires.idle.plan ∙ ap Some key) c.requires.idle.out c.requires.passed c.requires.all
+    let body = ends g.P.Pieces.first g.P.Pieces.finished g.P.Pieces.copied self.table.shared.key c.args.seat.me.0 (slots_items c.close_with-closed.result.words)
+    (slots_items c.close_with-closed.result.slots) (c.requires.idle.plan ∙ ap Some key) c.requires.idle.out c.requires.passed c.requires.all
     (subst (λ p. IsFinished (callees_in p) c.args.seat.me.0) key c.requires.finished)
-    (subst (λ n. Final (Seen (Rule g.P.Pieces.first g.P.Pieces.finished g.P.Pieces.copied self.table.shared.key) n c.args.seat.me.0) (slots_items c.close_with-closed.result.words) (slots_items c.close_with-closed.result.slots)) c.requires.first c.close_with-closed.ensures.values.2)
+    (subst (λ n. Final (Seen (Rule g.P.Pieces.first g.P.Pieces.finished g.P.Pieces.copied self.table.shared.key) n c.args.seat.me.0) (slots_items c.close_with-closed.result.words)
+    (slots_items c.close_with-closed.result.slots)) c.requires.first c.close_with-closed.ensures.values.2)
     m (subst (λ p. m < length (callees_in p)) key below) in
     subst (λ z. g.P.Pieces.finished self.plan.pieces m z) (made-same (some-injective (Made body.0) (Made b) (sym body.1 ∙ e.1))) (subst (λ p. g.P.Pieces.finished p.pieces m body.0) self.key body.2))
     c.made_bodies-bodies.ensures.bodies
@@ -44,9 +48,11 @@ returns-clause-once g c =
     let self = c.args.self in
     let key = sym self.key in
     if-ok c.made_bodies-bodies.result (λ v len m below.
-    let body = ends g.P.Pieces.first g.P.Pieces.finished g.P.Pieces.copied self.table.shared.key c.args.seat.me.0 (slots_items c.close_with-closed.result.words) (slots_items c.close_with-closed.result.slots) (c.requires.idle.plan ∙ ap Some key) c.requires.idle.out c.requires.passed c.requires.all
+    let body = ends g.P.Pieces.first g.P.Pieces.finished g.P.Pieces.copied self.table.shared.key c.args.seat.me.0 (slots_items c.close_with-closed.result.words)
+    (slots_items c.close_with-closed.result.slots) (c.requires.idle.plan ∙ ap Some key) c.requires.idle.out c.requires.passed c.requires.all
     (subst (λ p. IsFinished (callees_in p) c.args.seat.me.0) key c.requires.finished)
-    (subst (λ n. Final (Seen (Rule g.P.Pieces.first g.P.Pieces.finished g.P.Pieces.copied self.table.shared.key) n c.args.seat.me.0) (slots_items c.close_with-closed.result.words) (slots_items c.close_with-closed.result.slots)) c.requires.first c.close_with-closed.ensures.values.2)
+    (subst (λ n. Final (Seen (Rule g.P.Pieces.first g.P.Pieces.finished g.P.Pieces.copied self.table.shared.key) n c.args.seat.me.0) (slots_items c.close_with-closed.result.words)
+    (slots_items c.close_with-closed.result.slots)) c.requires.first c.close_with-closed.ensures.values.2)
     m (subst (λ p. m < length (callees_in p)) key below) in
     body.3)
     c.made_bodies-bodies.ensures.len

@@ -34,7 +34,8 @@ load-requires g c =
     let lent = c.compare_exchange.ensures.2 c.args.self.now.table.shared.key (c.requires.idle.plan ∙ ap Some key) c.args.c c.args.i refl refl in
     let place = sym (c.slot_of-at.ensures ∙ ap (λ p. edge_slot (callees_in p) c.args.c c.args.i) key) in
     let out = lent.1 ∙ ap (λ n. (lent_edge c.args.seat.now.me.0 c.args.c c.args.i, (n, Copied lent.0) ∷ c.args.seat.now.me.1)) place in
-    let me = exchanged c.compare_exchange.new.seat.me c.exchange-slot.new.seat.me (lent_edge c.args.seat.now.me.0 c.args.c c.args.i) c.slot_of-at.result (Copied lent.0) Cleared c.args.seat.now.me.1 c.requires.idle.none out c.exchange-slot.ensures.3 in (
+    let me = exchanged c.compare_exchange.new.seat.me c.exchange-slot.new.seat.me (lent_edge c.args.seat.now.me.0 c.args.c c.args.i) c.slot_of-at.result
+    (Copied lent.0) Cleared c.args.seat.now.me.1 c.requires.idle.none out c.exchange-slot.ensures.3 in (
       c.exchange-slot.ensures.0 ∙ c.compare_exchange.ensures.0 ∙ c.requires.idle.table,
       omega (arith, c.args.self.now.words),
       gives-edge g.P.Pieces.first g.P.Pieces.finished g.P.Pieces.copied c.args.self.now.table.shared.key _ _ c.args.c c.args.i c.exchange-slot.new.seat.me (ap (λ z. z.0.plan) me ∙ c.requires.idle.plan ∙ ap Some key) (ap (λ z. z.0.out) me)
@@ -56,7 +57,8 @@ returns-clause-idle g c =
     let lent = c.compare_exchange.ensures.2 c.args.self.now.table.shared.key (c.requires.idle.plan ∙ ap Some key) c.args.c c.args.i refl refl in
     let place = sym (c.slot_of-at.ensures ∙ ap (λ p. edge_slot (callees_in p) c.args.c c.args.i) key) in
     let out = lent.1 ∙ ap (λ n. (lent_edge c.args.seat.now.me.0 c.args.c c.args.i, (n, Copied lent.0) ∷ c.args.seat.now.me.1)) place in
-    let me = exchanged c.compare_exchange.new.seat.me c.exchange-slot.new.seat.me (lent_edge c.args.seat.now.me.0 c.args.c c.args.i) c.slot_of-at.result (Copied lent.0) Cleared c.args.seat.now.me.1 c.requires.idle.none out c.exchange-slot.ensures.3 in
+    let me = exchanged c.compare_exchange.new.seat.me c.exchange-slot.new.seat.me (lent_edge c.args.seat.now.me.0 c.args.c c.args.i) c.slot_of-at.result
+    (Copied lent.0) Cleared c.args.seat.now.me.1 c.requires.idle.none out c.exchange-slot.ensures.3 in
     let last = c.load.ensures.2 c.args.c c.args.i (ap (λ z. z.0.out) me) in
     record {
       table = c.load.ensures.0 ∙ c.exchange-slot.ensures.0 ∙ c.compare_exchange.ensures.0 ∙ c.requires.idle.table;
@@ -71,7 +73,8 @@ returns-clause-cleared g c =
     let lent = c.compare_exchange.ensures.2 c.args.self.now.table.shared.key (c.requires.idle.plan ∙ ap Some key) c.args.c c.args.i refl refl in
     let place = sym (c.slot_of-at.ensures ∙ ap (λ p. edge_slot (callees_in p) c.args.c c.args.i) key) in
     let out = lent.1 ∙ ap (λ n. (lent_edge c.args.seat.now.me.0 c.args.c c.args.i, (n, Copied lent.0) ∷ c.args.seat.now.me.1)) place in
-    let me = exchanged c.compare_exchange.new.seat.me c.exchange-slot.new.seat.me (lent_edge c.args.seat.now.me.0 c.args.c c.args.i) c.slot_of-at.result (Copied lent.0) Cleared c.args.seat.now.me.1 c.requires.idle.none out c.exchange-slot.ensures.3 in
+    let me = exchanged c.compare_exchange.new.seat.me c.exchange-slot.new.seat.me (lent_edge c.args.seat.now.me.0 c.args.c c.args.i) c.slot_of-at.result
+    (Copied lent.0) Cleared c.args.seat.now.me.1 c.requires.idle.none out c.exchange-slot.ensures.3 in
     ap (λ z. z.0) (c.load.ensures.2 c.args.c c.args.i (ap (λ z. z.0.out) me)) ∙ ap (λ z. cleared z.0 c.args.c c.args.i) me
 
 pub returns-clause-copied : goal.returns-clause-copied

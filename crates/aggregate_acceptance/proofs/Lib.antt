@@ -1,0 +1,25 @@
+-- Lemmas.
+pub mod IndexBits
+pub mod LiteralTypes
+pub mod LiteralNumbers
+pub mod NameBytes
+pub mod Regular
+pub mod LeafTypes
+pub mod ResultValues
+pub mod MadeKinds
+pub mod MadeOps
+pub mod MadeRules
+pub mod CastRules
+pub mod SpreadRules
+pub mod LoweredModules
+pub mod LoweredConstants
+pub mod LoweredBlocks
+pub mod LoweredPorts
+pub mod LoweredResets
+pub mod LoweredFit
+pub mod WiresOut
+pub mod LoweredShapes
+pub mod PieceWeights
+pub mod LoweredWeights
+pub mod AcceptedLowered
+pub mod CanonicalAgain

@@ -1,5 +1,0 @@
-use Rattle.aggregate_accepted.proofs.AcceptedLowered.{joins_accepted}
-use Rattle.aggregate_accepted.proofs.laws.lowered_designs_are_accepted.Goals as goal
-
-pub returns : goal.returns
-returns c = joins_accepted

@@ -1,8 +1,0 @@
-use Rattle.aggregate_accepted.proofs.LoweredShapes.{joined_types, joined_calls}
-use Rattle.aggregate_accepted.proofs.laws.registers_become_leaves.Goals as goal
-
-pub returns-clause-registers : goal.returns-clause-registers
-returns-clause-registers c = joined_types
-
-pub returns-clause-instances : goal.returns-clause-instances
-returns-clause-instances c = joined_calls

@@ -1,5 +1,0 @@
-use Rattle.aggregate_accepted.proofs.LoweredFit.{lowered_resets}
-use Rattle.aggregate_accepted.proofs.laws.resets_come_from_leaves.Goals as goal
-
-pub returns : goal.returns
-returns c = lowered_resets

@@ -1,8 +1,0 @@
-use Rattle.aggregate_laws.proofs.Aggregates.{aggregates_follow}
-use Rattle.aggregate_laws.specs.LeafPorts.{split_ports}
-use Rattle.aggregate_rows.specs.LoweringRules.{leaf_named}
-use Rattle.aggregate_laws.proofs.LeafPorts.{split_bare}
-use Rattle.aggregate_rows.proofs.laws.lowering_follows.Goals as goal
-
-pub returns : goal.returns
-returns c d regular valid = aggregates_follow split_ports (leaf_named d) d split_bare regular valid

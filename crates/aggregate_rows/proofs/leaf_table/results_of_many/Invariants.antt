@@ -1,7 +1,0 @@
-use Rattle.std.proofs.Common.{◌≡◌, false, map, take}
-use Rattle.aggregate_rows.specs.Reading.{new_refs}
-use Rattle.aggregate_rows.specs.LeafTables.{place_ref}
-use Rattle.aggregate_rows.proofs.leaf_table.results_of_many.Given as goal
-
-abbrev pub invariant-loop-place : goal.invariant-loop-place
-invariant-loop-place l = new_refs l.values.items ≡ map (place_ref false l.start) (take l.place-index l.place-items)

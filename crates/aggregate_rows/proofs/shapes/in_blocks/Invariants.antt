@@ -1,9 +1,0 @@
-use Rattle.std.proofs.Common.{◌≡◌, ◌++◌, drop}
-use Rattle.aggregate_rows.specs.Shapes.{ends, last_end}
-use Rattle.aggregate_rows.proofs.shapes.in_blocks.Given as goal
-
-abbrev pub invariant-loop-size : goal.invariant-loop-size
-invariant-loop-size l = record {
-  places : l.places.items ++ ends l.next (drop l.size-index l.sizes) ≡ ends l.first l.sizes;
-  last : last_end l.next (drop l.size-index l.sizes) ≡ last_end l.first l.sizes;
-}

@@ -1,6 +1,0 @@
-use Rattle.std.proofs.Common.{take}
-use Rattle.canonical_form.specs.Bytes.{Each, AreBytes}
-use Rattle.canonical_form.proofs.bytes.are_texts.Given as goal
-
-abbrev pub invariant-loop-text : goal.invariant-loop-text
-invariant-loop-text l = Each AreBytes (take l.text-index l.texts)

@@ -1,8 +1,0 @@
-use Rattle.std.proofs.Common.{take, map}
-use Rattle.ir_store.specs.OperationViews.{result_of}
-use Rattle.canonical_form.specs.Bytes.{Each}
-use Rattle.canonical_form.proofs.Results.{IsNone}
-use Rattle.canonical_form.proofs.result_types.have_no_types.Given as goal
-
-abbrev pub invariant-loop-one : goal.invariant-loop-one
-invariant-loop-one l = Each IsNone (map result_of (take l.one-index l.results))

@@ -1,2 +1,0 @@
-hw.module @T(in %a : i8, out o : i8) {
-  hw.output %a :

@@ -1,0 +1,100 @@
+//! What passes make of verified designs, and the Verilog of it.
+ghost use Rattle.std.specs.Prelude.{List, IfOk};
+ghost use Rattle.hw_model.specs.Design.{Design};
+ghost use Rattle.ir_store.specs.Designs.{design_of};
+ghost use Rattle.op_verifier.specs.Verdict.{IsAccepted};
+ghost use Rattle.stored_form.specs.Canonical.{IsCanonical};
+ghost use Rattle.export_verilog.specs.Aggregates.{HasNoAggregates};
+ghost use Rattle.pass_pipeline.specs.declared.pass.Pass.{Pass};
+ghost use Rattle.pass_manager.specs.Results.{IsResult};
+ghost use Rattle.circt_top.specs.Translation.{exported_passes, IsTranslated, IsTranslatedFrom};
+
+use command_line::workers::Workers;
+use export_verilog::export::export;
+use export_verilog::{
+    accepted_designs_are_exportable, exported_designs_behave, stored_designs_have_room,
+};
+use io_edge::byte_text::Text;
+use op_verifier::Verified;
+use pass_manager::gate::Gate;
+use pass_manager::run::{run_pipeline, with_lowered_aggregates};
+use pass_manager::{lowering_keeps, results_follow};
+use pass_pipeline::pipeline::Pipeline;
+use printing_laws::what_is_canonical_is_printable;
+use std::alloc::{AllocError, Global};
+use std::thread::Threads;
+
+/// By what modules are worked.
+#[derive(Drop)]
+pub(crate) struct Means<'a, R, G> {
+    /// It starts threads.
+    pub(crate) rt: &'a R,
+    /// It gives memory.
+    pub(crate) alloc: Global,
+    /// How many workers there are.
+    pub(crate) workers: Workers,
+    /// It is told of each module before a pass works on its body.
+    pub(crate) gate: &'a G,
+}
+
+/// What passes make of a verified design.
+pub(crate) fn passes_result<R: Threads + Sync, G: Gate + Sync>(
+    means: &Means<'_, R, G>,
+    verified: Verified,
+    passes: &Pipeline,
+) -> Result<Verified, AllocError>
+    ensures { IfOk result (λ made. IsResult passes.now (design_of verified.design) (design_of made.design)) }
+{
+    run_pipeline(
+        means.rt,
+        means.alloc,
+        verified,
+        passes,
+        means.workers.count,
+        means.gate,
+    )
+}
+
+/// What passes make of a verified design, with its aggregates lowered to their leaves.
+pub(crate) fn exported_result<R: Threads + Sync, G: Gate + Sync>(
+    means: &Means<'_, R, G>,
+    verified: Verified,
+    passes: &Pipeline,
+) -> Result<Verified, AllocError>
+    ensures made { IfOk result (λ made. IsResult (exported_passes passes.now) (design_of verified.design) (design_of made.design)) }
+    ensures plain { IfOk result (λ made. HasNoAggregates (design_of made.design)) }
+{
+    what_is_canonical_is_printable();
+    results_follow();
+    lowering_keeps();
+    let made = passes_result(means, verified, passes)?;
+    with_lowered_aggregates(means.alloc, made)
+}
+
+/// The Verilog of what passes and then the lowering of aggregates made of any verified design.
+pub(crate) fn export_made<R: Threads + Sync, G: Gate + Sync>(
+    means: &Means<'_, R, G>,
+    made: &Verified,
+) -> Result<Text, AllocError>
+    requires { HasNoAggregates (design_of made.now.design) }
+    ensures { (passes : List Pass) (d : Design) → IsAccepted d → IsCanonical d → IsResult (exported_passes passes) d (design_of made.now.design) → IfOk result (IsTranslatedFrom passes d (design_of made.now.design)) }
+{
+    what_is_canonical_is_printable();
+    results_follow();
+    accepted_designs_are_exportable();
+    exported_designs_behave();
+    stored_designs_have_room(made.design());
+    export(means.rt, means.alloc, made, means.workers.count)
+}
+
+/// The Verilog of what passes make of a verified design, with its aggregates lowered.
+pub(crate) fn translate<R: Threads + Sync, G: Gate + Sync>(
+    means: &Means<'_, R, G>,
+    verified: Verified,
+    passes: &Pipeline,
+) -> Result<Text, AllocError>
+    ensures { IfOk result (IsTranslated passes.now (design_of verified.design)) }
+{
+    let made = exported_result(means, verified, passes)?;
+    export_made(means, &made)
+}

@@ -1,9 +1,0 @@
-use Rattle.comparison_laws.proofs.Differences.{formula_difference, formula_shows, formula_clauses}
-use Rattle.comparison_laws.proofs.laws.formulas_are_differences.Goals as goal
-
-pub returns : goal.returns
-returns c = record {
-  differences = formula_difference;
-  shown = formula_shows;
-  clauses = formula_clauses;
-}

@@ -1,3 +1,0 @@
-pub mod Comparison
-pub mod ComparisonPrices
-pub use Rattle.flat_copy.specs.FlatCopy

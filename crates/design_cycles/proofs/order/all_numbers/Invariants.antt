@@ -1,6 +1,0 @@
-use Rattle.std.proofs.Common.{ℕ, ◌<◌}
-use Rattle.wiring.specs.Wiring.{In}
-use Rattle.design_cycles.proofs.order.all_numbers.Given as goal
-
-abbrev pub invariant-loop-number : goal.invariant-loop-number
-invariant-loop-number l = (v : ℕ) → v < l.number → In v l.numbers.items

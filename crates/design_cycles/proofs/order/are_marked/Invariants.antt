@@ -1,6 +1,0 @@
-use Rattle.std.proofs.Common.{take}
-use Rattle.design_cycles.specs.Marks.{AreMarked}
-use Rattle.design_cycles.proofs.order.are_marked.Given as goal
-
-abbrev pub invariant-loop-node : goal.invariant-loop-node
-invariant-loop-node l = AreMarked (take l.node-index l.nodes) l.marks

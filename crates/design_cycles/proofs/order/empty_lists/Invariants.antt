@@ -1,7 +1,0 @@
-use Rattle.std.proofs.Common.{◌≡◌, []}
-use Rattle.graphs.specs.Graphs.{lists_of}
-use Rattle.design_cycles.specs.Nodes.{times_over}
-use Rattle.design_cycles.proofs.order.empty_lists.Given as goal
-
-abbrev pub invariant-loop : goal.invariant-loop
-invariant-loop l = lists_of l.lists.items ≡ times_over l.counter []

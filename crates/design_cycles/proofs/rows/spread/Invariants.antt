@@ -1,7 +1,0 @@
-use Rattle.std.proofs.Common.{take}
-use Rattle.graphs.specs.Graphs.{lists_of}
-use Rattle.design_cycles.specs.Rows.{Spreads}
-use Rattle.design_cycles.proofs.rows.spread.Given as goal
-
-abbrev pub invariant-loop-node : goal.invariant-loop-node
-invariant-loop-node l = Spreads (lists_of l.graph) (take l.node-index l.nodes) l.fn.rows l.rows l.changed

@@ -1,0 +1,13 @@
+pub mod Orders
+pub mod Tables
+pub mod Building
+pub mod Loading
+pub mod Linking
+pub mod LinkedRegisters
+pub mod SingleResults
+pub mod PlainOrders
+pub mod SameBuildings
+pub mod LinkedResets
+pub mod LinkedSteps
+pub mod FittingGateLists
+pub mod StepMade

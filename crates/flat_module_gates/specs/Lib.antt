@@ -1,0 +1,4 @@
+pub mod Orders
+pub mod FlatGateLists
+pub mod FlatSteps
+pub mod Stepped

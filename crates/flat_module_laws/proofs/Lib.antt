@@ -1,0 +1,12 @@
+pub mod ScalarValues
+pub mod PlainKinds
+pub mod FlatBodies
+pub mod FlatWords
+pub mod FlatSources
+pub mod FlatGateLists
+pub mod Positions
+pub mod FlatOrders
+pub mod FlatTotals
+pub mod RegisterOperands
+pub mod FlatRegisters
+pub mod FlatMiters

@@ -1,9 +1,0 @@
-use Rattle.flat_sides.proofs.FlatMiters.{side_paid, miter_paid, register_miter_paid}
-use Rattle.flat_sides.proofs.laws.gates_are_paid.Goals as goal
-
-pub returns : goal.returns
-returns c = record {
-  nets = side_paid;
-  outputs = miter_paid;
-  steps = register_miter_paid;
-}

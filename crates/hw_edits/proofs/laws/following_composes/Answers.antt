@@ -1,8 +1,0 @@
-use Rattle.hw_edits.proofs.Follows.{follows_then, follows_self}
-use Rattle.hw_edits.proofs.laws.following_composes.Goals as goal
-
-pub returns-clause-composes : goal.returns-clause-composes
-returns-clause-composes c = follows_then
-
-pub returns-clause-itself : goal.returns-clause-itself
-returns-clause-itself c = follows_self

@@ -1,0 +1,8 @@
+use Rattle.std.proofs.Common.{◌≡◌, ◌++◌, ◌-◌}
+use Rattle.hw_model.specs.Design.Ref.{result}
+use Rattle.aggregate_laws.specs.Leaves.{in_row}
+use Rattle.lowering_rules.specs.Reading.{new_refs}
+use Rattle.lowering_rules.proofs.bitcast_rules.results_from.Given as goal
+
+abbrev pub invariant-loop-number : goal.invariant-loop-number
+invariant-loop-number l = new_refs l.values.items ++ in_row (λ i. result i 0) l.number (l.end - l.number) ≡ in_row (λ i. result i 0) l.start l.count

@@ -1,0 +1,13 @@
+use Rattle.std.proofs.Common.{◌≡◌, ◌++◌, ◌∷◌, [], map, drop}
+use Rattle.hw_model.specs.TypeViews.{type_of}
+use Rattle.hw_model.specs.Kinds.Kind.{constant}
+use Rattle.hw_model.specs.KindViews.{integer_of}
+use Rattle.aggregate_laws.specs.OperationRules.{made_op, for_each, number_at}
+use Rattle.lowering_rules.specs.Reading.{plain_of}
+use Rattle.lowering_rules.specs.Made.{made_in}
+use Rattle.lowering_rules.proofs.leafwise_rules.put_constants.Given as goal
+
+abbrev pub invariant-loop-number : goal.invariant-loop-number
+invariant-loop-number l =
+    made_in l.made.items ++ for_each (λ i t. made_op (plain_of l.op) (constant (number_at (map integer_of l.numbers.items) i)) [] (t ∷ []) [] t) l.number (map type_of (drop l.number l.leaves))
+    ≡ made_in l.fn.made.items ++ for_each (λ i t. made_op (plain_of l.op) (constant (number_at (map integer_of l.numbers.items) i)) [] (t ∷ []) [] t) 0 (map type_of l.leaves)

@@ -1,0 +1,11 @@
+use Rattle.std.proofs.Common.{◌++◌, ◌+◌, ◌-◌, ap, ◌∙◌}
+use Rattle.aggregate_laws.specs.Leaves.{in_row}
+use Rattle.lowering_rules.proofs.Shaping.{rule_more}
+use Rattle.lowering_rules.proofs.shapes.in_turn.Goals as goal
+
+pub loop-place-preserved : goal.loop-place-preserved
+loop-place-preserved c =
+    let at = c.loop-place.place in
+    let end = c.in_ok-count.count in
+    ap (λ xs. xs ++ in_row (λ i. i) (at + 1) (end - (at + 1))) c.in_ok-push.ensures.items
+    ∙ rule_more (λ i. i) c.loop-place.places.items (in_row (λ i. i) c.args.first c.args.leaves) at end c.loop-place-test.true c.loop-place.invariant

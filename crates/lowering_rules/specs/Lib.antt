@@ -1,0 +1,10 @@
+pub mod LoweringRules
+pub mod Reading
+pub mod FormRules
+pub mod Pieces
+pub mod PieceRules
+pub mod Shapes
+pub mod LeafTables
+pub mod Callees
+pub mod Made
+pub mod Names

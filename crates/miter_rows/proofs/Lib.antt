@@ -1,9 +1,0 @@
-pub mod WordLists
-pub mod Folding
-pub mod Pairs
-pub mod Comparisons
-pub mod KindRows
-pub mod Fitting
-pub mod Taking
-pub mod KnownBits
-pub mod Standing

@@ -1,6 +1,0 @@
-use Rattle.std.proofs.Common.{◌≡◌, ◌++◌, drop}
-use Rattle.miter_rows.specs.OperationRows.{concatenation}
-use Rattle.miter_rows.proofs.parts.concatenation.Given as goal
-
-abbrev pub invariant-loop-word : goal.invariant-loop-word
-invariant-loop-word l = l.made.items ++ concatenation (drop l.word-index l.words) ≡ concatenation l.words

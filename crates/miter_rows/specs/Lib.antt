@@ -1,4 +1,0 @@
-pub mod OperationRows
-pub mod Operands
-pub mod Prices
-pub mod WordOrder

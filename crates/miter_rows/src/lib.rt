@@ -1,9 +1,0 @@
-//! Rows of gates of operations on integers: which gates each kind of operation becomes, over the words of its operands.
-#![tactic(auto)]
-
-pub mod known_words;
-pub mod laws;
-pub mod operations;
-pub mod pair_rows;
-pub mod parts;
-pub mod signal_word;

@@ -1,0 +1,9 @@
+pub mod InputWords
+pub mod Nets
+pub mod Circuits
+pub mod FormulaLaw
+pub mod MiterLaw
+pub mod RegisterParts
+pub mod RegisterSlots
+pub mod StepGateLists
+pub mod StepLaw

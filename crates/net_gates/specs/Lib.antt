@@ -1,0 +1,7 @@
+pub mod NetGateLists
+pub mod NetOrder
+pub mod NetPrices
+pub mod Miters
+pub mod RegisterGateLists
+pub mod RegisterPrices
+pub mod RegisterMiters

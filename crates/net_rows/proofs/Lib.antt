@@ -1,9 +1,0 @@
-pub mod InputWords
-pub mod Nets
-pub mod Circuits
-pub mod FormulaLaw
-pub mod MiterLaw
-pub mod RegisterParts
-pub mod RegisterSlots
-pub mod StepRows
-pub mod StepLaw

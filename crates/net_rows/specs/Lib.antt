@@ -1,7 +1,0 @@
-pub mod NetRows
-pub mod NetOrder
-pub mod NetPrices
-pub mod Miters
-pub mod RegisterRows
-pub mod RegisterPrices
-pub mod RegisterMiters

@@ -1,0 +1,9 @@
+pub mod WordLists
+pub mod Folding
+pub mod Pairs
+pub mod Comparisons
+pub mod KindGateLists
+pub mod Fitting
+pub mod Taking
+pub mod KnownBits
+pub mod Standing

@@ -1,0 +1,11 @@
+use Rattle.std.proofs.Common.{sym, subst}
+use Rattle.gates.specs.Circuits.{Runs}
+use Rattle.gates.proofs.Running.{runs-done, runs_then}
+use Rattle.gate_words.specs.GateLists.{unlike}
+use Rattle.operation_gates.specs.OperationGateLists.{negation}
+use Rattle.operation_gates.proofs.pair_gate_lists.alike.Goals as goal
+
+pub returns : goal.returns
+returns c =
+    subst (λ s. Runs (negation (unlike c.args.x.now c.args.y.now)) c.args.gates.now c.unlike.new.gates s) (sym c.inverse.ensures)
+    (runs_then _ c.in_ok-differ.ensures runs-done)

@@ -1,0 +1,4 @@
+pub mod OperationGateLists
+pub mod Operands
+pub mod Prices
+pub mod WordOrder

@@ -1,6 +1,0 @@
-use Rattle.std.proofs.Common.{◌≡◌, ◌-◌}
-use Rattle.net_rows.specs.NetRows.{variables}
-use Rattle.side_gates.proofs.widths.variables.Given as goal
-
-abbrev pub invariant-loop-before : goal.invariant-loop-before
-invariant-loop-before l = l.word.items ≡ variables l.start (l.before - l.start)

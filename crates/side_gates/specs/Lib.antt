@@ -1,4 +1,0 @@
-pub mod Placing
-pub mod FlatRows
-pub mod FlatSteps
-pub mod Stepped

@@ -1,2 +1,0 @@
-//! What is kept of designs may cross to other threads.
-#![tactic(auto)]
