@@ -1,11 +1,10 @@
 #!/usr/bin/env python3
-"""Measures what passes cost: the processor times of `opt` without passes and with each list of flags, in turn, on large texts.
+"""Writes a large text for measures of passes to standard output.
 
-    passes.py PROGRAM [ROUNDS]     the program `circt`, 5 rounds by default
-    passes.py --text NAME          writes one of the texts to standard output
+    generate_pass_texts.py NAME
 
 The texts are
-    modules    the 10,000 modules of reader_texts.py, in which nothing folds
+    modules    the 10,000 modules of generate_reader_texts.py, in which nothing folds
     third      one body of 100,000 operations, of which each third one folds
     chain      100,000 adds, each of the one before it and a constant, which fold to one add
     chain2     the same of 200,000 adds, to see how the time grows
@@ -21,16 +20,10 @@ The texts are
     above      two equal chains of 1,000 operations, each above the one that it uses, so that a sweep merges one of each
     above2     the same of 2,000 operations
 """
-import pathlib
-import resource
-import statistics
-import subprocess
 import sys
-import tempfile
 
 sys.dont_write_bytecode = True
-sys.path.insert(0, str(pathlib.Path(__file__).resolve().parent))
-import reader_texts
+import generate_reader_texts
 
 HEADER = "hw.module @M(in %a : i32, in %b : i32, in %c : i1, out o : i32) {\n"
 
@@ -125,7 +118,7 @@ def above(count, write):
 
 
 TEXTS = {
-    "modules": (reader_texts.many_modules, 10000),
+    "modules": (generate_reader_texts.many_modules, 10000),
     "third": (third, 100000),
     "chain": (chain, 100000),
     "chain2": (chain, 200000),
@@ -142,45 +135,13 @@ TEXTS = {
     "above2": (above, 2000),
 }
 
-# The lists of flags that are compared, the first one without passes.
-FLAGS = [[], ["--canonicalize"], ["--cse"], ["--canonicalize", "--cse"]]
-
-
-def seconds(words, text, printed):
-    """The processor time of a run on a text, whose output goes to a file."""
-    before = resource.getrusage(resource.RUSAGE_CHILDREN)
-    subprocess.run(words, stdin=open(text, "rb"), stdout=open(printed, "wb"), check=True)
-    after = resource.getrusage(resource.RUSAGE_CHILDREN)
-    return after.ru_utime - before.ru_utime + after.ru_stime - before.ru_stime
-
-
-def measure(program, name, rounds, folder):
-    """Says the times of one text: the median for each list of flags, and the sizes of what is printed."""
-    text = folder / "text"
-    make, count = TEXTS[name]
-    with open(text, "w") as file:
-        make(count, file.write)
-    times = [[] for _ in FLAGS]
-    for _ in range(rounds):
-        for number, flags in enumerate(FLAGS):
-            times[number].append(seconds([program, "opt", *flags], text, folder / str(number)))
-    columns = (f"{statistics.median(own):>10.3f}{(folder / str(number)).stat().st_size:>12}" for number, own in enumerate(times))
-    print(f"{name:10}" + "".join(columns), flush=True)
-
 
 def main():
-    """Measures all texts, or writes one."""
-    if len(sys.argv) == 3 and sys.argv[1] == "--text" and sys.argv[2] in TEXTS:
-        make, count = TEXTS[sys.argv[2]]
-        make(count, sys.stdout.write)
-        return
-    if len(sys.argv) < 2 or sys.argv[1].startswith("-"):
+    """Writes the text that the word names."""
+    if len(sys.argv) != 2 or sys.argv[1] not in TEXTS:
         sys.exit(__doc__)
-    rounds = int(sys.argv[2]) if len(sys.argv) > 2 else 5
-    print(f"{'text':10}" + "".join(f"{' '.join(flags) or 'opt':>22}" for flags in FLAGS))
-    with tempfile.TemporaryDirectory() as folder:
-        for name in TEXTS:
-            measure(sys.argv[1], name, rounds, pathlib.Path(folder))
+    make, count = TEXTS[sys.argv[1]]
+    make(count, sys.stdout.write)
 
 
 if __name__ == "__main__":

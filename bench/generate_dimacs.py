@@ -1,10 +1,10 @@
 #!/usr/bin/env python3
 """Writes a formula in DIMACS's form to standard output.
 
-    dimacs_texts.py pigeons [HOLES]          one pigeon more than there are holes, 7 holes by default
-    dimacs_texts.py adder [BITS]             that sums are associative, 32 bits by default
-    dimacs_texts.py multiplier [BITS]        that whole products are commutative, 7 bits by default
-    dimacs_texts.py random [SEED]            840 clauses of three literals over 200 variables, which can be satisfied
+    generate_dimacs.py pigeons [HOLES]          one pigeon more than there are holes, 7 holes by default
+    generate_dimacs.py adder [BITS]             that sums are associative, 32 bits by default
+    generate_dimacs.py multiplier [BITS]        that whole products are commutative, 7 bits by default
+    generate_dimacs.py random [SEED]            840 clauses of three literals over 200 variables, which can be satisfied
 """
 import random
 import sys

@@ -1,23 +1,20 @@
 #!/usr/bin/env python3
 """Compares `opt --canonicalize --cse` with MLIR's own tool on like designs, in turn: processor times and peak memory.
 
-    mlir_opt.py PROGRAM [MLIR_OPT] [ROUNDS]     the program `circt`; `mlir-opt-16` (Debian's mlir-16-tools) and 5 rounds by default
+    time_against_mlir_opt.py PROGRAM [MLIR_OPT] [ROUNDS]     the program `circt`; `mlir-opt-16` (Debian's mlir-16-tools) and 5 rounds by default
 
 The designs are said twice, as modules of `comb` and as functions of `arith`:
     modules    10,000 of eight operations, in which nothing folds
     third      one of 100,000 operations, of which each third one folds
 """
-import os
 import pathlib
-import statistics
-import subprocess
 import sys
 import tempfile
 
 sys.dont_write_bytecode = True
-sys.path.insert(0, str(pathlib.Path(__file__).resolve().parent))
-import passes
-import reader_texts
+import generate_pass_texts
+import generate_reader_texts
+import support
 
 # What stands at each third place of a function; each folds to the value before it.
 FOLDED = [
@@ -54,46 +51,29 @@ def third(count, write):
 
 
 TEXTS = {
-    "modules": (reader_texts.many_modules, many_functions, 10000),
-    "third": (passes.third, third, 100000),
+    "modules": (generate_reader_texts.many_modules, many_functions, 10000),
+    "third": (generate_pass_texts.third, third, 100000),
 }
-
-
-def run(words, text):
-    """The processor time of a run, and its peak memory in MB."""
-    child = subprocess.Popen([*words], stdin=open(text, "rb"), stdout=subprocess.DEVNULL)
-    _, status, usage = os.wait4(child.pid, 0)
-    child.returncode = os.waitstatus_to_exitcode(status)
-    if child.returncode:
-        sys.exit(f"{' '.join(words)} ended with {child.returncode}")
-    return usage.ru_utime + usage.ru_stime, usage.ru_maxrss / 1024
 
 
 def measure(tools, name, rounds, folder):
     """Says the times of one design by both tools."""
     *makes, count = TEXTS[name]
-    texts = []
-    for number, make in enumerate(makes):
-        texts.append(folder / f"text{number}")
-        with open(texts[-1], "w") as file:
-            make(count, file.write)
-    told = [[] for _ in tools]
-    for _ in range(rounds):
-        for number, words in enumerate(tools):
-            told[number].append(run(words, texts[number]))
-    times = [statistics.median(time for time, _ in own) for own in told]
-    peaks = [max(peak for _, peak in own) for own in told]
-    print(f"{name:10}" + "".join(f"{time:>10.3f}{peak:>8.0f}" for time, peak in zip(times, peaks)) + f"{times[1] / times[0]:>8.2f}", flush=True)
+    texts = [folder / str(number) for number in range(len(makes))]
+    for text, make in zip(texts, makes):
+        support.write_text(text, make, count)
+    costs = support.costs_in_turn(rounds, [lambda words=words, text=text: support.run(words, text) for words, text in zip(tools, texts)])
+    columns = (f"{cost.processor:>10.3f}{cost.memory:>8.0f}" for cost in costs)
+    print(f"{name:10}" + "".join(columns) + f"{costs[1].processor / costs[0].processor:>8.2f}", flush=True)
 
 
 def main():
     """Measures all designs."""
-    if len(sys.argv) < 2 or sys.argv[1].startswith("-"):
-        sys.exit(__doc__)
+    program = support.program_word(__doc__)
     other = sys.argv[2] if len(sys.argv) > 2 else "mlir-opt-16"
-    rounds = int(sys.argv[3]) if len(sys.argv) > 3 else 5
+    rounds = support.number_word(3, 5)
     flags = ["--canonicalize", "--cse"]
-    tools = [[sys.argv[1], "opt", *flags, "--workers", "1"], [other, *flags, "--mlir-disable-threading"]]
+    tools = [[program, "opt", *flags, "--workers", "1"], [other, *flags, "--mlir-disable-threading"]]
     print(f"{'design':10}{'circt':>18}{'mlir-opt':>18}{'ratio':>8}")
     with tempfile.TemporaryDirectory() as folder:
         for name in TEXTS:

@@ -1,12 +1,12 @@
 #!/usr/bin/env python3
 """Writes a large text for measures to standard output.
 
-    reader_texts.py operations [MEGABYTES]   one module of operations, 60 MB by default
-    reader_texts.py modules [COUNT]          modules of eight operations each, 10,000 by default
-    reader_texts.py chain [COUNT]            one module in which each operation uses the one before it, 100,000 by default
-    reader_texts.py shared [COUNT]           one module in which each operation uses the same value, 100,000 by default
-    reader_texts.py outputs [COUNT]          a chain of which each operation is an output, instanced once, 16,000 by default
-    reader_texts.py wide [COUNT]             so many inputs and outputs, each output of two inputs, instanced once, 16,000 by default
+    generate_reader_texts.py operations [MEGABYTES]   one module of operations, 60 MB by default
+    generate_reader_texts.py modules [COUNT]          modules of eight operations each, 10,000 by default
+    generate_reader_texts.py chain [COUNT]            one module in which each operation uses the one before it, 100,000 by default
+    generate_reader_texts.py shared [COUNT]           one module in which each operation uses the same value, 100,000 by default
+    generate_reader_texts.py outputs [COUNT]          a chain of which each operation is an output, instanced once, 16,000 by default
+    generate_reader_texts.py wide [COUNT]             so many inputs and outputs, each output of two inputs, instanced once, 16,000 by default
 """
 import sys
 
@@ -86,23 +86,23 @@ def wide(count, write):
     instanced(count, count, lambda i: f"%a{i}, %a{(i + 1) % count}", write)
 
 
+# The texts, each with the count that is meant where none is given.
+TEXTS = {
+    "operations": (lambda megabytes, write: one_module(megabytes * 1000000, write), 60),
+    "modules": (many_modules, 10000),
+    "chain": (chain, 100000),
+    "shared": (shared, 100000),
+    "outputs": (outputs, 16000),
+    "wide": (wide, 16000),
+}
+
+
 def main():
     """Writes the text that the words name."""
-    write = sys.stdout.write
-    if len(sys.argv) > 1 and sys.argv[1] == "modules":
-        many_modules(int(sys.argv[2]) if len(sys.argv) > 2 else 10000, write)
-    elif len(sys.argv) > 1 and sys.argv[1] == "operations":
-        one_module((int(sys.argv[2]) if len(sys.argv) > 2 else 60) * 1000000, write)
-    elif len(sys.argv) > 1 and sys.argv[1] == "chain":
-        chain(int(sys.argv[2]) if len(sys.argv) > 2 else 100000, write)
-    elif len(sys.argv) > 1 and sys.argv[1] == "shared":
-        shared(int(sys.argv[2]) if len(sys.argv) > 2 else 100000, write)
-    elif len(sys.argv) > 1 and sys.argv[1] == "outputs":
-        outputs(int(sys.argv[2]) if len(sys.argv) > 2 else 16000, write)
-    elif len(sys.argv) > 1 and sys.argv[1] == "wide":
-        wide(int(sys.argv[2]) if len(sys.argv) > 2 else 16000, write)
-    else:
+    if len(sys.argv) not in (2, 3) or sys.argv[1] not in TEXTS:
         sys.exit(__doc__)
+    make, count = TEXTS[sys.argv[1]]
+    make(int(sys.argv[2]) if len(sys.argv) > 2 else count, sys.stdout.write)
 
 
 if __name__ == "__main__":

@@ -2,7 +2,7 @@
 """Measures what the lowering of aggregates costs: the times by the clock of the same commands, in turn, on a design with aggregates and
 on the same design with its aggregates lowered beforehand.
 
-    lowering.py PROGRAM [MODULES [ROUNDS]]     the program `circt`, 10,000 modules and 5 rounds by default
+    time_lowering.py PROGRAM [MODULES [ROUNDS]]     the program `circt`, 10,000 modules and 5 rounds by default
 
 The designs are
     modules    modules with a struct port, a register of an array and an array_get each
@@ -11,14 +11,12 @@ The commands are `translate --export-verilog`, and `opt --hw-lower-aggregates` o
 peak memory in MB, and the ratio of the first to the second.
 """
 import pathlib
-import statistics
 import subprocess
 import sys
 import tempfile
 
 sys.dont_write_bytecode = True
-sys.path.insert(0, str(pathlib.Path(__file__).resolve().parent))
-import workers
+import support
 
 MODULE = """hw.module @M{number}(in %clk : !seq.clock, in %s : !hw.struct<x: i8, i: i2>, in %d : !hw.array<4xi8>, out q : i8) {{
   %r = seq.compreg %d, %clk : !hw.array<4xi8>
@@ -42,23 +40,20 @@ def measure(program, name, text, rounds, folder):
     before.write_text(text)
     lowered = subprocess.run([program, "opt", "--hw-lower-aggregates"], input=text.encode(), stdout=subprocess.PIPE, check=True).stdout
     after.write_bytes(lowered)
-    told = {"aggregates": [], "lowered": [], "opt": []}
-    for _ in range(rounds):
-        told["aggregates"].append(workers.run([program, "translate", "--export-verilog"], before))
-        told["lowered"].append(workers.run([program, "translate", "--export-verilog"], after))
-        told["opt"].append(workers.run([program, "opt", "--hw-lower-aggregates"], before))
-    times = {key: statistics.median(time for time, _ in runs) for key, runs in told.items()}
-    memory = {key: max(peak for _, peak in runs) for key, runs in told.items()}
+    verilog, opt = [program, "translate", "--export-verilog"], [program, "opt", "--hw-lower-aggregates"]
+    runs = {"aggregates": (verilog, before), "lowered": (verilog, after), "opt": (opt, before)}
+    costs = support.costs_in_turn(rounds, [lambda words=words, text=text: support.run(words, text) for words, text in runs.values()])
     print(f"{name}: {len(text)} bytes, {len(lowered)} lowered")
-    for key in told:
-        print(f"  {key:10} {times[key]:8.3f} s {memory[key]:8.0f} MB")
-    print(f"  ratio      {times['aggregates'] / times['lowered']:8.2f}")
+    for key, cost in zip(runs, costs):
+        print(f"  {key:10} {cost.clock:8.3f} s {cost.memory:8.0f} MB")
+    print(f"  ratio      {costs[0].clock / costs[1].clock:8.2f}")
 
 
 def main():
-    program = sys.argv[1]
-    count = int(sys.argv[2]) if len(sys.argv) > 2 else 10000
-    rounds = int(sys.argv[3]) if len(sys.argv) > 3 else 5
+    """Measures both designs."""
+    program = support.program_word(__doc__)
+    count = support.number_word(2, 10000)
+    rounds = support.number_word(3, 5)
     with tempfile.TemporaryDirectory() as name:
         folder = pathlib.Path(name)
         measure(program, "modules", "".join(MODULE.format(number=number) for number in range(count)), rounds, folder)

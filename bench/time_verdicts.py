@@ -1,10 +1,10 @@
 #!/usr/bin/env python3
 """Times `lec` beside solvers on the same questions, each program in turn in one run.
 
-    verdicts.py CIRCT [RUNS] [QUESTION..]     CIRCT is the proved program; 3 runs of all questions by default
+    time_verdicts.py CIRCT [RUNS] [QUESTION..]     CIRCT is the proved program; 3 runs of all questions by default
 
 Each question is whether two words of the same inputs are equal: MLIR text for `lec`; for `minisat` and `cadical` a formula by the rows of
-gates of dimacs_texts.py; for `berkeley-abc` both sides as BLIF, told apart by `cec`. A line has the median times in seconds.
+gates of generate_dimacs.py; for `berkeley-abc` both sides as BLIF, told apart by `cec`. A line has the median times in seconds.
 """
 import os
 import shutil
@@ -14,7 +14,9 @@ import sys
 import tempfile
 import time
 
-from dimacs_texts import Formula
+sys.dont_write_bytecode = True
+import support
+from generate_dimacs import Formula
 
 SECONDS = 300
 
@@ -254,10 +256,8 @@ def verdict_of(text):
 
 
 def main():
-    if len(sys.argv) < 2:
-        sys.exit(__doc__)
-    circt = os.path.abspath(sys.argv[1])
-    runs = int(sys.argv[2]) if len(sys.argv) > 2 else 3
+    circt = os.path.abspath(support.program_word(__doc__))
+    runs = support.number_word(2, 3)
     chosen = sys.argv[3:] or list(QUESTIONS)
     folder = tempfile.mkdtemp()
     commands = {

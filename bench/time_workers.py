@@ -1,28 +1,24 @@
 #!/usr/bin/env python3
 """Measures what workers gain: the times by the clock of the same commands with 1, 2 and 4 workers, in turn, on designs of many modules.
 
-    workers.py PROGRAM [ROUNDS]     the program `circt`, 5 rounds by default
+    time_workers.py PROGRAM [ROUNDS]     the program `circt`, 5 rounds by default
 
 The designs are
-    modules    the 10,000 modules of reader_texts.py
+    modules    the 10,000 modules of generate_reader_texts.py
     bodies     100 modules of 3,000 operations each, of which each third one folds
     line       1,000 modules of 300 such operations, each of which instances the one before it
     pairs      1,000 public modules, each of which instances a private one of 300 such operations twice
 The commands are `opt` without passes (which no worker shares), `opt --canonicalize --cse`, `translate --export-verilog` with these
 passes, and on the last design `opt --hw-flatten-modules`. Beside the medians stands the peak memory in MB.
 """
-import os
 import pathlib
-import statistics
-import subprocess
 import sys
 import tempfile
-import time
 
 sys.dont_write_bytecode = True
-sys.path.insert(0, str(pathlib.Path(__file__).resolve().parent))
-import passes
-import reader_texts
+import generate_reader_texts
+import support
+from generate_pass_texts import FOLDED
 
 HEADER = "(in %a : i32, in %b : i32, out o : i32) {\n  %z = hw.constant 0 : i32\n  %k = hw.constant 1 : i32\n  %t = hw.constant true\n  %0 = comb.mul %a, %b : i32\n"
 
@@ -31,7 +27,7 @@ def body(name, count, last, write):
     """A module of so many operations, of which each third one folds; `last` stands before its output."""
     write(f"hw.module @{name}{HEADER}")
     for number in range(1, count):
-        row = passes.FOLDED[number // 3 % len(passes.FOLDED)] if number % 3 == 0 else ("sub %{0}, %b", "shl %{0}, %a")[number % 2]
+        row = FOLDED[number // 3 % len(FOLDED)] if number % 3 == 0 else ("sub %{0}, %b", "shl %{0}, %a")[number % 2]
         write(f"  %{number} = comb.{row.format(number - 1)} : i32\n")
     write(f"{last}  hw.output %{'u.o' if last else count - 1} : i32\n}}\n")
 
@@ -59,7 +55,7 @@ def pairs(count, write):
         write("  hw.output %v.o : i32\n}\n")
 
 
-TEXTS = {"modules": (reader_texts.many_modules, 10000), "bodies": (bodies, 100), "line": (line, 1000), "pairs": (pairs, 1000)}
+TEXTS = {"modules": (generate_reader_texts.many_modules, 10000), "bodies": (bodies, 100), "line": (line, 1000), "pairs": (pairs, 1000)}
 COMMANDS = {
     "opt": ["opt"],
     "passes": ["opt", "--canonicalize", "--cse"],
@@ -69,41 +65,24 @@ FLATTEN = {"opt": ["opt"], "flatten": ["opt", "--hw-flatten-modules"]}
 WORKERS = [1, 2, 4]
 
 
-def run(words, text):
-    """The time of a run by the clock, and its peak memory in MB."""
-    begin = time.perf_counter()
-    child = subprocess.Popen(words, stdin=open(text, "rb"), stdout=subprocess.DEVNULL)
-    _, status, usage = os.wait4(child.pid, 0)
-    child.returncode = os.waitstatus_to_exitcode(status)
-    if child.returncode:
-        sys.exit(f"{' '.join(words)} ended with {child.returncode}")
-    return time.perf_counter() - begin, usage.ru_maxrss / 1024
-
-
 def measure(program, name, rounds, folder):
     """Says the times of one design."""
     text = folder / "text"
-    make, count = TEXTS[name]
-    with open(text, "w") as file:
-        make(count, file.write)
+    support.write_text(text, *TEXTS[name])
     for command, words in (FLATTEN if name == "pairs" else COMMANDS).items():
-        told = [[] for _ in WORKERS]
-        for _ in range(rounds):
-            for number, workers in enumerate(WORKERS):
-                told[number].append(run([program, *words, "--workers", str(workers)], text))
-        columns = (f"{statistics.median(t for t, _ in own):>10.3f}{max(m for _, m in own):>8.0f}" for own in told)
+        runs = [lambda count=count: support.run([program, *words, "--workers", str(count)], text) for count in WORKERS]
+        columns = (f"{cost.clock:>10.3f}{cost.memory:>8.0f}" for cost in support.costs_in_turn(rounds, runs))
         print(f"{name:10}{command:10}" + "".join(columns), flush=True)
 
 
 def main():
     """Measures all designs."""
-    if len(sys.argv) < 2 or sys.argv[1].startswith("-"):
-        sys.exit(__doc__)
-    rounds = int(sys.argv[2]) if len(sys.argv) > 2 else 5
-    print(f"{'design':10}{'command':10}" + "".join(f"{f'{workers} workers':>18}" for workers in WORKERS))
+    program = support.program_word(__doc__)
+    rounds = support.number_word(2, 5)
+    print(f"{'design':10}{'command':10}" + "".join(f"{f'{count} workers':>18}" for count in WORKERS))
     with tempfile.TemporaryDirectory() as folder:
         for name in TEXTS:
-            measure(sys.argv[1], name, rounds, pathlib.Path(folder))
+            measure(program, name, rounds, pathlib.Path(folder))
 
 
 if __name__ == "__main__":

@@ -1,19 +1,18 @@
 #!/usr/bin/env python3
 """Hands the Verilog texts of the examples to Icarus Verilog, and says how many it takes.
 
-    verilog_texts.py [COMMAND]   the compiler, `iverilog` by default
+    check_verilog.py [COMMAND]   the compiler, `iverilog` by default
 
-The texts are the cases of the files examples/**/*.v, as they are expected. Where a file has several, a line that begins
-with `// -----` stands before each.
+The texts are the cases of the files examples/**/*.v, as they are expected. A line `// -----` stands between two, and the first line
+of each is its label.
 """
-import pathlib
-import re
 import subprocess
 import sys
 
-EXAMPLES = pathlib.Path(__file__).resolve().parent.parent / "examples"
+sys.dont_write_bytecode = True
+import support
+
 FLAGS = ["-g2005", "-gno-xtypes", "-gno-icarus-misc", "-o", "/dev/null"]
-SEPARATOR = re.compile(r"^// -----.*\n", re.MULTILINE)
 
 
 def is_taken(command, text):
@@ -25,16 +24,16 @@ def is_taken(command, text):
 
 
 def main():
-    """Says of each file how many of its texts are taken; a text without bytes is none."""
+    """Says of each file how many of its texts are taken; a label alone is none."""
     command = sys.argv[1] if len(sys.argv) > 1 else "iverilog"
     version = subprocess.run([command, "-V"], text=True, capture_output=True).stdout.split("\n")[0]
     print(version)
     refused = 0
-    for file in sorted(EXAMPLES.resolve().rglob("*.v")):
-        texts = [text for text in SEPARATOR.split(file.read_text()) if text]
+    for file in sorted(support.EXAMPLES.rglob("*.v")):
+        texts = [text for text in support.cases_of(file) if "\n" in text.rstrip("\n")]
         taken = sum(is_taken(command, text) for text in texts)
         refused += len(texts) - taken
-        print(f"{file.relative_to(EXAMPLES.resolve())}: {taken} of {len(texts)}")
+        print(f"{file.relative_to(support.EXAMPLES)}: {taken} of {len(texts)}")
     sys.exit(1 if refused else 0)
 
 
