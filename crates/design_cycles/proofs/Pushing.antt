@@ -18,7 +18,7 @@ use Rattle.design_cycles.specs.declared.layout.Layout.{Layout}
 use Rattle.design_cycles.specs.declared.ops.Sort.{Sort}
 use Rattle.design_cycles.specs.declared.ops.Sort.TheVariants.{Register, Calls, Gives, Made}
 use Rattle.design_cycles.specs.Sorts.{gives}
-use Rattle.design_cycles.specs.Reading.{op_view}
+use Rattle.ir_store.specs.OpIndexes.{op_view}
 use Rattle.design_cycles.specs.Local.{operands_at}
 use Rattle.design_cycles.specs.Nodes.{sizes_in, size_in, AreSpans, IsLayout, node_ref, nodes_in, value_nodes, picked_values, lists_at}
 use Rattle.graphs.specs.Graphs.{times_over}

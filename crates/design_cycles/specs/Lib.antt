@@ -6,7 +6,6 @@ pub mod InOrder
 pub mod Local
 pub mod Nodes
 pub mod Places
-pub mod Reading
 pub mod BitSets
 pub mod Sizes
 pub mod Sorts

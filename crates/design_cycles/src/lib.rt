@@ -23,7 +23,6 @@ mod wires;
 pub use calls::call_graph;
 pub use cycles::first_cycle;
 pub use hierarchy::{Hierarchy, module_order};
-pub use ops::op_at;
 pub use place::OpPlace;
 pub use recursion::first_recursive;
 pub use size::first_too_large;

@@ -1,14 +1,12 @@
 //! Operations of a body by their positions, and what each is to its module.
-ghost use Rattle.std.specs.Prelude.{◌≡◌, ◌<◌, length, map, OnOk, is_some, slice_get, Some};
+ghost use Rattle.std.specs.Prelude.{◌≡◌, map, OnOk, is_some};
 ghost use Rattle.hw_model.specs.Design.{instance_in, register_form, is_output_kind};
 ghost use Rattle.hw_model.specs.KindViews.{kind_of};
-ghost use Rattle.ir_store.specs.Bodies.{ids_of, ops_of, op_id};
-ghost use Rattle.ir_store.specs.Numbered.{ops_by_position};
+ghost use Rattle.ir_store.specs.Bodies.{ids_of, op_id};
 ghost use Rattle.design_cycles.specs.Sorts.{holds, called_in, gives};
-ghost use Rattle.design_cycles.specs.Reading.{op_view};
 
 use hw_model::kinds::{Instance, OpKind};
-use ir_store::body::{Body, Op};
+use ir_store::body::Body;
 use ir_store::operation::OpId;
 use std::alloc::AllocError;
 
@@ -50,13 +48,4 @@ pub(crate) fn read_ids(ids: &mut Vec<OpId>, body: &Body) -> Result<(), AllocErro
         ids.push(id)?;
     }
     Ok(())
-}
-
-/// The operation at a position, `ids` being those of all.
-pub fn op_at<'b>(body: &'b Body, ids: &[OpId], position: usize) -> Op<'b>
-    requires all { ids.now ≡ map op_id (ids_of body.now) }
-    requires within { position < length ids.now }
-    ensures { slice_get (ops_by_position (ops_of body.now)) position ≡ Some (op_view body.now result) }
-{
-    body.op(ids[position])
 }

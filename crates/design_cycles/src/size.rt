@@ -14,10 +14,11 @@ ghost use Rattle.design_cycles.specs.Weighing.{kept_weight, weight_by, WeighsAt,
 
 use crate::calls::callee_of;
 use crate::hierarchy::Hierarchy;
-use crate::ops::{op_at, read_ids};
+use crate::ops::read_ids;
 use crate::weights::op_weight;
 use ir_store::body::Body;
 use ir_store::design::{Design, PortList};
+use ir_store::op_index::op_at;
 use ir_store::operation::OpId;
 use std::alloc::{AllocError, Global};
 

@@ -18,12 +18,13 @@ use crate::bit_set_lists::bit_set_lists;
 use crate::bit_sets::BIT_SET_BITS;
 use crate::in_order::are_in_order;
 use crate::layout::{Layout, Summary};
-use crate::ops::{Sort, op_at, sort_of};
+use crate::ops::{Sort, sort_of};
 use crate::wired::{Wired, wires_of};
 use crate::wires::node_of;
 use graphs::{NodeList, is_marked, likely_order, reached_from};
 use ir_store::body::Body;
 use ir_store::design::{Design, Port};
+use ir_store::op_index::op_at;
 use ir_store::operation::{OpId, Value};
 use std::alloc::{AllocError, Global};
 

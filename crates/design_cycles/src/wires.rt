@@ -10,10 +10,11 @@ ghost use Rattle.graphs.specs.Graphs.{lists_of, times_over};
 ghost use Rattle.design_cycles.specs.Nodes.{bit_sets_at as bit_sets_kept, bit_sets_by, HasSize, sizes_in, AreSpans, IsLayout, span_node, value_node, value_nodes, picked_values, body_lists, lists_at};
 
 use crate::layout::{Layout, Span, Summary};
-use crate::ops::{Sort, op_at, sort_of};
+use crate::ops::{Sort, sort_of};
 use graphs::{NodeList, empty_lists};
 use ir_store::body::Body;
 use ir_store::design::Design;
+use ir_store::op_index::op_at;
 use ir_store::operation::{OpId, Value};
 use ir_store::position_table::positions_of;
 use std::alloc::{AllocError, Global};

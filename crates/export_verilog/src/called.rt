@@ -12,10 +12,10 @@ ghost use Rattle.graphs.specs.Graphs.{has_mark};
 ghost use Rattle.design_cycles.specs.Graphs.{AreCalled};
 ghost use Rattle.export_verilog.specs.Called.{with_marks};
 
-use design_cycles::op_at;
 use hw_model::kinds::OpKind;
 use ir_store::body::Body;
 use ir_store::design::Design;
+use ir_store::op_index::op_at;
 use ir_store::position_table::ids_in;
 use std::alloc::{AllocError, Global};
 

@@ -1,8 +1,8 @@
 //! The gates of a flat module in code: an order of its operations, and the signals of its values.
 #![tactic(auto)]
 
+pub mod kinds;
 pub mod order;
-pub mod places;
 pub mod registers;
 pub mod sides;
 pub mod stepped;

@@ -6,9 +6,10 @@ ghost use Rattle.ir_store.specs.Numbered.{position_of, ref_by, ops_by_position};
 ghost use Rattle.flat_module_laws.specs.Orders.{IsOrder};
 ghost use Rattle.flat_module_gates.specs.Orders.{HasOrder, makers_of, needs_of};
 
-use crate::places::{Places, stands_anywhere};
+use crate::kinds::stands_anywhere;
 use graphs::{NodeList, callees_first};
 use ir_store::body::Body;
+use ir_store::op_index::OpIndex;
 use ir_store::operation::Value;
 use std::alloc::{AllocError, Global};
 
@@ -19,59 +20,55 @@ pub fn operation_order(alloc: Global, body: &Body) -> Result<Vec<u32>, AllocErro
     requires { HasOrder (ops_by_position (ops_of body.now)) }
     ensures { IfOk result (λ order. IsOrder (ops_by_position (ops_of body.now)) order.items) }
 {
-    let places = Places::of(alloc, body)?;
-    let graph = graph_of(alloc, &places)?;
+    let ops = OpIndex::of(alloc, body)?;
+    let graph = graph_of(alloc, &ops)?;
     let _ = number_of(graph.len())?;
     let order = callees_first(alloc, graph.as_slice())?;
     Ok(order.nodes)
 }
 
 // Of each operation, the positions of the operations that it needs before it.
-fn graph_of(alloc: Global, places: &Places<'_>) -> Result<Vec<NodeList>, AllocError>
-    ensures { IfOk result (λ graph. lists_of graph.items ≡ map needs_of (ops_by_position (ops_of places.now.body.now))) }
+fn graph_of(alloc: Global, ops: &OpIndex<'_>) -> Result<Vec<NodeList>, AllocError>
+    ensures { IfOk result (λ graph. lists_of graph.items ≡ map needs_of (ops_by_position (ops_of ops.now.body.now))) }
 {
-    let mut graph = Vec::with_capacity(alloc, places.count())?;
-    for position in 0..places.count() {
-        let needs = needs_at(alloc, places, position)?;
+    let mut graph = Vec::with_capacity(alloc, ops.count())?;
+    for position in 0..ops.count() {
+        let needs = needs_at(alloc, ops, position)?;
         graph.push(needs)?;
     }
     Ok(graph)
 }
 
 // The positions of the operations that the one at a position needs before it.
-fn needs_at(alloc: Global, places: &Places<'_>, position: usize) -> Result<NodeList, AllocError>
-    requires { position < length (ops_by_position (ops_of places.now.body.now)) }
-    ensures { IfOk result (λ needs. option_map needs_of (slice_get (ops_by_position (ops_of places.now.body.now)) position) ≡ Some needs.nodes.items) }
+fn needs_at(alloc: Global, ops: &OpIndex<'_>, position: usize) -> Result<NodeList, AllocError>
+    requires { position < length (ops_by_position (ops_of ops.now.body.now)) }
+    ensures { IfOk result (λ needs. option_map needs_of (slice_get (ops_by_position (ops_of ops.now.body.now)) position) ≡ Some needs.nodes.items) }
 {
-    let op = places.op_at(position);
+    let op = ops.op_at(position);
     let mut nodes = Vec::new(alloc);
     if !stands_anywhere(op.kind) {
-        push_makers(places, op.operands, &mut nodes)?;
+        push_makers(ops, op.operands, &mut nodes)?;
     }
     Ok(NodeList { nodes })
 }
 
 // Adds the positions of the operations whose results values are.
-fn push_makers(
-    places: &Places<'_>,
-    values: &[Value],
-    nodes: &mut Vec<u32>,
-) -> Result<(), AllocError>
-    ensures { OnOk result (nodes.new.items ≡ nodes.old.items ++ makers_of (map (ref_by (position_of (ids_of places.now.body.now))) values.now)) }
+fn push_makers(ops: &OpIndex<'_>, values: &[Value], nodes: &mut Vec<u32>) -> Result<(), AllocError>
+    ensures { OnOk result (nodes.new.items ≡ nodes.old.items ++ makers_of (map (ref_by (position_of (ids_of ops.now.body.now))) values.now)) }
 {
     for value in values {
-        push_maker(places, *value, nodes)?;
+        push_maker(ops, *value, nodes)?;
     }
     Ok(())
 }
 
 // Adds the position of the operation whose result a value is.
-fn push_maker(places: &Places<'_>, value: Value, nodes: &mut Vec<u32>) -> Result<(), AllocError>
-    ensures { OnOk result (nodes.new.items ≡ nodes.old.items ++ makers_of (ref_by (position_of (ids_of places.now.body.now)) value ∷ [])) }
+fn push_maker(ops: &OpIndex<'_>, value: Value, nodes: &mut Vec<u32>) -> Result<(), AllocError>
+    ensures { OnOk result (nodes.new.items ≡ nodes.old.items ++ makers_of (ref_by (position_of (ids_of ops.now.body.now)) value ∷ [])) }
 {
     match value {
         Value::Result(id, _) => {
-            let number = number_of(places.position(id))?;
+            let number = number_of(ops.position(id))?;
             nodes.push(number)?;
             Ok(())
         }

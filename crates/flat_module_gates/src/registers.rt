@@ -10,12 +10,12 @@ ghost use Rattle.ir_store.specs.Bodies.{ids_of, ops_of};
 ghost use Rattle.ir_store.specs.Numbered.{position_of, ref_by, ops_by_position};
 ghost use Rattle.ir_store.specs.declared.operation.Value.{Value};
 ghost use Rattle.hw_model.specs.declared.registers.ResetBy.{ResetBy};
-ghost use Rattle.design_cycles.specs.Reading.{op_view};
+ghost use Rattle.ir_store.specs.OpIndexes.{op_view};
 ghost use Rattle.net_gates.specs.RegisterGateLists.{constant_word, load, load_bit, enable_gate_list, reset_gate_list};
 ghost use Rattle.flat_module_gates.specs.FlatGateLists.{starts_from, word_at};
 ghost use Rattle.flat_module_gates.specs.FlatSteps.{known_bit, known_bits, constant_in, constant_at, any_reset_in, loaded_of, next_of, content_gate_list, content_width, RegisterTakes, RegistersTake};
 
-use crate::places::{Places, is_register};
+use crate::kinds::is_register;
 use crate::values::{Words, bits_at, held_word, start_at, word_of};
 use crate::widths::{first_bits, sum};
 use gate_words::bitwise::{Bitwise, each};
@@ -25,6 +25,7 @@ use gates::signal::Signal;
 use hw_model::kinds::OpKind;
 use hw_model::registers::{ResetBy, async_reset_of, register_of};
 use ir_store::body::Op;
+use ir_store::op_index::OpIndex;
 use ir_store::operation::{NewResultList, Value};
 use operation_gates::known_words::integer_bits;
 use operation_gates::signal_word::SignalWord;
@@ -34,21 +35,21 @@ use std::alloc::{AllocError, Global};
 #[derive(Clone, Copy)]
 pub struct Valued<'s> {
     /// Its operations.
-    pub places: &'s Places<'s>,
+    pub ops: &'s OpIndex<'s>,
     /// The signals of its values.
     pub words: &'s Words,
     /// Where the content of each operation begins.
     pub starts: &'s [u32],
-    ghost begins: { starts.now ≡ starts_from 0 (ops_by_position (ops_of places.now.body.now)) },
+    ghost begins: { starts.now ≡ starts_from 0 (ops_by_position (ops_of ops.now.body.now)) },
 }
 
 /// How many bits the registers of a body hold.
-pub fn content_bits(places: &Places<'_>) -> Result<u32, AllocError>
-    ensures { IfOk result (λ n. n ≡ content_width (ops_by_position (ops_of places.now.body.now))) }
+pub fn content_bits(ops: &OpIndex<'_>) -> Result<u32, AllocError>
+    ensures { IfOk result (λ n. n ≡ content_width (ops_by_position (ops_of ops.now.body.now))) }
 {
     let mut bits = 0;
-    for position in 0..places.count() {
-        bits = sum(bits, bits_at(places, position)?)?;
+    for position in 0..ops.count() {
+        bits = sum(bits, bits_at(ops, position)?)?;
     }
     Ok(bits)
 }
@@ -60,11 +61,11 @@ pub fn loaded_content(
     body: &Valued<'_>,
     content: &[Signal],
 ) -> Result<Vec<Signal>, AllocError>
-    ensures { IfOk result (λ v. Runs (content_gate_list (loaded_of (ops_by_position (ops_of body.now.places.now.body.now)) (word_at body.now.words.now.ports.items body.now.words.now.results.items)) (ops_by_position (ops_of body.now.places.now.body.now)) content.now) gates.old gates.new v.items) }
+    ensures { IfOk result (λ v. Runs (content_gate_list (loaded_of (ops_by_position (ops_of body.now.ops.now.body.now)) (word_at body.now.words.now.ports.items body.now.words.now.results.items)) (ops_by_position (ops_of body.now.ops.now.body.now)) content.now) gates.old gates.new v.items) }
 {
     let mut made = Vec::with_capacity(alloc, content.len())?;
-    for position in 0..body.places.count() {
-        let op = body.places.op_at(position);
+    for position in 0..body.ops.count() {
+        let op = body.ops.op_at(position);
         if is_register(op.kind) {
             let old = old_word(alloc, body, position, &op, content)?;
             let word = loaded_word(alloc, gates, body, &op, old.as_slice())?;
@@ -81,13 +82,13 @@ pub fn next_content(
     body: &Valued<'_>,
     content: &[Signal],
 ) -> Result<Vec<Signal>, AllocError>
-    requires takes { RegistersTake (ops_by_position (ops_of body.now.places.now.body.now)) (word_at body.now.words.now.ports.items body.now.words.now.results.items) }
-    requires width { content_width (ops_by_position (ops_of body.now.places.now.body.now)) ≤ length content.now }
-    ensures { IfOk result (λ v. Runs (content_gate_list (next_of (ops_by_position (ops_of body.now.places.now.body.now)) (word_at body.now.words.now.ports.items body.now.words.now.results.items)) (ops_by_position (ops_of body.now.places.now.body.now)) content.now) gates.old gates.new v.items) }
+    requires takes { RegistersTake (ops_by_position (ops_of body.now.ops.now.body.now)) (word_at body.now.words.now.ports.items body.now.words.now.results.items) }
+    requires width { content_width (ops_by_position (ops_of body.now.ops.now.body.now)) ≤ length content.now }
+    ensures { IfOk result (λ v. Runs (content_gate_list (next_of (ops_by_position (ops_of body.now.ops.now.body.now)) (word_at body.now.words.now.ports.items body.now.words.now.results.items)) (ops_by_position (ops_of body.now.ops.now.body.now)) content.now) gates.old gates.new v.items) }
 {
     let mut made = Vec::with_capacity(alloc, content.len())?;
-    for position in 0..body.places.count() {
-        let op = body.places.op_at(position);
+    for position in 0..body.ops.count() {
+        let op = body.ops.op_at(position);
         if is_register(op.kind) {
             let old = old_word(alloc, body, position, &op, content)?;
             let word = next_word(alloc, gates, body, &op, old.as_slice())?;
@@ -105,7 +106,7 @@ fn old_word(
     op: &Op<'_>,
     content: &[Signal],
 ) -> Result<SignalWord, AllocError>
-    ensures { IfOk result (λ w. w ≡ take (held_width (op_view body.now.places.now.body.now op.now)) (drop (slice_index_or body.now.starts.now position 0) content.now)) }
+    ensures { IfOk result (λ w. w ≡ take (held_width (op_view body.now.ops.now.body.now op.now)) (drop (slice_index_or body.now.starts.now position 0) content.now)) }
 {
     let width = first_bits(op.results)?;
     held_word(alloc, content, start_at(body.starts, position), width)
@@ -119,7 +120,7 @@ fn loaded_word(
     op: &Op<'_>,
     old: &[Signal],
 ) -> Result<Vec<Signal>, AllocError>
-    ensures { IfOk result (λ v. Runs (loaded_of (ops_by_position (ops_of body.now.places.now.body.now)) (word_at body.now.words.now.ports.items body.now.words.now.results.items) (op_view body.now.places.now.body.now op.now) old.now) gates.old gates.new v.items) }
+    ensures { IfOk result (λ v. Runs (loaded_of (ops_by_position (ops_of body.now.ops.now.body.now)) (word_at body.now.words.now.ports.items body.now.words.now.results.items) (op_view body.now.ops.now.body.now op.now) old.now) gates.old gates.new v.items) }
 {
     match async_reset_of(op.kind, op.operands) {
         None => {
@@ -127,8 +128,8 @@ fn loaded_word(
             Ok(kept)
         }
         Some(reset) => {
-            let condition = top(word_of(body.places, body.words, reset.signal));
-            let value = constant_of(alloc, body.places, reset.value)?;
+            let condition = top(word_of(body.ops, body.words, reset.signal));
+            let value = constant_of(alloc, body.ops, reset.value)?;
             load(alloc, gates, condition, value.as_slice(), old)
         }
     }
@@ -142,16 +143,16 @@ fn next_word(
     op: &Op<'_>,
     old: &[Signal],
 ) -> Result<Vec<Signal>, AllocError>
-    requires takes { RegisterTakes (ops_by_position (ops_of body.now.places.now.body.now)) (word_at body.now.words.now.ports.items body.now.words.now.results.items) (op_view body.now.places.now.body.now op.now) }
-    requires width { length old.now ≡ held_width (op_view body.now.places.now.body.now op.now) }
-    ensures { IfOk result (λ v. Runs (next_of (ops_by_position (ops_of body.now.places.now.body.now)) (word_at body.now.words.now.ports.items body.now.words.now.results.items) (op_view body.now.places.now.body.now op.now) old.now) gates.old gates.new v.items) }
+    requires takes { RegisterTakes (ops_by_position (ops_of body.now.ops.now.body.now)) (word_at body.now.words.now.ports.items body.now.words.now.results.items) (op_view body.now.ops.now.body.now op.now) }
+    requires width { length old.now ≡ held_width (op_view body.now.ops.now.body.now op.now) }
+    ensures { IfOk result (λ v. Runs (next_of (ops_by_position (ops_of body.now.ops.now.body.now)) (word_at body.now.words.now.ports.items body.now.words.now.results.items) (op_view body.now.ops.now.body.now op.now) old.now) gates.old gates.new v.items) }
 {
     let Some(register) = register_of(op.kind, op.operands) else {
         let kept = Vec::from_slice(alloc, old)?;
         return Ok(kept);
     };
-    let clock = top(word_of(body.places, body.words, register.clock));
-    let next = word_of(body.places, body.words, register.next);
+    let clock = top(word_of(body.ops, body.words, register.clock));
+    let next = word_of(body.ops, body.words, register.next);
     let enabled = enabled_word(alloc, gates, body, register.enable, next, old)?;
     let new = any_reset_word(alloc, gates, body, op, register.reset, enabled.as_slice())?;
     let chosen = each(alloc, gates, Bitwise::Choice(clock), new.as_slice(), old)?;
@@ -167,8 +168,8 @@ fn any_reset_word(
     reset: Option<ResetBy<Value>>,
     next: &[Signal],
 ) -> Result<Vec<Signal>, AllocError>
-    requires { (v : ResetBy Value) → reset ≡ Some v → length ((word_at body.now.words.now.ports.items body.now.words.now.results.items) ((ref_by (position_of (ids_of body.now.places.now.body.now))) v.value)) ≡ length next.now }
-    ensures { IfOk result (λ v. Runs (any_reset_in (ops_by_position (ops_of body.now.places.now.body.now)) (word_at body.now.words.now.ports.items body.now.words.now.results.items) (async_reset_in (op_view body.now.places.now.body.now op.now)) (option_map (reset_by_of (ref_by (position_of (ids_of body.now.places.now.body.now)))) reset) next.now) gates.old gates.new v.items) }
+    requires { (v : ResetBy Value) → reset ≡ Some v → length ((word_at body.now.words.now.ports.items body.now.words.now.results.items) ((ref_by (position_of (ids_of body.now.ops.now.body.now))) v.value)) ≡ length next.now }
+    ensures { IfOk result (λ v. Runs (any_reset_in (ops_by_position (ops_of body.now.ops.now.body.now)) (word_at body.now.words.now.ports.items body.now.words.now.results.items) (async_reset_in (op_view body.now.ops.now.body.now op.now)) (option_map (reset_by_of (ref_by (position_of (ids_of body.now.ops.now.body.now)))) reset) next.now) gates.old gates.new v.items) }
 {
     match async_reset_of(op.kind, op.operands) {
         None => reset_word(alloc, gates, body, reset, next),
@@ -186,7 +187,7 @@ fn enabled_word(
     old: &[Signal],
 ) -> Result<Vec<Signal>, AllocError>
     requires { length next.now ≡ length old.now }
-    ensures { IfOk result (λ v. Runs (enable_gate_list (option_map (ref_by (position_of (ids_of body.now.places.now.body.now))) enable) (word_at body.now.words.now.ports.items body.now.words.now.results.items) old.now next.now) gates.old gates.new v.items) }
+    ensures { IfOk result (λ v. Runs (enable_gate_list (option_map (ref_by (position_of (ids_of body.now.ops.now.body.now))) enable) (word_at body.now.words.now.ports.items body.now.words.now.results.items) old.now next.now) gates.old gates.new v.items) }
 {
     match enable {
         None => {
@@ -194,7 +195,7 @@ fn enabled_word(
             Ok(kept)
         }
         Some(enable) => {
-            let condition = top(word_of(body.places, body.words, enable));
+            let condition = top(word_of(body.ops, body.words, enable));
             each(alloc, gates, Bitwise::Choice(condition), next, old)
         }
     }
@@ -208,8 +209,8 @@ fn reset_word(
     reset: Option<ResetBy<Value>>,
     next: &[Signal],
 ) -> Result<Vec<Signal>, AllocError>
-    requires { (v : ResetBy Value) → reset ≡ Some v → length ((word_at body.now.words.now.ports.items body.now.words.now.results.items) ((ref_by (position_of (ids_of body.now.places.now.body.now))) v.value)) ≡ length next.now }
-    ensures { IfOk result (λ v. Runs (reset_gate_list (option_map (reset_by_of (ref_by (position_of (ids_of body.now.places.now.body.now)))) reset) (word_at body.now.words.now.ports.items body.now.words.now.results.items) next.now) gates.old gates.new v.items) }
+    requires { (v : ResetBy Value) → reset ≡ Some v → length ((word_at body.now.words.now.ports.items body.now.words.now.results.items) ((ref_by (position_of (ids_of body.now.ops.now.body.now))) v.value)) ≡ length next.now }
+    ensures { IfOk result (λ v. Runs (reset_gate_list (option_map (reset_by_of (ref_by (position_of (ids_of body.now.ops.now.body.now)))) reset) (word_at body.now.words.now.ports.items body.now.words.now.results.items) next.now) gates.old gates.new v.items) }
 {
     match reset {
         None => {
@@ -217,19 +218,19 @@ fn reset_word(
             Ok(kept)
         }
         Some(reset) => {
-            let condition = top(word_of(body.places, body.words, reset.signal));
-            let value = word_of(body.places, body.words, reset.value);
+            let condition = top(word_of(body.ops, body.words, reset.signal));
+            let value = word_of(body.ops, body.words, reset.value);
             each(alloc, gates, Bitwise::Choice(condition), value, next)
         }
     }
 }
 
 // The bits of a value that is a constant's first result; none of another value.
-fn constant_of(alloc: Global, places: &Places<'_>, value: Value) -> Result<Vec<Signal>, AllocError>
-    ensures { IfOk result (λ v. known_bits v.items ≡ constant_at (ops_by_position (ops_of places.now.body.now)) (ref_by (position_of (ids_of places.now.body.now)) value)) }
+fn constant_of(alloc: Global, ops: &OpIndex<'_>, value: Value) -> Result<Vec<Signal>, AllocError>
+    ensures { IfOk result (λ v. known_bits v.items ≡ constant_at (ops_by_position (ops_of ops.now.body.now)) (ref_by (position_of (ids_of ops.now.body.now)) value)) }
 {
     match value {
-        Value::Result(id, 0) => constant_from(alloc, places, places.position(id)),
+        Value::Result(id, 0) => constant_from(alloc, ops, ops.position(id)),
         Value::Result(_, _) | Value::Port(_) | Value::Undefined => Ok(Vec::new(alloc)),
     }
 }
@@ -237,13 +238,13 @@ fn constant_of(alloc: Global, places: &Places<'_>, value: Value) -> Result<Vec<S
 // The bits of the constant at a position; none where no constant stands there.
 fn constant_from(
     alloc: Global,
-    places: &Places<'_>,
+    ops: &OpIndex<'_>,
     position: usize,
 ) -> Result<Vec<Signal>, AllocError>
-    ensures { IfOk result (λ v. known_bits v.items ≡ constant_in (slice_get (ops_by_position (ops_of places.now.body.now)) position)) }
+    ensures { IfOk result (λ v. known_bits v.items ≡ constant_in (slice_get (ops_by_position (ops_of ops.now.body.now)) position)) }
 {
-    if position < places.count() {
-        let op = places.op_at(position);
+    if position < ops.count() {
+        let op = ops.op_at(position);
         constant_bits(alloc, op.kind, op.results)
     } else {
         Ok(Vec::new(alloc))

@@ -11,13 +11,14 @@ ghost use Rattle.net_gates.specs.NetGateLists.{variables};
 ghost use Rattle.flat_module_gates.specs.FlatGateLists.{starts_from, port_words, word_at};
 ghost use Rattle.flat_module_gates.specs.FlatSteps.{loaded_of, content_gate_list, content_width, flat_gate_list, FlatFits};
 
-use crate::places::{Places, is_output};
+use crate::kinds::is_output;
 use crate::registers::{Valued, content_bits, loaded_content, next_content};
 use crate::values::{Held, Words, built_words, starts_of, words_of};
 use crate::widths::{input_bits, port_words, variables};
 use gates::circuit::Gates;
 use gates::signal::Signal;
 use ir_store::design::Module;
+use ir_store::op_index::OpIndex;
 use operation_gates::parts::concatenation;
 use std::alloc::{AllocError, Global};
 
@@ -35,10 +36,10 @@ pub fn sizes_of(alloc: Global, module: &Module) -> Result<Sizes, AllocError>
     ensures inputs { IfOk result (λ s. s.inputs ≡ input_width (ports_in «module».now.ports)) }
     ensures content { IfOk result (λ s. s.content ≡ content_width (ops_by_position (ops_of «module».now.body))) }
 {
-    let places = Places::of(alloc, &module.body)?;
+    let ops = OpIndex::of(alloc, &module.body)?;
     Ok(Sizes {
         inputs: input_bits(&module.ports)?,
-        content: content_bits(&places)?,
+        content: content_bits(&ops)?,
     })
 }
 
@@ -55,23 +56,23 @@ pub fn side_signals(
     requires { FlatFits (input_width (ports_in «module».now.ports)) (ports_in «module».now.ports) (ops_by_position (ops_of «module».now.body)) order.now gates.old }
     ensures { IfOk result (λ v. Runs (flat_gate_list (input_width (ports_in «module».now.ports)) (ports_in «module».now.ports) (ops_by_position (ops_of «module».now.body)) order.now) gates.old gates.new v.items) }
 {
-    let places = Places::of(alloc, &module.body)?;
-    let starts = starts_of(alloc, &places)?;
-    let content = first_content(alloc, gates, module, &places, starts.as_slice())?;
+    let ops = OpIndex::of(alloc, &module.body)?;
+    let starts = starts_of(alloc, &ops)?;
+    let content = first_content(alloc, gates, module, &ops, starts.as_slice())?;
     let held = Held {
-        places: &places,
+        ops: &ops,
         content: content.as_slice(),
         starts: starts.as_slice(),
     };
     let ports = port_words(alloc, &module.ports)?;
     let words = built_words(alloc, gates, &held, ports, order)?;
     let body = Valued {
-        places: &places,
+        ops: &ops,
         words: &words,
         starts: starts.as_slice(),
     };
     let next = next_content(alloc, gates, &body, content.as_slice())?;
-    let mut made = output_word(alloc, &places, &words)?;
+    let mut made = output_word(alloc, &ops, &words)?;
     made.extend_from_slice(next.as_slice())?;
     Ok(made)
 }
@@ -81,19 +82,19 @@ fn first_content(
     alloc: Global,
     gates: &mut Gates,
     module: &Module,
-    places: &Places<'_>,
+    ops: &OpIndex<'_>,
     starts: &[u32],
 ) -> Result<Vec<Signal>, AllocError>
-    requires { starts.now ≡ starts_from 0 (ops_by_position (ops_of places.now.body.now)) }
-    ensures { IfOk result (λ v. Runs (content_gate_list (loaded_of (ops_by_position (ops_of places.now.body.now)) (word_at (port_words 0 (ports_in «module».now.ports)) [])) (ops_by_position (ops_of places.now.body.now)) (variables (input_width (ports_in «module».now.ports)) (content_width (ops_by_position (ops_of places.now.body.now))))) gates.old gates.new v.items) }
+    requires { starts.now ≡ starts_from 0 (ops_by_position (ops_of ops.now.body.now)) }
+    ensures { IfOk result (λ v. Runs (content_gate_list (loaded_of (ops_by_position (ops_of ops.now.body.now)) (word_at (port_words 0 (ports_in «module».now.ports)) [])) (ops_by_position (ops_of ops.now.body.now)) (variables (input_width (ports_in «module».now.ports)) (content_width (ops_by_position (ops_of ops.now.body.now))))) gates.old gates.new v.items) }
 {
     let words = Words {
         ports: port_words(alloc, &module.ports)?,
         results: Vec::new(alloc),
     };
-    let content = variables(alloc, input_bits(&module.ports)?, content_bits(places)?)?;
+    let content = variables(alloc, input_bits(&module.ports)?, content_bits(ops)?)?;
     let body = Valued {
-        places,
+        ops,
         words: &words,
         starts,
     };
@@ -101,13 +102,13 @@ fn first_content(
 }
 
 // The signals of the outputs, in the order of the ports.
-fn output_word(alloc: Global, places: &Places<'_>, words: &Words) -> Result<Vec<Signal>, AllocError>
-    ensures { IfOk result (λ v. v.items ≡ concatenation (map (word_at words.now.ports.items words.now.results.items) (output_refs (ops_by_position (ops_of places.now.body.now))))) }
+fn output_word(alloc: Global, ops: &OpIndex<'_>, words: &Words) -> Result<Vec<Signal>, AllocError>
+    ensures { IfOk result (λ v. v.items ≡ concatenation (map (word_at words.now.ports.items words.now.results.items) (output_refs (ops_by_position (ops_of ops.now.body.now))))) }
 {
-    for position in 0..places.count() {
-        let op = places.op_at(position);
+    for position in 0..ops.count() {
+        let op = ops.op_at(position);
         if is_output(op.kind) {
-            let given = words_of(alloc, places, words, op.operands)?;
+            let given = words_of(alloc, ops, words, op.operands)?;
             return concatenation(alloc, given.as_slice());
         }
     }

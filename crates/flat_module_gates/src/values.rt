@@ -5,16 +5,17 @@ ghost use Rattle.hw_model.specs.Design.{is_register};
 ghost use Rattle.hw_model.specs.Flat.{held_width};
 ghost use Rattle.ir_store.specs.Bodies.{ids_of, ops_of};
 ghost use Rattle.ir_store.specs.Numbered.{position_of, ref_by, ops_by_position};
-ghost use Rattle.design_cycles.specs.Reading.{op_view};
+ghost use Rattle.ir_store.specs.OpIndexes.{op_view};
 ghost use Rattle.operation_gates.specs.Operands.{TakesWidths};
 ghost use Rattle.operation_gates.specs.OperationGateLists.{gate_list_of};
 ghost use Rattle.flat_module_gates.specs.FlatGateLists.{bits_in, starts_from, word_at, gate_list_at, with_word, results_by, no_words, OpTakes, GateListsFit};
 
-use crate::places::{Places, is_output, is_register};
+use crate::kinds::{is_output, is_register};
 use crate::widths::{first_bits, sum};
 use gates::circuit::Gates;
 use gates::signal::Signal;
 use ir_store::body::Op;
+use ir_store::op_index::OpIndex;
 use ir_store::operation::Value;
 use operation_gates::operations::gate_list;
 use operation_gates::signal_word::SignalWord;
@@ -24,12 +25,12 @@ use std::alloc::{AllocError, Global};
 #[derive(Clone, Copy)]
 pub struct Held<'s> {
     /// Its operations.
-    pub places: &'s Places<'s>,
+    pub ops: &'s OpIndex<'s>,
     /// The content of its registers, in their order.
     pub content: &'s [Signal],
     /// Where that of each operation begins.
     pub starts: &'s [u32],
-    ghost begins: { starts.now ≡ starts_from 0 (ops_by_position (ops_of places.now.body.now)) },
+    ghost begins: { starts.now ≡ starts_from 0 (ops_by_position (ops_of ops.now.body.now)) },
 }
 
 /// The signals of the values of a body, as far as they are built.
@@ -42,24 +43,24 @@ pub struct Words {
 }
 
 /// Where the content of each operation begins.
-pub fn starts_of(alloc: Global, places: &Places<'_>) -> Result<Vec<u32>, AllocError>
-    ensures { IfOk result (λ v. v.items ≡ starts_from 0 (ops_by_position (ops_of places.now.body.now))) }
+pub fn starts_of(alloc: Global, ops: &OpIndex<'_>) -> Result<Vec<u32>, AllocError>
+    ensures { IfOk result (λ v. v.items ≡ starts_from 0 (ops_by_position (ops_of ops.now.body.now))) }
 {
-    let mut starts = Vec::with_capacity(alloc, places.count())?;
+    let mut starts = Vec::with_capacity(alloc, ops.count())?;
     let mut start = 0;
-    for position in 0..places.count() {
+    for position in 0..ops.count() {
         starts.push(start)?;
-        start = sum(start, bits_at(places, position)?)?;
+        start = sum(start, bits_at(ops, position)?)?;
     }
     Ok(starts)
 }
 
 /// How many bits of content the operation at a position has.
-pub(crate) fn bits_at(places: &Places<'_>, position: usize) -> Result<u32, AllocError>
-    requires { position < length (ops_by_position (ops_of places.now.body.now)) }
-    ensures { IfOk result (λ n. n ≡ bits_in (slice_get (ops_by_position (ops_of places.now.body.now)) position)) }
+pub(crate) fn bits_at(ops: &OpIndex<'_>, position: usize) -> Result<u32, AllocError>
+    requires { position < length (ops_by_position (ops_of ops.now.body.now)) }
+    ensures { IfOk result (λ n. n ≡ bits_in (slice_get (ops_by_position (ops_of ops.now.body.now)) position)) }
 {
-    let op = places.op_at(position);
+    let op = ops.op_at(position);
     if is_register(op.kind) {
         first_bits(op.results)
     } else {
@@ -76,15 +77,15 @@ pub fn built_words(
     ports: Vec<SignalWord>,
     order: &[u32],
 ) -> Result<Words, AllocError>
-    requires { GateListsFit (ops_by_position (ops_of held.now.places.now.body.now)) held.now.content.now ports.items order.now gates.old }
+    requires { GateListsFit (ops_by_position (ops_of held.now.ops.now.body.now)) held.now.content.now ports.items order.now gates.old }
     ensures ports { IfOk result (λ w. w.ports.items ≡ ports.items) }
-    ensures results { IfOk result (λ w. Runs (results_by (ops_by_position (ops_of held.now.places.now.body.now)) held.now.content.now ports.items order.now (no_words (length (ops_by_position (ops_of held.now.places.now.body.now))))) gates.old gates.new w.results.items) }
+    ensures results { IfOk result (λ w. Runs (results_by (ops_by_position (ops_of held.now.ops.now.body.now)) held.now.content.now ports.items order.now (no_words (length (ops_by_position (ops_of held.now.ops.now.body.now))))) gates.old gates.new w.results.items) }
 {
-    let results = empty_words(alloc, held.places.count())?;
+    let results = empty_words(alloc, held.ops.count())?;
     let mut words = Words { ports, results };
     for position in order {
         let word = result_word(alloc, gates, held, &words, *position as usize)?;
-        put_word(held.places, *position as usize, word, &mut words.results);
+        put_word(held.ops, *position as usize, word, &mut words.results);
     }
     Ok(words)
 }
@@ -101,12 +102,12 @@ fn empty_words(alloc: Global, count: usize) -> Result<Vec<SignalWord>, AllocErro
 }
 
 // Puts the word of the operation at a position in its place, where it has a result.
-fn put_word(places: &Places<'_>, position: usize, word: SignalWord, results: &mut [SignalWord])
-    requires within { position < length (ops_by_position (ops_of places.now.body.now)) }
-    requires room { length results.old ≡ length (ops_by_position (ops_of places.now.body.now)) }
-    ensures { results.new ≡ with_word (slice_get (ops_by_position (ops_of places.now.body.now)) position) position word results.old }
+fn put_word(ops: &OpIndex<'_>, position: usize, word: SignalWord, results: &mut [SignalWord])
+    requires within { position < length (ops_by_position (ops_of ops.now.body.now)) }
+    requires room { length results.old ≡ length (ops_by_position (ops_of ops.now.body.now)) }
+    ensures { results.new ≡ with_word (slice_get (ops_by_position (ops_of ops.now.body.now)) position) position word results.old }
 {
-    let op = places.op_at(position);
+    let op = ops.op_at(position);
     if op.results.len() > 0 {
         results[position] = word;
     }
@@ -120,11 +121,11 @@ fn result_word(
     words: &Words,
     position: usize,
 ) -> Result<SignalWord, AllocError>
-    requires within { position < length (ops_by_position (ops_of held.now.places.now.body.now)) }
-    requires takes { OpTakes (word_at words.now.ports.items words.now.results.items) (slice_get (ops_by_position (ops_of held.now.places.now.body.now)) position) }
-    ensures { IfOk result (Runs (gate_list_at (ops_by_position (ops_of held.now.places.now.body.now)) held.now.content.now (word_at words.now.ports.items words.now.results.items) position) gates.old gates.new) }
+    requires within { position < length (ops_by_position (ops_of held.now.ops.now.body.now)) }
+    requires takes { OpTakes (word_at words.now.ports.items words.now.results.items) (slice_get (ops_by_position (ops_of held.now.ops.now.body.now)) position) }
+    ensures { IfOk result (Runs (gate_list_at (ops_by_position (ops_of held.now.ops.now.body.now)) held.now.content.now (word_at words.now.ports.items words.now.results.items) position) gates.old gates.new) }
 {
-    let op = held.places.op_at(position);
+    let op = held.ops.op_at(position);
     if is_register(op.kind) {
         let width = first_bits(op.results)?;
         return held_word(alloc, held.content, start_at(held.starts, position), width);
@@ -132,7 +133,7 @@ fn result_word(
     if is_output(op.kind) {
         return Ok(SignalWord::new(alloc));
     }
-    made_word(alloc, gates, held.places, words, &op)
+    made_word(alloc, gates, held.ops, words, &op)
 }
 
 /// Where the content of the operation at a position begins.
@@ -163,42 +164,42 @@ pub(crate) fn held_word(
 fn made_word(
     alloc: Global,
     gates: &mut Gates,
-    places: &Places<'_>,
+    ops: &OpIndex<'_>,
     words: &Words,
     op: &Op<'_>,
 ) -> Result<SignalWord, AllocError>
-    requires { TakesWidths (op_view places.now.body.now op.now).kind (held_width (op_view places.now.body.now op.now)) (map length (map (word_at words.now.ports.items words.now.results.items) (op_view places.now.body.now op.now).operands)) }
-    ensures { IfOk result (Runs (gate_list_of (op_view places.now.body.now op.now).kind (held_width (op_view places.now.body.now op.now)) (map (word_at words.now.ports.items words.now.results.items) (op_view places.now.body.now op.now).operands)) gates.old gates.new) }
+    requires { TakesWidths (op_view ops.now.body.now op.now).kind (held_width (op_view ops.now.body.now op.now)) (map length (map (word_at words.now.ports.items words.now.results.items) (op_view ops.now.body.now op.now).operands)) }
+    ensures { IfOk result (Runs (gate_list_of (op_view ops.now.body.now op.now).kind (held_width (op_view ops.now.body.now op.now)) (map (word_at words.now.ports.items words.now.results.items) (op_view ops.now.body.now op.now).operands)) gates.old gates.new) }
 {
     let width = first_bits(op.results)?;
-    let operands = words_of(alloc, places, words, op.operands)?;
+    let operands = words_of(alloc, ops, words, op.operands)?;
     gate_list(alloc, gates, op.kind, width, operands.as_slice())
 }
 
 /// The words of values.
 pub fn words_of(
     alloc: Global,
-    places: &Places<'_>,
+    ops: &OpIndex<'_>,
     words: &Words,
     values: &[Value],
 ) -> Result<Vec<SignalWord>, AllocError>
-    ensures { IfOk result (λ v. v.items ≡ map (word_at words.now.ports.items words.now.results.items) (map (ref_by (position_of (ids_of places.now.body.now))) values.now)) }
+    ensures { IfOk result (λ v. v.items ≡ map (word_at words.now.ports.items words.now.results.items) (map (ref_by (position_of (ids_of ops.now.body.now))) values.now)) }
 {
     let mut all = Vec::with_capacity(alloc, values.len())?;
     for value in values {
-        let word = Vec::from_slice(alloc, word_of(places, words, *value))?;
+        let word = Vec::from_slice(alloc, word_of(ops, words, *value))?;
         all.push(SignalWord::from_vec(word))?;
     }
     Ok(all)
 }
 
 /// The word of a value.
-pub fn word_of<'w>(places: &Places<'_>, words: &'w Words, value: Value) -> &'w [Signal]
-    ensures { result.now ≡ word_at words.now.ports.items words.now.results.items (ref_by (position_of (ids_of places.now.body.now)) value) }
+pub fn word_of<'w>(ops: &OpIndex<'_>, words: &'w Words, value: Value) -> &'w [Signal]
+    ensures { result.now ≡ word_at words.now.ports.items words.now.results.items (ref_by (position_of (ids_of ops.now.body.now)) value) }
 {
     match value {
         Value::Port(port) => word_in(words.ports.as_slice(), port as usize),
-        Value::Result(id, 0) => word_in(words.results.as_slice(), places.position(id)),
+        Value::Result(id, 0) => word_in(words.results.as_slice(), ops.position(id)),
         Value::Result(_, _) | Value::Undefined => &[],
     }
 }

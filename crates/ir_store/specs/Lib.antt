@@ -6,6 +6,7 @@ pub mod Designs
 pub mod DictionaryViews
 pub mod Live
 pub mod Numbered
+pub mod OpIndexes
 pub mod OperationViews
 pub mod Orders
 pub mod PositionTables

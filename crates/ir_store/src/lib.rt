@@ -13,6 +13,7 @@ pub mod design;
 pub mod dictionary;
 pub mod ids;
 mod laws;
+pub mod op_index;
 mod operand_lists;
 mod operand_uses;
 mod operands;

@@ -7,9 +7,10 @@ ghost use Rattle.ir_store.specs.Numbered.{ops_by_position};
 ghost use Rattle.name_legalise.specs.Legal.{legal};
 ghost use Rattle.lec_tool.specs.LeafNames.{register_name, wanted_names, register_names, input_names, is_output_at, AreLeafNames};
 
-use flat_module_gates::places::{Places, is_register};
+use flat_module_gates::kinds::is_register;
 use io_edge::byte_text::Text;
 use ir_store::design::{Module, PortList};
+use ir_store::op_index::OpIndex;
 use miter_blast::flat_copy;
 use name_legalise::names::legal_list;
 use op_verifier::Verified;
@@ -63,9 +64,9 @@ fn push_register_names(
 ) -> Result<(), AllocError>
     ensures { OnOk result (names.new.items ≡ names.old.items ++ register_names (ops_by_position (ops_of «module».now.body))) }
 {
-    let places = Places::of(alloc, &module.body)?;
-    for position in 0..places.count() {
-        let op = places.op_at(position);
+    let ops = OpIndex::of(alloc, &module.body)?;
+    for position in 0..ops.count() {
+        let op = ops.op_at(position);
         if is_register(op.kind) {
             names.push(register_name(alloc, op.name)?)?;
         }

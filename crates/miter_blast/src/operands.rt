@@ -6,14 +6,14 @@ ghost use Rattle.hw_model.specs.Design.{result_type};
 ghost use Rattle.ir_store.specs.Bodies.{ids_of, ops_of};
 ghost use Rattle.ir_store.specs.Designs.{ports_in};
 ghost use Rattle.ir_store.specs.Numbered.{position_of, ref_by, ops_by_position};
-ghost use Rattle.design_cycles.specs.Reading.{op_view};
+ghost use Rattle.ir_store.specs.OpIndexes.{op_view};
 ghost use Rattle.operation_gates.specs.Prices.{first_width};
 ghost use Rattle.flat_module_laws.specs.FlatPrices.{operand_widths};
 
-use flat_module_gates::places::Places;
 use flat_module_gates::widths::bits_of;
 use ir_store::body::Op;
 use ir_store::design::PortList;
+use ir_store::op_index::OpIndex;
 use ir_store::operation::Value;
 use std::alloc::{AllocError, Global};
 
@@ -23,12 +23,12 @@ pub(crate) struct Typed<'t> {
     /// The ports.
     pub(crate) ports: &'t PortList,
     /// The operations.
-    pub(crate) places: &'t Places<'t>,
+    pub(crate) ops: &'t OpIndex<'t>,
 }
 
 /// The width of the first operand; 0 where there is none. One of 2^32 bits wants more memory than there is.
 pub(crate) fn first_width(body: &Typed<'_>, operands: &[Value]) -> Result<u32, AllocError>
-    ensures { IfOk result (λ w. w ≡ first_width (operand_widths (ports_in body.now.ports.now) (ops_by_position (ops_of body.now.places.now.body.now)) (map (ref_by (position_of (ids_of body.now.places.now.body.now))) operands.now))) }
+    ensures { IfOk result (λ w. w ≡ first_width (operand_widths (ports_in body.now.ports.now) (ops_by_position (ops_of body.now.ops.now.body.now)) (map (ref_by (position_of (ids_of body.now.ops.now.body.now))) operands.now))) }
 {
     match operands {
         [] => Ok(0),
@@ -38,14 +38,14 @@ pub(crate) fn first_width(body: &Typed<'_>, operands: &[Value]) -> Result<u32, A
 
 // The width of a value; 0 of what is none.
 fn value_width(body: &Typed<'_>, value: Value) -> Result<u32, AllocError>
-    ensures { IfOk result (λ w. w ≡ width_of (type_in (ports_in body.now.ports.now) (ops_by_position (ops_of body.now.places.now.body.now)) (ref_by (position_of (ids_of body.now.places.now.body.now)) value))) }
+    ensures { IfOk result (λ w. w ≡ width_of (type_in (ports_in body.now.ports.now) (ops_by_position (ops_of body.now.ops.now.body.now)) (ref_by (position_of (ids_of body.now.ops.now.body.now)) value))) }
 {
     match value {
         Value::Port(port) => port_width(body.ports, port as usize),
         Value::Result(id, number) => {
-            let position = body.places.position(id);
-            if position < body.places.count() {
-                result_width(&body.places.op_at(position), number as usize)
+            let position = body.ops.position(id);
+            if position < body.ops.count() {
+                result_width(&body.ops.op_at(position), number as usize)
             } else {
                 Ok(0)
             }

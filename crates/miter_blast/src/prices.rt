@@ -8,19 +8,19 @@ ghost use Rattle.ir_store.specs.Bodies.{ops_of};
 ghost use Rattle.ir_store.specs.Designs.{ports_in};
 ghost use Rattle.ir_store.specs.Numbered.{ops_by_position};
 ghost use Rattle.ir_store.specs.OperationViews.{results_in};
-ghost use Rattle.design_cycles.specs.Reading.{op_view};
+ghost use Rattle.ir_store.specs.OpIndexes.{op_view};
 ghost use Rattle.operation_gates.specs.Prices.{price, pair_price, first_width};
 ghost use Rattle.flat_module_laws.specs.FlatPrices.{results_price};
 ghost use Rattle.miter_blast.specs.ComparisonPrices.{choice_price, clock_price, form_price, register_price};
 ghost use Rattle.miter_blast.specs.BodyPrices.{whole_price, body_price};
 
 use crate::operands::{Typed, first_width};
-use flat_module_gates::places::Places;
 use flat_module_gates::widths::{bits_of, first_bits};
 use hw_model::families::{Family, Variadic};
 use hw_model::kinds::{OpKind, Reset};
 use ir_store::body::Op;
 use ir_store::design::Module;
+use ir_store::op_index::OpIndex;
 use ir_store::operation::NewResultList;
 use std::alloc::{AllocError, Global};
 
@@ -32,21 +32,21 @@ use std::alloc::{AllocError, Global};
 pub fn body_price(alloc: Global, module: &Module) -> Result<u64, AllocError>
     ensures { IfOk result (λ n. n ≡ min (body_price (ports_in «module».now.ports) (ops_by_position (ops_of «module».now.body))) u64.MAX) }
 {
-    let places = Places::of(alloc, &module.body)?;
+    let ops = OpIndex::of(alloc, &module.body)?;
     let body = Typed {
         ports: &module.ports,
-        places: &places,
+        ops: &ops,
     };
     let mut price: u64 = 0;
-    for position in 0..places.count() {
-        price = price.saturating_add(whole_price(&body, &places.op_at(position))?);
+    for position in 0..ops.count() {
+        price = price.saturating_add(whole_price(&body, &ops.op_at(position))?);
     }
     Ok(price)
 }
 
 // The price of an operation, with that of a register's step.
 fn whole_price(body: &Typed<'_>, op: &Op<'_>) -> Result<u64, AllocError>
-    ensures { IfOk result (λ n. n ≡ min (whole_price (ports_in body.now.ports.now) (ops_by_position (ops_of body.now.places.now.body.now)) (op_view body.now.places.now.body.now op.now)) u64.MAX) }
+    ensures { IfOk result (λ n. n ≡ min (whole_price (ports_in body.now.ports.now) (ops_by_position (ops_of body.now.ops.now.body.now)) (op_view body.now.ops.now.body.now op.now)) u64.MAX) }
 {
     let operands = Operands {
         count: op.operands.len() as u64,

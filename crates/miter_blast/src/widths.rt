@@ -10,20 +10,21 @@ ghost use Rattle.hw_model.specs.Sound.{output_types};
 ghost use Rattle.flat_module_gates.specs.FlatSteps.{content_width};
 ghost use Rattle.miter_blast.specs.Leaves.{held_widths, input_widths};
 
-use flat_module_gates::places::{Places, is_register};
+use flat_module_gates::kinds::is_register;
 use flat_module_gates::registers::content_bits;
 use flat_module_gates::widths::{bits_of, first_bits, sum};
 use ir_store::design::{Module, Port, PortList};
+use ir_store::op_index::OpIndex;
 use std::alloc::{AllocError, Global};
 
 /// The widths of the registers of a flat module, in order.
 pub(crate) fn register_widths(alloc: Global, module: &Module) -> Result<Vec<u32>, AllocError>
     ensures { IfOk result (λ v. v.items ≡ held_widths (ops_by_position (ops_of «module».now.body))) }
 {
-    let places = Places::of(alloc, &module.body)?;
+    let ops = OpIndex::of(alloc, &module.body)?;
     let mut widths = Vec::new(alloc);
-    for position in 0..places.count() {
-        let op = places.op_at(position);
+    for position in 0..ops.count() {
+        let op = ops.op_at(position);
         if is_register(op.kind) {
             widths.push(first_bits(op.results)?)?;
         }
@@ -84,5 +85,5 @@ pub(crate) fn total_of(widths: &[u32]) -> Result<u32, AllocError>
 pub(crate) fn register_bits(alloc: Global, module: &Module) -> Result<u32, AllocError>
     ensures { IfOk result (λ n. n ≡ content_width (ops_by_position (ops_of «module».now.body))) }
 {
-    content_bits(&Places::of(alloc, &module.body)?)
+    content_bits(&OpIndex::of(alloc, &module.body)?)
 }

@@ -1,32 +1,25 @@
 //! A body with its ports, its operations by their positions in text order.
-ghost use Rattle.std.specs.Prelude.{◌≡◌, ◌<◌, length, map, min, option_map, IfOk, Some, slice_get};
+ghost use Rattle.std.specs.Prelude.{◌≡◌, map, min, option_map, slice_get};
 ghost use Rattle.hw_model.specs.Design.{result_type};
 ghost use Rattle.hw_model.specs.Flat.{width_of};
 ghost use Rattle.hw_model.specs.Sound.{input_type};
 ghost use Rattle.ir_store.specs.Designs.{port_of, ports_in};
-ghost use Rattle.ir_store.specs.Bodies.{ids_of, ops_of, op_id, read_op};
-ghost use Rattle.ir_store.specs.Numbered.{position_of, op_by, ops_by_position};
-ghost use Rattle.ir_store.specs.PositionTables.{ArePositions};
+ghost use Rattle.ir_store.specs.Bodies.{ops_of, op_id, read_op};
+ghost use Rattle.ir_store.specs.Numbered.{op_by, ops_by_position};
 ghost use Rattle.verilog_expr.specs.Marks.{AreSmall};
 
 use ir_store::body::{Body, Op};
 use ir_store::design::{Port, PortList};
+use ir_store::op_index::OpIndex;
 use ir_store::operation::{OpId, Value};
-use ir_store::position_table::{ids_in, positions_of};
 use std::alloc::{AllocError, Global};
 
 /// A body with its ports. Contracts see it by `scope_ports` and `scope_ops`.
 #[derive(Drop)]
 pub struct Scope<'m> {
     ports: &'m PortList,
-    body: &'m Body,
-    // the ids in text order
-    ids: Vec<OpId>,
-    // the position of each id by its number
-    positions: Vec<u32>,
-    ghost all: { ids.items ≡ map op_id (ids_of body.now) },
-    ghost known: { ArePositions (ids_of body.now) positions.items },
-    ghost small: { AreSmall (ports_in ports.now) (ops_by_position (ops_of body.now)) },
+    ops: OpIndex<'m>,
+    ghost small: { AreSmall (ports_in ports.now) (ops_by_position (ops_of ops.body.now)) },
 }
 
 impl<'m> Scope<'m> {
@@ -43,17 +36,11 @@ impl<'m> Scope<'m> {
     pub fn of(alloc: Global, ports: &'m PortList, body: &'m Body) -> Result<Scope<'m>, AllocError>
         requires small { AreSmall (ports_in ports.now) (ops_by_position (ops_of body.now)) }
         ensures ports { IfOk result (λ s. ports_in s.ports.now ≡ ports_in ports.now) }
-        ensures ops { IfOk result (λ s. ops_by_position (ops_of s.body.now) ≡ ops_by_position (ops_of body.now)) }
-        ensures ids { IfOk result (λ s. ids_of s.body.now ≡ ids_of body.now) }
+        ensures ops { IfOk result (λ s. scope_ops s ≡ ops_by_position (ops_of body.now)) }
+        ensures ids { IfOk result (λ s. scope_ids s ≡ ids_of body.now) }
     {
-        let ids = ids_in(alloc, body)?;
-        let positions = positions_of(alloc, ids.as_slice())?;
-        Ok(Scope {
-            ports,
-            body,
-            ids,
-            positions,
-        })
+        let ops = OpIndex::of(alloc, body)?;
+        Ok(Scope { ports, ops })
     }
 
     /// The ports, in order.
@@ -67,7 +54,7 @@ impl<'m> Scope<'m> {
     pub fn count(&self) -> usize
         ensures { result ≡ length (scope_ops self.now) }
     {
-        self.ids.len()
+        self.ops.count()
     }
 
     /// The operation at a position.
@@ -75,7 +62,7 @@ impl<'m> Scope<'m> {
         requires { position < length (scope_ops self.now) }
         ensures { slice_get (scope_ops self.now) position ≡ Some (op_read self.now result) }
     {
-        op_in(self.body, self.ids.as_slice(), position)
+        self.ops.op_at(position)
     }
 
     /// The id of the operation at a position.
@@ -83,22 +70,19 @@ impl<'m> Scope<'m> {
         requires { position < length (scope_ops self.now) }
         ensures { position_of (scope_ids self.now) result.index ≡ position }
     {
-        self.ids[position]
+        self.ops.id_at(position)
     }
 
     /// The position of the operation of an id; of one that is not there, the number of operations.
     pub fn position(&self, id: OpId) -> usize
-        ensures { result ≡ position_of (ids_of self.now.body.now) id.index }
+        ensures { result ≡ position_of (scope_ids self.now) id.index }
     {
-        match self.position_of(id) {
-            Some(position) => (position as usize).min(self.ids.len()),
-            None => self.ids.len(),
-        }
+        self.ops.position(id)
     }
 
     /// The operation of an id, where it is there.
     pub fn op(&self, id: OpId) -> Option<Op<'m>>
-        ensures { option_map (op_read self.now) result ≡ slice_get (scope_ops self.now) (position_of (ids_of self.now.body.now) id.index) }
+        ensures { option_map (op_read self.now) result ≡ slice_get (scope_ops self.now) (position_of (scope_ids self.now) id.index) }
     {
         let position = self.position(id);
         if position < self.count() {
@@ -150,13 +134,6 @@ impl<'m> Scope<'m> {
             Value::Undefined => 0,
         }
     }
-
-    // What the table has for an id.
-    fn position_of(&self, id: OpId) -> Option<u32>
-        ensures { result ≡ slice_get self.now.positions.items id.index }
-    {
-        self.positions.get(id.number() as usize).copied()
-    }
 }
 
 // The bits of an input port, or 0.
@@ -177,13 +154,4 @@ pub fn result_width(op: &Op<'_>, number: u32) -> u64
         Some(one) => one.ty.width(),
         None => 0,
     }
-}
-
-// The operation at a position, `ids` being those of all.
-fn op_in<'b>(body: &'b Body, ids: &[OpId], position: usize) -> Op<'b>
-    requires all { ids.now ≡ map op_id (ids_of body.now) }
-    requires within { position < length ids.now }
-    ensures { slice_get (ops_by_position (ops_of body.now)) position ≡ Some (op_by (position_of (ids_of body.now)) (read_op (op_id 0) result)) }
-{
-    body.op(ids[position])
 }

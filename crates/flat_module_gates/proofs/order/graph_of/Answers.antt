@@ -8,10 +8,10 @@ use Rattle.flat_module_gates.proofs.order.graph_of.Goals as goal
 
 pub loop-position-preserved : goal.loop-position-preserved
 loop-position-preserved c =
-    graph_more (ops_by_position (ops_of c.args.places.now.body.now)) c.loop-position.position c.loop-position.graph.items c.push.new.self.items c.in_ok-needs.needs
+    graph_more (ops_by_position (ops_of c.args.ops.now.body.now)) c.loop-position.position c.loop-position.graph.items c.push.new.self.items c.in_ok-needs.needs
     c.loop-position.invariant c.in_ok-push.ensures.items c.in_ok-needs.ensures
 
 pub returns : goal.returns
 returns c =
-    let os = ops_by_position (ops_of c.args.places.now.body.now) in
+    let os = ops_by_position (ops_of c.args.ops.now.body.now) in
     c.loop-position.invariant ∙ ap (map needs_of) (take_all c.loop-position.position os (omega arith))

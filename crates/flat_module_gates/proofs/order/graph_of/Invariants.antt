@@ -6,4 +6,4 @@ use Rattle.flat_module_gates.specs.Orders.{needs_of}
 use Rattle.flat_module_gates.proofs.order.graph_of.Given as goal
 
 abbrev pub invariant-loop-position : goal.invariant-loop-position
-invariant-loop-position l = lists_of l.graph.items ≡ map needs_of (take l.position (ops_by_position (ops_of l.places.body.now)))
+invariant-loop-position l = lists_of l.graph.items ≡ map needs_of (take l.position (ops_by_position (ops_of l.ops.body.now)))

@@ -11,12 +11,12 @@ use Rattle.flat_module_gates.proofs.order.operation_order.Goals as goal
 
 pub returns : goal.returns
 returns c =
-    let os = ops_by_position (ops_of c.in_ok-places.places.body.now) in
+    let os = ops_by_position (ops_of c.in_ok-ops.ops.body.now) in
     let graph = c.in_ok-graph.graph.items in
     let order = c.in_ok-order.order in
     let given = c.as_slice.ensures.value in
-    subst (λ b. IsOrder (ops_by_position b) order.nodes.items) c.in_ok-places.ensures
-    (order_found os (lists_of graph) order.placed.items order.nodes.items c.in_ok-graph.ensures (subst (λ b. HasOrder (ops_by_position b)) (sym c.in_ok-places.ensures) c.requires)
+    subst (λ b. IsOrder (ops_by_position b) order.nodes.items) (ap ops_of c.in_ok-ops.ensures)
+    (order_found os (lists_of graph) order.placed.items order.nodes.items c.in_ok-graph.ensures (subst (λ b. HasOrder (ops_by_position b)) (sym (ap ops_of c.in_ok-ops.ensures)) c.requires)
     (subst (λ g. IsGraphOrder (lists_of g) order.placed.items order.nodes.items) given c.in_ok-order.ensures.order)
     (λ v below. subst (λ g. MustWait (lists_of g) order.placed.items v) given
     (c.in_ok-order.ensures.longest v (subst (λ n. v < n) (length-lists graph ∙ ap length (sym given)) below))))

@@ -8,7 +8,7 @@ use Rattle.flat_module_gates.proofs.order.push_makers.Goals as goal
 
 pub loop-value-preserved : goal.loop-value-preserved
 loop-value-preserved c =
-    let f = ref_by (position_of (ids_of c.args.places.now.body.now)) in
+    let f = ref_by (position_of (ids_of c.args.ops.now.body.now)) in
     let vs = c.args.values.now in
     let i = c.loop-value.value-index in
     let v = get_or vs i (Port 0) in

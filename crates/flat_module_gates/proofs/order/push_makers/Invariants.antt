@@ -5,4 +5,4 @@ use Rattle.flat_module_gates.specs.Orders.{makers_of}
 use Rattle.flat_module_gates.proofs.order.push_makers.Given as goal
 
 abbrev pub invariant-loop-value : goal.invariant-loop-value
-invariant-loop-value l = l.nodes.items ≡ l.fn.nodes.items ++ makers_of (map (ref_by (position_of (ids_of l.places.body.now))) (take l.value-index l.values))
+invariant-loop-value l = l.nodes.items ≡ l.fn.nodes.items ++ makers_of (map (ref_by (position_of (ids_of l.ops.body.now))) (take l.value-index l.values))

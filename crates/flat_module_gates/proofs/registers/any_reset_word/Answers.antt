@@ -9,7 +9,7 @@ use Rattle.flat_module_gates.proofs.registers.any_reset_word.Goals as goal
 
 pub returns-in-None : goal.returns-in-None
 returns-in-None c =
-    let b = c.args.body.now.places.now.body.now in
+    let b = c.args.body.now.ops.now.body.now in
     let os = ops_by_position (ops_of b) in
     let see = ref_by (position_of (ids_of b)) in
     let words = word_at c.args.body.now.words.now.ports.items c.args.body.now.words.now.results.items in
@@ -19,7 +19,7 @@ returns-in-None c =
 
 pub returns-in-Some : goal.returns-in-Some
 returns-in-Some c =
-    let b = c.args.body.now.places.now.body.now in
+    let b = c.args.body.now.ops.now.body.now in
     let os = ops_by_position (ops_of b) in
     let see = ref_by (position_of (ids_of b)) in
     let words = word_at c.args.body.now.words.now.ports.items c.args.body.now.words.now.results.items in

@@ -8,11 +8,11 @@ use Rattle.flat_module_gates.proofs.registers.content_bits.Goals as goal
 
 pub loop-position-preserved : goal.loop-position-preserved
 loop-position-preserved c =
-    let os = ops_by_position (ops_of c.args.places.now.body.now) in
+    let os = ops_by_position (ops_of c.args.ops.now.body.now) in
     let more = width_more os c.loop-position.position (omega (arith, c.count-position-end.ensures, c.loop-position-test.true)) in
     omega (arith, more, c.loop-position.invariant, c.in_ok-bits.ensures, c.in_ok-bits_at.ensures)
 
 pub returns : goal.returns
 returns c =
-    let os = ops_by_position (ops_of c.args.places.now.body.now) in
+    let os = ops_by_position (ops_of c.args.ops.now.body.now) in
     c.loop-position.invariant ∙ ap content_width (take_all c.loop-position.position os (omega (arith, c.count-position-end.ensures, c.loop-position-test.false)))

@@ -3,7 +3,7 @@ use Rattle.std.proofs.lemmas.List.{take_all}
 use Rattle.gates.specs.Circuits.{Runs}
 use Rattle.ir_store.specs.Bodies.{ops_of}
 use Rattle.ir_store.specs.Numbered.{ops_by_position}
-use Rattle.design_cycles.specs.Reading.{op_view}
+use Rattle.ir_store.specs.OpIndexes.{op_view}
 use Rattle.flat_module_gates.specs.FlatGateLists.{word_at}
 use Rattle.flat_module_gates.specs.FlatSteps.{loaded_of, content_gate_list}
 use Rattle.flat_module_gates.proofs.Loading.{content_begin, content_skip, content_more, old_is}
@@ -12,14 +12,14 @@ use Rattle.flat_module_gates.proofs.registers.loaded_content.Goals.{then-is_regi
 
 pub loop-position-init : goal.loop-position-init
 loop-position-init c =
-    let os = ops_by_position (ops_of c.args.body.now.places.now.body.now) in
+    let os = ops_by_position (ops_of c.args.body.now.ops.now.body.now) in
     let words = word_at c.args.body.now.words.now.ports.items c.args.body.now.words.now.results.items in
     subst (Runs (content_gate_list (loaded_of os words) [] c.args.content.now) c.args.gates.now c.args.gates.now) (sym c.in_ok-made.ensures.items)
     (content_begin (loaded_of os words) c.args.content.now c.args.gates.now)
 
 pub loop-position-preserved : goal.loop-position-preserved
 loop-position-preserved c =
-    let b = c.args.body.now.places.now.body.now in
+    let b = c.args.body.now.ops.now.body.now in
     let os = ops_by_position (ops_of b) in
     let words = word_at c.args.body.now.words.now.ports.items c.args.body.now.words.now.results.items in
     let o = op_view b c.op_at-op.result in
@@ -40,7 +40,7 @@ loop-position-preserved c =
 
 pub returns : goal.returns
 returns c =
-    let os = ops_by_position (ops_of c.args.body.now.places.now.body.now) in
+    let os = ops_by_position (ops_of c.args.body.now.ops.now.body.now) in
     let words = word_at c.args.body.now.words.now.ports.items c.args.body.now.words.now.results.items in
     subst (λ xs. Runs (content_gate_list (loaded_of os words) xs c.args.content.now) c.args.gates.now c.loop-position.gates c.loop-position.made.items)
     (take_all c.loop-position.position os (omega (arith, c.count-position-end.ensures, c.loop-position-test.false))) c.loop-position.invariant

@@ -8,5 +8,5 @@ use Rattle.flat_module_gates.proofs.registers.loaded_content.Given as goal
 
 abbrev pub invariant-loop-position : goal.invariant-loop-position
 invariant-loop-position l =
-    Runs (content_gate_list (loaded_of (ops_by_position (ops_of l.body.places.now.body.now)) (word_at l.body.words.now.ports.items l.body.words.now.results.items))
-    (take l.position (ops_by_position (ops_of l.body.places.now.body.now))) l.content) l.fn.gates l.gates l.made.items
+    Runs (content_gate_list (loaded_of (ops_by_position (ops_of l.body.ops.now.body.now)) (word_at l.body.words.now.ports.items l.body.words.now.results.items))
+    (take l.position (ops_by_position (ops_of l.body.ops.now.body.now))) l.content) l.fn.gates l.gates l.made.items

@@ -11,7 +11,7 @@ use Rattle.flat_module_gates.proofs.registers.loaded_word.Goals as goal
 
 pub returns-in_ok-kept-in-None : goal.returns-in_ok-kept-in-None
 returns-in_ok-kept-in-None c =
-    let b = c.args.body.now.places.now.body.now in
+    let b = c.args.body.now.ops.now.body.now in
     let os = ops_by_position (ops_of b) in
     let see = ref_by (position_of (ids_of b)) in
     let words = word_at c.args.body.now.words.now.ports.items c.args.body.now.words.now.results.items in

@@ -7,7 +7,7 @@ use Rattle.hw_model.specs.Flat.{async_reset_in}
 use Rattle.hw_model.specs.RegisterViews.{register_of, reset_by_of}
 use Rattle.ir_store.specs.Bodies.{ids_of, ops_of}
 use Rattle.ir_store.specs.Numbered.{position_of, ref_by, ops_by_position}
-use Rattle.design_cycles.specs.Reading.{op_view}
+use Rattle.ir_store.specs.OpIndexes.{op_view}
 use Rattle.net_gates.specs.RegisterGateLists.{enable_gate_list}
 use Rattle.flat_module_gates.specs.FlatGateLists.{word_at}
 use Rattle.flat_module_gates.specs.FlatSteps.{next_in, any_reset_in}
@@ -16,7 +16,7 @@ use Rattle.flat_module_gates.proofs.registers.next_word.Goals as goal
 
 pub returns-in_default : goal.returns-in_default
 returns-in_default c =
-    let b = c.args.body.now.places.now.body.now in
+    let b = c.args.body.now.ops.now.body.now in
     let os = ops_by_position (ops_of b) in
     let see = ref_by (position_of (ids_of b)) in
     let words = word_at c.args.body.now.words.now.ports.items c.args.body.now.words.now.results.items in
@@ -26,13 +26,13 @@ returns-in_default c =
 
 pub enabled_word-requires : goal.enabled_word-requires
 enabled_word-requires c =
-    let see = ref_by (position_of (ids_of c.args.body.now.places.now.body.now)) in
+    let see = ref_by (position_of (ids_of c.args.body.now.ops.now.body.now)) in
     let some = sym (c.register_of.ensures see) ∙ ap (option_map (register_of see)) c.in-Some.is in
     ap length c.word_of-next.ensures ∙ c.requires.takes.next (register_of see c.in-Some.register) some ∙ sym c.requires.width
 
 pub any_reset_word-requires : goal.any_reset_word-requires
 any_reset_word-requires c = λ v is.
-    let see = ref_by (position_of (ids_of c.args.body.now.places.now.body.now)) in
+    let see = ref_by (position_of (ids_of c.args.body.now.ops.now.body.now)) in
     let words = word_at c.args.body.now.words.now.ports.items c.args.body.now.words.now.results.items in
     let some = sym (c.register_of.ensures see) ∙ ap (option_map (register_of see)) c.in-Some.is in
     let same = ap length c.word_of-next.ensures ∙ c.requires.takes.next (register_of see c.in-Some.register) some ∙ sym c.requires.width in
@@ -42,7 +42,7 @@ any_reset_word-requires c = λ v is.
 
 pub each-requires : goal.each-requires
 each-requires c =
-    let b = c.args.body.now.places.now.body.now in
+    let b = c.args.body.now.ops.now.body.now in
     let os = ops_by_position (ops_of b) in
     let see = ref_by (position_of (ids_of b)) in
     let words = word_at c.args.body.now.words.now.ports.items c.args.body.now.words.now.results.items in
@@ -58,7 +58,7 @@ each-requires c =
 
 pub returns : goal.returns
 returns c =
-    let b = c.args.body.now.places.now.body.now in
+    let b = c.args.body.now.ops.now.body.now in
     let os = ops_by_position (ops_of b) in
     let see = ref_by (position_of (ids_of b)) in
     let words = word_at c.args.body.now.words.now.ports.items c.args.body.now.words.now.results.items in

@@ -10,7 +10,7 @@ use Rattle.flat_module_gates.proofs.sides.first_content.Goals as goal
 
 pub returns : goal.returns
 returns c =
-    let os = ops_by_position (ops_of c.args.places.now.body.now) in
+    let os = ops_by_position (ops_of c.args.ops.now.body.now) in
     let ps = ports_in c.args.module.now.ports in
     let r = c.loaded_content.result in
     let s = c.args.gates.now in

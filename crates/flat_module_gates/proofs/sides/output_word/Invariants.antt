@@ -5,4 +5,4 @@ use Rattle.ir_store.specs.Numbered.{ops_by_position}
 use Rattle.flat_module_gates.proofs.sides.output_word.Given as goal
 
 abbrev pub invariant-loop-position : goal.invariant-loop-position
-invariant-loop-position l = output_refs (ops_by_position (ops_of l.places.body.now)) ≡ output_refs (drop l.position (ops_by_position (ops_of l.places.body.now)))
+invariant-loop-position l = output_refs (ops_by_position (ops_of l.ops.body.now)) ≡ output_refs (drop l.position (ops_by_position (ops_of l.ops.body.now)))

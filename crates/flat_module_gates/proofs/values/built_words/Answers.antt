@@ -10,7 +10,7 @@ use Rattle.flat_module_gates.proofs.values.built_words.Goals as goal
 
 pub loop-position-init : goal.loop-position-init
 loop-position-init c =
-    let os = ops_by_position (ops_of c.args.held.now.places.now.body.now) in
+    let os = ops_by_position (ops_of c.args.held.now.ops.now.body.now) in
     let content = c.args.held.now.content.now in
     let is : c.in_ok-results.results.items ≡ no_words (length os) = c.in_ok-results.ensures ∙ ap no_words c.count.ensures in
     record {
@@ -22,7 +22,7 @@ loop-position-init c =
 
 pub result_word-requires-clause-takes : goal.result_word-requires-clause-takes
 result_word-requires-clause-takes c =
-    let os = ops_by_position (ops_of c.args.held.now.places.now.body.now) in
+    let os = ops_by_position (ops_of c.args.held.now.ops.now.body.now) in
     let i = c.loop-position.position-index in
     let v = get_or c.args.order.now i 0 in
     subst (λ ps. OpTakes (word_at ps c.loop-position.words.results.items) (slice_get os v)) (sym c.loop-position.invariant.ports)
@@ -30,7 +30,7 @@ result_word-requires-clause-takes c =
 
 pub result_word-requires-clause-within : goal.result_word-requires-clause-within
 result_word-requires-clause-within c =
-    let os = ops_by_position (ops_of c.args.held.now.places.now.body.now) in
+    let os = ops_by_position (ops_of c.args.held.now.ops.now.body.now) in
     let i = c.loop-position.position-index in
     let v = get_or c.args.order.now i 0 in
     takes_within os (word_at c.args.ports.items c.loop-position.words.results.items) v
@@ -38,7 +38,7 @@ result_word-requires-clause-within c =
 
 pub put_word-requires-clause-within : goal.put_word-requires-clause-within
 put_word-requires-clause-within c =
-    let os = ops_by_position (ops_of c.args.held.now.places.now.body.now) in
+    let os = ops_by_position (ops_of c.args.held.now.ops.now.body.now) in
     let i = c.loop-position.position-index in
     let v = get_or c.args.order.now i 0 in
     takes_within os (word_at c.args.ports.items c.loop-position.words.results.items) v
@@ -46,7 +46,7 @@ put_word-requires-clause-within c =
 
 pub loop-position-preserved : goal.loop-position-preserved
 loop-position-preserved c =
-    let os = ops_by_position (ops_of c.args.held.now.places.now.body.now) in
+    let os = ops_by_position (ops_of c.args.held.now.ops.now.body.now) in
     let content = c.args.held.now.content.now in
     let ports = c.args.ports.items in
     let i = c.loop-position.position-index in

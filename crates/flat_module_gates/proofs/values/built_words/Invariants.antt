@@ -8,7 +8,7 @@ use Rattle.flat_module_gates.proofs.values.built_words.Given as goal
 abbrev pub invariant-loop-position : goal.invariant-loop-position
 invariant-loop-position l = record {
   ports : l.words.ports.items ≡ l.fn.ports.items;
-  room : length l.words.results.items ≡ length (ops_by_position (ops_of l.held.places.now.body.now));
-  runs : Runs (results_by (ops_by_position (ops_of l.held.places.now.body.now)) l.held.content.now l.fn.ports.items (take l.position-index l.order)
-      (no_words (length (ops_by_position (ops_of l.held.places.now.body.now))))) l.fn.gates l.gates l.words.results.items;
+  room : length l.words.results.items ≡ length (ops_by_position (ops_of l.held.ops.now.body.now));
+  runs : Runs (results_by (ops_by_position (ops_of l.held.ops.now.body.now)) l.held.content.now l.fn.ports.items (take l.position-index l.order)
+      (no_words (length (ops_by_position (ops_of l.held.ops.now.body.now))))) l.fn.gates l.gates l.words.results.items;
 }

@@ -2,7 +2,7 @@ use Rattle.std.proofs.Common.{◌≡◌, ap, sym, subst, ◌∙◌, take, drop, 
 use Rattle.hw_model.specs.Flat.{held_width}
 use Rattle.ir_store.specs.Bodies.{ops_of}
 use Rattle.ir_store.specs.Numbered.{ops_by_position}
-use Rattle.design_cycles.specs.Reading.{op_view}
+use Rattle.ir_store.specs.OpIndexes.{op_view}
 use Rattle.flat_module_gates.specs.FlatGateLists.{word_at, starts_from}
 use Rattle.flat_module_gates.proofs.Building.{gate_list_held, gate_list_given, runs_is}
 use Rattle.gates.proofs.Running.{runs-done}
@@ -10,7 +10,7 @@ use Rattle.flat_module_gates.proofs.values.result_word.Goals as goal
 
 pub returns-then-is_register : goal.returns-then-is_register
 returns-then-is_register c =
-    let b = c.args.held.now.places.now.body.now in
+    let b = c.args.held.now.ops.now.body.now in
     let os = ops_by_position (ops_of b) in
     let o = op_view b c.op_at-op.result in
     let content = c.args.held.now.content.now in
@@ -22,7 +22,7 @@ returns-then-is_register c =
 
 pub returns-then-is_output : goal.returns-then-is_output
 returns-then-is_output c =
-    let b = c.args.held.now.places.now.body.now in
+    let b = c.args.held.now.ops.now.body.now in
     let os = ops_by_position (ops_of b) in
     let o = op_view b c.op_at-op.result in
     rw (gate_list_given os c.args.held.now.content.now (word_at c.args.words.now.ports.items c.args.words.now.results.items) c.args.position o c.op_at-op.ensures

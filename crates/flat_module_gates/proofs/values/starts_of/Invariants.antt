@@ -6,4 +6,4 @@ use Rattle.flat_module_gates.proofs.values.starts_of.Given as goal
 
 abbrev pub invariant-loop-position : goal.invariant-loop-position
 invariant-loop-position l =
-    starts_from 0 (ops_by_position (ops_of l.places.body.now)) ≡ l.starts.items ++ starts_from l.start (drop l.position (ops_by_position (ops_of l.places.body.now)))
+    starts_from 0 (ops_by_position (ops_of l.ops.body.now)) ≡ l.starts.items ++ starts_from l.start (drop l.position (ops_by_position (ops_of l.ops.body.now)))

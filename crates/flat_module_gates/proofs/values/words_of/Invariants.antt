@@ -6,4 +6,4 @@ use Rattle.flat_module_gates.proofs.values.words_of.Given as goal
 
 abbrev pub invariant-loop-value : goal.invariant-loop-value
 invariant-loop-value l =
-    l.all.items ≡ map (word_at l.words.ports.items l.words.results.items) (map (ref_by (position_of (ids_of l.places.body.now))) (take l.value-index l.values))
+    l.all.items ≡ map (word_at l.words.ports.items l.words.results.items) (map (ref_by (position_of (ids_of l.ops.body.now))) (take l.value-index l.values))

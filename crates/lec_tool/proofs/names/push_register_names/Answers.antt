@@ -1,7 +1,7 @@
 use Rattle.std.proofs.Common.{◌+◌, ◌∷◌, [], ◌++◌, drop, sym, ap, ◌∙◌}
 use Rattle.ir_store.specs.Bodies.{ops_of}
 use Rattle.ir_store.specs.Numbered.{ops_by_position}
-use Rattle.design_cycles.specs.Reading.{op_view}
+use Rattle.ir_store.specs.OpIndexes.{op_view}
 use Rattle.lec_tool.specs.LeafNames.{register_name, register_names}
 use Rattle.lec_tool.proofs.LeafLists.{one_made, register_next, no_register_next}
 use Rattle.lec_tool.proofs.names.push_register_names.Goals as goal
@@ -9,7 +9,7 @@ use Rattle.lec_tool.proofs.names.push_register_names.Goals.{then-is_register+in_
 
 pub loop-position-preserved : goal.loop-position-preserved
 loop-position-preserved c =
-    let b = c.in_ok-places.places.body.now in
+    let b = c.in_ok-ops.ops.body.now in
     let os = ops_by_position (ops_of b) in
     let o = op_view b c.op_at-op.result in
     let i = c.loop-position.position in

@@ -6,5 +6,5 @@ use Rattle.lec_tool.proofs.names.push_register_names.Given as goal
 
 abbrev pub invariant-loop-position : goal.invariant-loop-position
 invariant-loop-position l =
-    l.names.items ++ register_names (drop l.position (ops_by_position (ops_of l.places.body.now)))
-    ≡ l.fn.names.items ++ register_names (ops_by_position (ops_of l.places.body.now))
+    l.names.items ++ register_names (drop l.position (ops_by_position (ops_of l.ops.body.now)))
+    ≡ l.fn.names.items ++ register_names (ops_by_position (ops_of l.ops.body.now))

@@ -6,13 +6,13 @@ use Rattle.hw_model.specs.Sound.{type_in}
 use Rattle.ir_store.specs.Bodies.{ops_of}
 use Rattle.ir_store.specs.Designs.{ports_in}
 use Rattle.ir_store.specs.Numbered.{ops_by_position}
-use Rattle.design_cycles.specs.Reading.{op_view}
+use Rattle.ir_store.specs.OpIndexes.{op_view}
 use Rattle.miter_blast.proofs.ValueWidths.{typed_at, untyped_past}
 use Rattle.miter_blast.proofs.operands.value_width.Goals as goal
 
 pub returns-then-position-count : goal.returns-then-position-count
 returns-then-position-count c =
-    let b = c.args.body.now.places.now.body.now in
+    let b = c.args.body.now.ops.now.body.now in
     let ps = ports_in c.args.body.now.ports.now in
     let os = ops_by_position (ops_of b) in
     let k = c.in-Result.number in
@@ -22,7 +22,7 @@ returns-then-position-count c =
 
 pub returns-else-position-count : goal.returns-else-position-count
 returns-else-position-count c =
-    let b = c.args.body.now.places.now.body.now in
+    let b = c.args.body.now.ops.now.body.now in
     let ps = ports_in c.args.body.now.ports.now in
     let os = ops_by_position (ops_of b) in
     let k = c.in-Result.number in

@@ -8,4 +8,4 @@ use Rattle.miter_blast.proofs.prices.body_price.Given as goal
 
 abbrev pub invariant-loop-position : goal.invariant-loop-position
 invariant-loop-position l =
-    l.price ≡ min (total (map (whole_price (ports_in l.body.ports.now) (ops_by_position (ops_of l.body.places.now.body.now))) (take l.position (ops_by_position (ops_of l.body.places.now.body.now))))) 18446744073709551615
+    l.price ≡ min (total (map (whole_price (ports_in l.body.ports.now) (ops_by_position (ops_of l.body.ops.now.body.now))) (take l.position (ops_by_position (ops_of l.body.ops.now.body.now))))) 18446744073709551615

@@ -2,7 +2,7 @@ use Rattle.std.proofs.Common.{sym, ap, ap₂, ◌∙◌, arith, [], ◌∷◌, �
 use Rattle.std.proofs.lemmas.List.{take_all}
 use Rattle.ir_store.specs.Bodies.{ops_of}
 use Rattle.ir_store.specs.Numbered.{ops_by_position}
-use Rattle.design_cycles.specs.Reading.{op_view}
+use Rattle.ir_store.specs.OpIndexes.{op_view}
 use Rattle.miter_blast.specs.Leaves.{held_widths}
 use Rattle.miter_blast.proofs.HeldWidths.{register_more, other_more}
 use Rattle.miter_blast.proofs.widths.register_widths.Goals as goal
@@ -10,7 +10,7 @@ use Rattle.miter_blast.proofs.widths.register_widths.Goals.{then-is_register+in_
 
 pub loop-position-preserved : goal.loop-position-preserved
 loop-position-preserved c =
-    let b = c.in_ok-places.places.body.now in
+    let b = c.in_ok-ops.ops.body.now in
     let os = ops_by_position (ops_of b) in
     let o = op_view b c.op_at-op.result in
     let i = c.loop-position.position in
@@ -24,7 +24,7 @@ loop-position-preserved c =
 
 pub returns : goal.returns
 returns c =
-    let b = c.in_ok-places.places.body.now in
+    let b = c.in_ok-ops.ops.body.now in
     let os = ops_by_position (ops_of b) in
     c.loop-position.invariant ∙ ap held_widths (take_all c.loop-position.position os (omega (arith, c.count-position-end.ensures, c.loop-position-test.false)))
-    ∙ ap (λ x. held_widths (ops_by_position x)) c.in_ok-places.ensures
+    ∙ ap (λ x. held_widths (ops_by_position x)) (ap ops_of c.in_ok-ops.ensures)

@@ -1,19 +1,10 @@
-use Rattle.std.proofs.Common.{subst, ap, sym, ◌∙◌}
-use Rattle.ir_store.specs.Bodies.{ids_of}
-use Rattle.ir_store.specs.Live.{AreDistinct}
-use Rattle.ir_store.proofs.BodyLemmas.{ids_once}
-use Rattle.ir_store.specs.PositionTables.{ArePositions}
-use Rattle.ir_store.proofs.PositionTables.{indices, ids_same}
+use Rattle.std.proofs.Common.{ap, sym, subst}
+use Rattle.ir_store.specs.Bodies.{ids_of, ops_of}
+use Rattle.ir_store.specs.Designs.{ports_in}
+use Rattle.ir_store.specs.Numbered.{ops_by_position}
+use Rattle.ir_store.specs.declared.body.Body.{Body}
+use Rattle.verilog_expr.specs.Marks.{AreSmall}
 use Rattle.verilog_expr.proofs.scope.Scope.of.Goals as goal
 
-pub positions_of-requires : goal.positions_of-requires
-positions_of-requires c =
-    subst AreDistinct (sym (ap indices c.as_slice.ensures.value ∙ ids_same c.in_ok-ids.ids.items (ids_of c.args.body.now) c.in_ok-ids.ensures)) (ids_once c.args.body.now)
-
 pub invariant_of-result : goal.invariant_of-result
-invariant_of-result c = record {
-  all = c.in_ok-ids.ensures;
-  small = c.requires.small;
-  known = subst (λ xs. ArePositions xs c.in_ok-positions.positions.items)
-      (ap indices c.as_slice.ensures.value ∙ ids_same c.in_ok-ids.ids.items (ids_of c.args.body.now) c.in_ok-ids.ensures) c.in_ok-positions.ensures;
-}
+invariant_of-result c = record { small = subst (λ (b : Body). AreSmall (ports_in c.args.ports.now) (ops_by_position (ops_of b))) (sym c.in_ok-ops.ensures) c.requires.small }

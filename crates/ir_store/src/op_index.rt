@@ -1,20 +1,18 @@
-//! The operations of a body by their positions in text order.
-ghost use Rattle.std.specs.Prelude.{◌≡◌, map, is_some, ◌||◌};
-ghost use Rattle.hw_model.specs.Design.{register_form, is_output_kind};
-ghost use Rattle.hw_model.specs.KindViews.{kind_of};
-ghost use Rattle.ir_store.specs.Bodies.{ids_of, op_id};
+//! A body's operations by their positions in text order.
+ghost use Rattle.std.specs.Prelude.{◌≡◌, ◌<◌, length, map, slice_get, Some};
+ghost use Rattle.ir_store.specs.Bodies.{ids_of, ops_of, op_id};
+ghost use Rattle.ir_store.specs.Numbered.{ops_by_position};
+ghost use Rattle.ir_store.specs.OpIndexes.{op_view};
 ghost use Rattle.ir_store.specs.PositionTables.{ArePositions};
 
-use design_cycles::op_at;
-use hw_model::kinds::OpKind;
-use ir_store::body::{Body, Op};
-use ir_store::operation::OpId;
-use ir_store::position_table::{ids_in, positions_of};
+use crate::body::{Body, Op};
+use crate::operation::OpId;
+use crate::position_table::{ids_in, positions_of};
 use std::alloc::{AllocError, Global};
 
-/// A body, its operations by their positions.
+/// A body, its operations by their positions. Contracts see it by its body.
 #[derive(Drop)]
-pub struct Places<'b> {
+pub struct OpIndex<'b> {
     // the body
     body: &'b Body,
     // the ids in text order
@@ -25,19 +23,19 @@ pub struct Places<'b> {
     ghost known: { ArePositions (ids_of body.now) positions.items },
 }
 
-impl<'b> Places<'b> {
-    ghost use Rattle.std.specs.Prelude.{◌≡◌, ◌<◌, ◌^◌, length, IfOk, Some, slice_get};
+impl<'b> OpIndex<'b> {
+    ghost use Rattle.std.specs.Prelude.{◌≡◌, ◌<◌, length, IfOk, Some, slice_get};
     ghost use Rattle.ir_store.specs.Bodies.{ids_of, ops_of};
     ghost use Rattle.ir_store.specs.Numbered.{position_of, ops_by_position};
-    ghost use Rattle.design_cycles.specs.Reading.{op_view};
+    ghost use Rattle.ir_store.specs.OpIndexes.{op_view};
 
     /// The operations of a body. One of 2^32 operations or more wants more memory than there is.
-    pub fn of(alloc: Global, body: &'b Body) -> Result<Places<'b>, AllocError>
-        ensures { IfOk result (λ p. ops_of p.body.now ≡ ops_of body.now) }
+    pub fn of(alloc: Global, body: &'b Body) -> Result<OpIndex<'b>, AllocError>
+        ensures { IfOk result (λ index. index.body.now ≡ body.now) }
     {
         let ids = ids_in(alloc, body)?;
         let positions = positions_of(alloc, ids.as_slice())?;
-        Ok(Places {
+        Ok(OpIndex {
             body,
             ids,
             positions,
@@ -59,44 +57,37 @@ impl<'b> Places<'b> {
         op_at(self.body, self.ids.as_slice(), position)
     }
 
+    /// The id of the operation at a position.
+    pub fn id_at(&self, position: usize) -> OpId
+        requires { position < length (ops_by_position (ops_of self.now.body.now)) }
+        ensures { position_of (ids_of self.now.body.now) result.index ≡ position }
+    {
+        self.ids[position]
+    }
+
     /// The position of the operation of an id; of one that is not there, the number of operations.
     pub fn position(&self, id: OpId) -> usize
         ensures { result ≡ position_of (ids_of self.now.body.now) id.index }
     {
-        match self.kept(id) {
+        match self.entry(id) {
             Some(position) => (position as usize).min(self.ids.len()),
             None => self.ids.len(),
         }
     }
 
     // What the table has for an id.
-    fn kept(&self, id: OpId) -> Option<u32>
+    fn entry(&self, id: OpId) -> Option<u32>
         ensures { result ≡ slice_get self.now.positions.items id.index }
     {
         self.positions.get(id.number() as usize).copied()
     }
 }
 
-/// Whether an operation of this kind may stand anywhere: a register has its content, and an output no result.
-pub fn stands_anywhere(kind: &OpKind) -> bool
-    ensures { result ≡ is_some (register_form (kind_of kind.now)) || is_output_kind (kind_of kind.now) }
+/// The operation at a position, `ids` being those of all.
+pub fn op_at<'b>(body: &'b Body, ids: &[OpId], position: usize) -> Op<'b>
+    requires all { ids.now ≡ map op_id (ids_of body.now) }
+    requires within { position < length ids.now }
+    ensures { slice_get (ops_by_position (ops_of body.now)) position ≡ Some (op_view body.now result) }
 {
-    is_register(kind) || is_output(kind)
-}
-
-/// Whether an operation of this kind is a register.
-pub fn is_register(kind: &OpKind) -> bool
-    ensures { result ≡ is_some (register_form (kind_of kind.now)) }
-{
-    matches!(
-        kind,
-        OpKind::CompReg(_) | OpKind::CompRegCe(_) | OpKind::FirReg(_) | OpKind::AsyncFirReg
-    )
-}
-
-/// Whether an operation of this kind gives the outputs of its module.
-pub fn is_output(kind: &OpKind) -> bool
-    ensures { result ≡ is_output_kind (kind_of kind.now) }
-{
-    matches!(kind, OpKind::Output)
+    body.op(ids[position])
 }

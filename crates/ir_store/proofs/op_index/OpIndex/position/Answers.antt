@@ -3,7 +3,7 @@ use Rattle.std.proofs.lemmas.List.{length-map}
 use Rattle.ir_store.specs.Bodies.{ids_of, op_id}
 use Rattle.ir_store.proofs.BodyLemmas.{ids_once}
 use Rattle.ir_store.proofs.PositionTables.{position_kept, position_missing}
-use Rattle.verilog_expr.proofs.scope.Scope.position.Goals as goal
+use Rattle.ir_store.proofs.op_index.OpIndex.position.Goals as goal
 
 pub returns-in-Some : goal.returns-in-Some
 returns-in-Some c =

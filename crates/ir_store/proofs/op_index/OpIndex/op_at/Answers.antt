@@ -3,10 +3,10 @@ use Rattle.std.proofs.lemmas.List.{length-map}
 use Rattle.ir_store.specs.BodyOps.{BodyOp}
 use Rattle.ir_store.specs.Bodies.{ops_of, ids_of, op_id}
 use Rattle.ir_store.specs.Numbered.{op_by, position_of}
-use Rattle.verilog_expr.proofs.scope.Scope.op_at.Goals as goal
+use Rattle.ir_store.proofs.op_index.OpIndex.op_at.Goals as goal
 
-pub op_in-requires : goal.op_in-requires
-op_in-requires c = record {
+pub op_at-requires : goal.op_at-requires
+op_at-requires c = record {
   all = c.as_slice.ensures.value ∙ c.args.self.now.all;
   within = subst (λ n. c.args.position < n)
       (length-map (ops_of c.args.self.now.body.now) (op_by (position_of (ids_of c.args.self.now.body.now)))

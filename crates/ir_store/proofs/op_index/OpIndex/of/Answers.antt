@@ -4,7 +4,7 @@ use Rattle.ir_store.specs.Live.{AreDistinct}
 use Rattle.ir_store.proofs.BodyLemmas.{ids_once}
 use Rattle.ir_store.specs.PositionTables.{ArePositions}
 use Rattle.ir_store.proofs.PositionTables.{indices, ids_same}
-use Rattle.flat_module_gates.proofs.places.Places.of.Goals as goal
+use Rattle.ir_store.proofs.op_index.OpIndex.of.Goals as goal
 
 pub positions_of-requires : goal.positions_of-requires
 positions_of-requires c =

@@ -3,7 +3,7 @@ use Rattle.ir_store.specs.Bodies.{ids_of}
 use Rattle.ir_store.specs.Numbered.{position_of}
 use Rattle.ir_store.specs.declared.operation.OpId.{OpId}
 use Rattle.ir_store.proofs.ReadOps.{position_at, ids_numbered}
-use Rattle.verilog_expr.proofs.scope.Scope.id_at.Goals as goal
+use Rattle.ir_store.proofs.op_index.OpIndex.id_at.Goals as goal
 
 pub index-requires : goal.index-requires
 index-requires c =
