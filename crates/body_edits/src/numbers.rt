@@ -12,11 +12,8 @@ use crate::in_place::put_in_place;
 use diag::refusal::Location;
 use hw_model::kinds::{Integer, OpKind};
 use hw_model::types::Ty;
-use io_edge::byte_text::Text;
 use ir_store::body::Body;
-use ir_store::dictionary::Dictionary;
-use ir_store::operation::{NewOp, NewResult, NewResultList, OpId, TyList};
-use smallvec::SmallVec;
+use ir_store::operation::{NewOp, NewResultList, OpId};
 use std::alloc::{AllocError, Global};
 
 /// Puts an `hw.constant` of a number in the place of an operation, for whose first result it then stands and whose type
@@ -50,7 +47,7 @@ pub fn first_type(results: &NewResultList) -> Option<&Ty>
     }
 }
 
-/// The `hw.constant` of a number and a type, at a place of the text.
+/// The `hw.constant` of a number and a type, at a location of the text.
 pub fn number_op(
     alloc: Global,
     number: u128,
@@ -59,18 +56,6 @@ pub fn number_op(
 ) -> Result<NewOp, AllocError>
     ensures { IfOk result (λ op. IsNumberOp number (type_of ty.now) (location_of location) op) }
 {
-    Ok(NewOp {
-        kind: OpKind::Constant(Integer::NonNegative(number)),
-        operands: SmallVec::new(alloc),
-        types: TyList::One(ty.try_clone(alloc)?),
-        results: NewResultList::One(NewResult {
-            ty: ty.try_clone(alloc)?,
-            again: false,
-        }),
-        named: 1,
-        name: Text::new(alloc),
-        dictionary: Dictionary::new(alloc),
-        bin: false,
-        location,
-    })
+    let kind = OpKind::Constant(Integer::NonNegative(number));
+    NewOp::of_type(alloc, kind, &[], ty, location)
 }

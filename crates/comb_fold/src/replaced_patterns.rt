@@ -1,5 +1,5 @@
 //! The patterns by which an operation and another one that made an operand of it, and has no other use, become a new one.
-ghost use Rattle.std.specs.Prelude.{◌≡◌, ◌≤◌, [], ◌∷◌, Some, length, map, option_map, IfOk, OnOk, OnErr};
+ghost use Rattle.std.specs.Prelude.{◌≡◌, ◌≤◌, [], ◌∷◌, true, Some, is_some, length, map, option_map, IfOk, OnOk, OnErr};
 ghost use Rattle.hw_model.specs.KindViews.{kind_of};
 ghost use Rattle.hw_model.specs.TypeViews.{type_of};
 ghost use Rattle.hw_model.specs.Value.{nth_type};
@@ -8,6 +8,7 @@ ghost use Rattle.ir_store.specs.OperationViews.{types_in};
 ghost use Rattle.ir_store.specs.declared.body.Body.{Body};
 ghost use Rattle.fold_laws.specs.Nested.{new_op, is_extract, is_concat, fold_extract_extract, fold_nested_concat};
 ghost use Rattle.body_edits.specs.FitBodies.{IsOfFit};
+ghost use Rattle.body_edits.specs.Folded.{IsFolded};
 ghost use Rattle.comb_fold.specs.Merges.{low_of, nested_in, TakesBoth, IsJoin, IsJoined};
 ghost use Rattle.body_edits.specs.Nests.{kind_test, nested_seen};
 ghost use Rattle.body_edits.specs.Replaceable.{HaveNoFurther};
@@ -28,47 +29,136 @@ use ir_store::operation::{NewOp, NewResult, NewResultList, OpId, TyList, Value};
 use smallvec::SmallVec;
 use std::alloc::{AllocError, Global};
 
+/// A pattern by which an operation and another one of such a kind, which made an operand of it, become a new one.
+pub trait Joining {
+    ghost use Rattle.std.specs.Prelude.{◌≡◌, Some, IfOk};
+    ghost use Rattle.fold_laws.specs.Edits.{FoldPattern};
+    ghost use Rattle.body_edits.specs.declared.nested.InnerKind.{InnerKind};
+    ghost use Rattle.body_edits.specs.FitBodies.{IsOfFit};
+    ghost use Rattle.body_edits.specs.Nests.{kind_test, nested_seen};
+    ghost use Rattle.body_edits.specs.Views.{HasOp, body_ops, position_in};
+    ghost use Rattle.comb_fold.specs.Merges.{nested_in, IsJoin};
+
+    // The pattern.
+    ghost pattern: { FoldPattern };
+
+    // The kinds of both operations.
+    ghost both: { InnerKind };
+
+    /// The kinds of both operations.
+    fn kinds() -> InnerKind
+        ensures { result ≡ both };
+
+    /// The operation in the place of both. The error comes where memory that is needed is refused.
+    fn joined(
+        alloc: Global,
+        body: &Body,
+        op: OpId,
+        nested: &NestedOp<'_>,
+    ) -> Result<NewOp, AllocError>
+        requires fit { IsOfFit body.now }
+        requires live { HasOp body.now op }
+        requires nested { Some (nested_seen body.now nested.now) ≡ nested_in (kind_test both) (body_ops body.now) (position_in body.now op) }
+        ensures { IfOk result (λ new. IsJoin pattern body.now (position_in body.now op) (position_in body.now nested.now.id) new) };
+}
+
+/// Whether an operation of such a kind has another one that made an operand of it and has no other use. It takes no memory.
+pub fn is_joined<J: Joining>(body: &Body, op: OpId) -> bool
+    requires fit { IsOfFit body.now }
+    requires live { HasOp body.now op }
+    ensures { result ≡ is_some (nested_in (kind_test J.both) (body_ops body.now) (position_in body.now op)) }
+{
+    nested_in(body, op, J::kinds()).is_some()
+}
+
+/// Puts the operation in the place of both. On an error, which comes where memory that is needed is refused, the operations
+/// stay.
+pub fn join_both<J: Joining>(alloc: Global, body: &mut Body, op: OpId) -> Result<(), AllocError>
+    requires fit { IsOfFit body.old }
+    requires live { HasOp body.old op }
+    requires matches { is_some (nested_in (kind_test J.both) (body_ops body.old) (position_in body.old op)) ≡ true }
+    ensures folded { OnOk result (IsFolded J.pattern body.old body.new (position_in body.old op)) }
+    ensures kept { OnErr result (ops_of body.new ≡ ops_of body.old) }
+{
+    match nested_in(body, op, J::kinds()) {
+        Some(nested) => {
+            let new = J::joined(alloc, body, op, &nested)?;
+            let inner = nested.id;
+            replace_both(body, op, inner, new)
+        }
+        None => unreachable!(),
+    }
+}
+
 /// An extract of an extract with one use becomes one extract.
 pub struct F28;
+
+impl Joining for F28 {
+    ghost use Rattle.body_edits.specs.declared.nested.InnerKind.TheVariants.{Extract};
+
+    ghost pattern = { fold_extract_extract };
+
+    ghost both = { Extract };
+
+    fn kinds() -> InnerKind {
+        InnerKind::Extract
+    }
+
+    fn joined(
+        alloc: Global,
+        body: &Body,
+        op: OpId,
+        nested: &NestedOp<'_>,
+    ) -> Result<NewOp, AllocError> {
+        joined_extract(alloc, body, op, nested)
+    }
+}
 
 impl Pattern for F28 {
     ghost change = { fold_extract_extract };
 
     fn matches(body: &Body, op: OpId) -> bool {
-        nested_in(body, op, InnerKind::Extract).is_some()
+        is_joined::<F28>(body, op)
     }
 
     fn apply(alloc: Global, body: &mut Body, op: OpId) -> Result<(), AllocError> {
-        match nested_in(body, op, InnerKind::Extract) {
-            Some(nested) => {
-                let new = joined_extract(alloc, body, op, &nested)?;
-                let inner = nested.id;
-                replace_both(body, op, inner, new)
-            }
-            None => unreachable!(),
-        }
+        join_both::<F28>(alloc, body, op)
     }
 }
 
 /// A concat takes the operands of the first operand's concat with one use.
 pub struct F30;
 
+impl Joining for F30 {
+    ghost use Rattle.body_edits.specs.declared.nested.InnerKind.TheVariants.{Concat};
+
+    ghost pattern = { fold_nested_concat };
+
+    ghost both = { Concat };
+
+    fn kinds() -> InnerKind {
+        InnerKind::Concat
+    }
+
+    fn joined(
+        alloc: Global,
+        body: &Body,
+        op: OpId,
+        nested: &NestedOp<'_>,
+    ) -> Result<NewOp, AllocError> {
+        joined_concat(alloc, body, op, nested)
+    }
+}
+
 impl Pattern for F30 {
     ghost change = { fold_nested_concat };
 
     fn matches(body: &Body, op: OpId) -> bool {
-        nested_in(body, op, InnerKind::Concat).is_some()
+        is_joined::<F30>(body, op)
     }
 
     fn apply(alloc: Global, body: &mut Body, op: OpId) -> Result<(), AllocError> {
-        match nested_in(body, op, InnerKind::Concat) {
-            Some(nested) => {
-                let new = joined_concat(alloc, body, op, &nested)?;
-                let inner = nested.id;
-                replace_both(body, op, inner, new)
-            }
-            None => unreachable!(),
-        }
+        join_both::<F30>(alloc, body, op)
     }
 }
 

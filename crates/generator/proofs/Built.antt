@@ -1,5 +1,6 @@
 -- Operations and modules that are built in code, part by part.
-use Rattle.std.proofs.Common.{◌≡◌, ℕ, ◌+◌, ◌*◌, false, nat_lt, List, [], ◌∷◌, ◌++◌, map, length, refl, ap₂, rules}
+use Rattle.std.proofs.Common.{◌≡◌, ℕ, ◌+◌, ◌*◌, nat_lt, List, [], ◌∷◌, ◌++◌, map, length, Result as Either, Ok, Err, refl, ap₂, ◌∙◌, rules}
+use Rattle.std.specs.Prelude.{IfOk}
 use Rattle.hw_model.specs.Types.{Name, HwType}
 use Rattle.hw_model.specs.Types.HwType.{int, clock}
 use Rattle.hw_model.specs.TypeViews.{type_of}
@@ -8,6 +9,7 @@ use Rattle.hw_model.specs.Kinds.{Kind, Instance}
 use Rattle.hw_model.specs.Kinds.Kind.{instance}
 use Rattle.hw_model.specs.Design.{Location, Entry, Port, Op}
 use Rattle.hw_model.specs.Design.Ref.{port}
+use Rattle.ir_store.specs.declared.operation.NewOp.{NewOp}
 use Rattle.ir_store.specs.declared.operation.Value.{Value}
 use Rattle.ir_store.specs.declared.operation.Value.TheVariants.{Result}
 use Rattle.ir_store.specs.Bodies.{op_id}
@@ -15,7 +17,8 @@ use Rattle.ir_store.specs.BodyOps.{BodyOp, ids_in}
 use Rattle.ir_store.specs.Designs.{numbered_module}
 use Rattle.ir_store.specs.Numbered.{ref_by, op_by, ops_by_position}
 use Rattle.generator.specs.Generated.{word, first_location, generated_ports, module_symbol, word_op, instance_of_module, instance_op, first_ops, last_ops, generated_module}
-use Rattle.generator.specs.Views.{numbers_from}
+use Rattle.ir_store.specs.OperationViews.{new_parts, typed_parts}
+use Rattle.generator.specs.Views.{op_seen, numbers_from}
 use Rattle.generator.proofs.NumberedBodies.{placed_ops}
 
 -- ---- types
@@ -35,11 +38,13 @@ types_seen =
 -- ---- parts
 
 -- an operation with a result
-pub word_built : (kind : Kind) (vs ws : List Value) (t : HwType) (name : Name) (entries : List Entry) (location : Location) → vs ≡ ws → t ≡ word → name ≡ [] → entries ≡ []
-    → location ≡ first_location
-    → record (word_op kind (map (ref_by (λ i. i)) vs)) { types = t ∷ []; results = record { type = t; again = false } ∷ []; name = name; dictionary = entries; location = location }
-    ≡ word_op kind (map (ref_by (λ i. i)) ws)
-word_built kind vs ws t name entries location operands type named empty at = rw (operands, type, named, empty, at) refl
+pub word_seen : {E : Type 0} (r : Either NewOp E) (kind : Kind) (t : HwType) (operands : List Value) (location : Location) → t ≡ word → location ≡ first_location
+    → IfOk r (λ op. new_parts op ≡ typed_parts kind t location) → IfOk r (λ op. op.operands.items ≡ operands)
+    → IfOk r (λ op. op_seen op ≡ word_op kind (map (ref_by (λ i. i)) operands))
+word_seen (Ok op) kind t operands location type at parts given =
+    ap₂ (λ p os. op_by (λ i. i) (record { id = 0; parts = p; operands = os })) parts given
+    ∙ ap₂ (λ x y. op_by (λ i. i) (record { id = 0; parts = typed_parts kind x y; operands = operands })) type at
+word_seen (Err e) kind t operands location type at parts given = tt
 
 -- an instance
 pub instance_built : (o : Op) (i : Instance) (j : ℕ) (v w : Value) (ts : List HwType) → o ≡ word_op (instance i) (port 0 ∷ port 1 ∷ ref_by (λ i. i) v ∷ ref_by (λ i. i) w ∷ [])

@@ -14,9 +14,7 @@ use diag::refusal::Location;
 use hw_model::kinds::{Instance, Integer, OpKind, Reset};
 use hw_model::types::Ty;
 use io_edge::byte_text::Text;
-use ir_store::dictionary::Dictionary;
-use ir_store::operation::{NewOp, NewResult, NewResultList, OpId, TyList, Value};
-use smallvec::SmallVec;
+use ir_store::operation::{NewOp, NewResultList, OpId, TyList, Value};
 use std::alloc::{AllocError, Global};
 
 /// How many bits values have.
@@ -103,20 +101,7 @@ fn chosen_kind(number: u32) -> OpKind
 fn word_op(alloc: Global, kind: OpKind, operands: &[Value]) -> Result<NewOp, AllocError>
     ensures { IfOk result (λ op. op_seen op ≡ word_op (kind_of kind) (map (ref_by (λ i. i)) operands.now)) }
 {
-    Ok(NewOp {
-        kind,
-        operands: SmallVec::from_slice(alloc, operands)?,
-        types: TyList::One(Ty::Int(WIDTH)),
-        results: NewResultList::One(NewResult {
-            ty: Ty::Int(WIDTH),
-            again: false,
-        }),
-        named: 1,
-        name: Text::new(alloc),
-        dictionary: Dictionary::new(alloc),
-        bin: false,
-        location: Location::start(),
-    })
+    NewOp::of_type(alloc, kind, operands, &Ty::Int(WIDTH), Location::start())
 }
 
 /// The register.

@@ -15,12 +15,9 @@ use crate::renamed_ops::renamed_op;
 use diag::refusal::Location;
 use hw_model::kinds::OpKind;
 use hw_model::types::Ty;
-use io_edge::byte_text::Text;
 use ir_store::body::Body;
 use ir_store::design::PortList;
-use ir_store::dictionary::Dictionary;
-use ir_store::operation::{NewOp, NewResult, NewResultList, OpId, TyList, Value};
-use smallvec::SmallVec;
+use ir_store::operation::{NewOp, NewResultList, OpId, Value};
 use std::alloc::{AllocError, Global};
 
 /// What stands in the place of an instance of a module.
@@ -125,20 +122,7 @@ pub(crate) fn wires_for(
 fn wire_for(alloc: Global, ty: &Ty, value: Value, location: Location) -> Result<NewOp, AllocError>
     ensures { IfOk result (λ wire. without_id wire ≡ wire_of (location_of location) (type_of ty.now) value) }
 {
-    Ok(NewOp {
-        kind: OpKind::Wire,
-        operands: SmallVec::from_slice(alloc, &[value])?,
-        types: TyList::One(ty.try_clone(alloc)?),
-        results: NewResultList::One(NewResult {
-            ty: ty.try_clone(alloc)?,
-            again: false,
-        }),
-        named: 1,
-        name: Text::new(alloc),
-        dictionary: Dictionary::new(alloc),
-        bin: false,
-        location,
-    })
+    NewOp::of_type(alloc, OpKind::Wire, &[value], ty, location)
 }
 
 impl<'a> Places<'a> {

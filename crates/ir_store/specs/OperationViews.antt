@@ -1,5 +1,5 @@
 -- What values of the parts of an operation stand for.
-use Rattle.std.specs.Prelude.{ℕ, Bool, List, map}
+use Rattle.std.specs.Prelude.{ℕ, Bool, false, List, [], ◌∷◌, map}
 use Rattle.hw_model.specs.Types.{Name, HwType}
 use Rattle.hw_model.specs.Kinds.{Kind}
 use Rattle.hw_model.specs.TypeViews.{type_of}
@@ -65,4 +65,17 @@ new_parts o = record {
   dictionary = entries_in o.dictionary;
   bin = o.bin;
   location = location_of o.location;
+}
+
+-- an operation with one result, of the type that is written; without a name, a dictionary and the mark `bin`
+abbrev pub typed_parts : Kind → HwType → HwLocation → OpParts
+typed_parts kind type location = record {
+  kind = kind;
+  types = type ∷ [];
+  results = record { type = type; again = false } ∷ [];
+  named = 1;
+  name = [];
+  dictionary = [];
+  bin = false;
+  location = location;
 }

@@ -1,7 +1,9 @@
 //! The parts of an operation.
 ghost use Rattle.std.specs.Prelude.{◌≡◌, map, length, IfOk};
 ghost use Rattle.ir_store.specs.BodyOps.{same_value, is_of};
-ghost use Rattle.ir_store.specs.OperationViews.{types_in, result_of, results_in, parts_of, new_parts};
+ghost use Rattle.hw_model.specs.KindViews.{kind_of};
+ghost use Rattle.hw_model.specs.TypeViews.{type_of};
+ghost use Rattle.ir_store.specs.OperationViews.{location_of, types_in, result_of, results_in, parts_of, new_parts, typed_parts};
 
 use crate::dictionary::Dictionary;
 use crate::short_list::ShortList;
@@ -97,6 +99,34 @@ pub struct Parts {
 }
 
 impl NewOp {
+    /// An operation with one result, of the type that is written; without a name, a dictionary and the mark `bin`. The error
+    /// comes only when out of memory.
+    pub fn of_type(
+        alloc: Global,
+        kind: OpKind,
+        operands: &[Value],
+        ty: &Ty,
+        location: Location,
+    ) -> Result<NewOp, AllocError>
+        ensures parts { IfOk result (λ op. new_parts op ≡ typed_parts (kind_of kind) (type_of ty.now) (location_of location)) }
+        ensures operands { IfOk result (λ op. op.operands.items ≡ operands.now) }
+    {
+        Ok(NewOp {
+            kind,
+            operands: SmallVec::from_slice(alloc, operands)?,
+            types: TyList::One(ty.try_clone(alloc)?),
+            results: NewResultList::One(NewResult {
+                ty: ty.try_clone(alloc)?,
+                again: false,
+            }),
+            named: 1,
+            name: Text::new(alloc),
+            dictionary: Dictionary::new(alloc),
+            bin: false,
+            location,
+        })
+    }
+
     /// The parts besides the operands. It takes no memory.
     pub(crate) fn into_parts(self) -> Parts
         ensures { parts_of result ≡ new_parts self }

@@ -1,5 +1,5 @@
 -- Rules of tests and choices, one step after another.
-use Rattle.std.proofs.Common.{◌≡◌, ℕ, zero, suc, ◌+◌, ◌-◌, ◌<◌, List, [], ◌∷◌, ◌++◌, pos, refl, sym, ap, ap₂, ◌∙◌, arith, append_assoc}
+use Rattle.std.proofs.Common.{◌≡◌, ℕ, zero, suc, ◌+◌, ◌-◌, ◌<◌, List, [], ◌∷◌, ◌++◌, pos, refl, sym, ap, ap₂, ◌∙◌, arith, append_assoc, ◌≤◌, length, mod-eq_of_lt}
 use Rattle.std.specs.Prelude.{◌%◌}
 use Rattle.hw_model.specs.Types.{HwType}
 use Rattle.hw_model.specs.Kinds.Kind.{mux, constant}
@@ -68,6 +68,28 @@ get_same o test n n' m m' next next' rs rs' ts ts' a b c d e =
     ap₂ (λ x y. leaf_choices o test (element_leaf x y rs) (λ l. x) next 0 ts) a b
     ∙ ap (λ x. leaf_choices o test (element_leaf n' m' x) (λ l. n') next 0 ts) c
     ∙ ap₂ (λ x y. leaf_choices o test (element_leaf n' m' rs') (λ l. n') x 0 y) d e
+
+-- a part of one element takes each leaf of the elements from the first on
+pub one_part : (o : Op) (test : ℕ → Ref) (n m : ℕ) (rs : List Ref) (start l : ℕ) (ts : List HwType) → l + length ts ≤ m
+    → leaf_choices o test (λ i e. element_leaf n m rs (i % m) (e + element_of 1 m i)) (λ i. n - element_of 1 m i) start l ts ≡ leaf_choices o test (element_leaf n m rs) (λ i. n) start l ts
+one_part o test n m rs start l [] within = refl
+one_part o test n m rs start l (t ∷ ts) within =
+    ap (λ os. made_op o (constant (pos 0)) [] (t ∷ []) [] t ∷ os)
+    (ap₂ (λ a b. a ++ b)
+    (choices_same o t test (λ e. element_leaf n m rs (l % m) (e + element_of 1 m l)) (element_leaf n m rs l) start (n - element_of 1 m l)
+    (λ e. let same : e + element_of 1 m l ≡ e = omega (arith, none) in ap₂ (element_leaf n m rs) own same)
+    ∙ ap (choices o t test (element_leaf n m rs l) start) size)
+    (ap (λ k. leaf_choices o test (λ i e. element_leaf n m rs (i % m) (e + element_of 1 m i)) (λ i. n - element_of 1 m i) (start + suc k) (suc l) ts) size
+    ∙ one_part o test n m rs (start + suc n) (suc l) ts (omega (arith, within))))
+  where
+    none : element_of 1 m l ≡ 0
+    none = omega arith
+
+    own : l % m ≡ l
+    own = mod-eq_of_lt (omega (arith, within))
+
+    size : n - element_of 1 m l ≡ n
+    size = omega (arith, none)
 
 pub slice_same : (o : Op) (test : ℕ → Ref) (n n' m m' k k' next next' : ℕ) (rs rs' : List Ref) (ts ts' : List HwType) → n ≡ n' → m ≡ m' → k ≡ k' → rs ≡ rs' → next ≡ next' → ts ≡ ts'
     → leaf_choices o test (λ l e. element_leaf n m rs (l % m) (e + element_of k m l)) (λ l. n - element_of k m l) next 0 ts

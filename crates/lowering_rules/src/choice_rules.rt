@@ -38,7 +38,8 @@ pub struct Elements<'v> {
     pub tests: u32,
 }
 
-/// `hw.array_get`: the tests of the index, and for each leaf multiplexers among the elements. They begin at a position.
+/// `hw.array_get`: the tests of the index, and for each leaf multiplexers among the elements, as for a part of one element. They
+/// begin at a position.
 pub fn put_get(
     alloc: Global,
     made: &mut Vec<NewOp>,
@@ -60,27 +61,7 @@ pub fn put_get(
     let width = index_width_of(op)?;
     put_tests(alloc, made, op, width, index, start, elements.length)?;
     let next = sum(start, sum(elements.length, elements.length)?)?;
-    put_all_choices(alloc, made, op, leaves, elements, next)
-}
-
-// For each leaf multiplexers among the elements, beginning at a position.
-fn put_all_choices(
-    alloc: Global,
-    made: &mut Vec<NewOp>,
-    op: &Op<'_>,
-    leaves: &[Ty],
-    elements: Elements<'_>,
-    start: u32,
-) -> Result<(), AllocError>
-    ensures { OnOk result (made_in made.new.items ≡ made_in made.old.items ++ leaf_choices (plain_of op.now) (test_at elements.entry.tests) (element_leaf elements.entry.length elements.entry.leaves (new_refs elements.entry.values.now)) (λ l. elements.entry.length) start 0 (map type_of leaves.now)) }
-{
-    let mut next = start;
-    for (number, ty) in leaves.iter().enumerate() {
-        let leaf = count_of(number)?;
-        put_choices(alloc, made, op, ty, elements, leaf, 0, next)?;
-        next = sum(next, sum(elements.length, 1)?)?;
-    }
-    Ok(())
+    put_part_choices(alloc, made, op, leaves, elements, 1, next)
 }
 
 /// `hw.array_slice`: the tests of the index, and for each leaf multiplexers among the elements from its own one on. They begin at a

@@ -13,6 +13,8 @@ use Rattle.lowering_rules.proofs.choice_rules.put_injections.Given as goal
 abbrev pub invariant-loop-number : goal.invariant-loop-number
 invariant-loop-number l =
     made_in l.made.items
-    ++ for_each (λ i t. made_op (plain_of l.op) mux (test_at l.start (element_of l.length l.own i) ∷ part (argument 2 (arguments_of l.arguments)) (i % l.own) ∷ part (argument 0 (arguments_of l.arguments)) i ∷ []) (t ∷ []) [] t) l.number (map type_of (drop l.number l.leaves))
+    ++ for_each (λ i t. made_op (plain_of l.op) mux (test_at l.start (element_of l.length l.own i) ∷ part (argument 2 (arguments_of l.arguments)) (i % l.own)
+    ∷ part (argument 0 (arguments_of l.arguments)) i ∷ []) (t ∷ []) [] t) l.number (map type_of (drop l.number l.leaves))
     ≡ made_in l.fn.made.items
-    ++ for_each (λ i t. made_op (plain_of l.op) mux (test_at l.start (element_of l.length l.own i) ∷ part (argument 2 (arguments_of l.arguments)) (i % l.own) ∷ part (argument 0 (arguments_of l.arguments)) i ∷ []) (t ∷ []) [] t) 0 (map type_of l.leaves)
+    ++ for_each (λ i t. made_op (plain_of l.op) mux (test_at l.start (element_of l.length l.own i) ∷ part (argument 2 (arguments_of l.arguments)) (i % l.own)
+    ∷ part (argument 0 (arguments_of l.arguments)) i ∷ []) (t ∷ []) [] t) 0 (map type_of l.leaves)

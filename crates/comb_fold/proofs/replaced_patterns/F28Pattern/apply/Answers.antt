@@ -1,18 +1,7 @@
-use Rattle.std.proofs.lemmas.Result.{on_ok_weaker}
-use Rattle.body_edits.specs.declared.nested.InnerKind.TheVariants.{Extract}
-use Rattle.fold_laws.specs.Nested.{fold_extract_extract}
-use Rattle.body_edits.specs.Nests.{nested_seen}
-use Rattle.body_edits.specs.Views.{position_in}
-use Rattle.comb_fold.proofs.JoinPatterns.{found_alone, join_folded}
+use Rattle.std.proofs.Common.{◌∙◌}
+use Rattle.body_edits.specs.Views.{body_ops, position_in}
+use Rattle.comb_fold.proofs.JoinPatterns.{extract_matches}
 use Rattle.comb_fold.proofs.replaced_patterns.F28Pattern.apply.Goals as goal
 
-pub replace_both-requires-clause-alone : goal.replace_both-requires-clause-alone
-replace_both-requires-clause-alone c =
-    found_alone c.args.body.now c.requires.fit Extract (position_in c.args.body.now c.args.op) (nested_seen c.args.body.now c.in-Some.nested) c.in-Some.ensures
-
-pub returns-clause-folded : goal.returns-clause-folded
-returns-clause-folded c =
-    on_ok_weaker c.replace_both.result
-    (join_folded fold_extract_extract c.args.body.now c.replace_both.new.body (position_in c.args.body.now c.args.op) (position_in c.args.body.now c.in-Some.nested.id) c.in_ok-new-in-Some.new
-    c.in_ok-new-in-Some.ensures)
-    c.replace_both.ensures.joined
+pub join_both-requires-clause-matches : goal.join_both-requires-clause-matches
+join_both-requires-clause-matches c = extract_matches (body_ops c.args.body.now) (position_in c.args.body.now c.args.op) ∙ c.requires.matches
