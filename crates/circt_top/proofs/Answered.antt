@@ -112,6 +112,7 @@ reprint_whole passes bytes source text same is = record {
   result = is.result;
   partners = is.partners;
   said_again = is.said_again;
+  partners_again = is.partners_again;
   laid_out = is.laid_out;
 }
 

@@ -67,7 +67,7 @@ no_usage words read_fault h none = ap fault_in h
 no_usage words write_fault h none = ap fault_in h
 no_usage words no_memory h none = tt
 
-module _ (words : List Name) (p : Command) (told : Told) (R W : Type 0) (D F : (List ℕ) → Type 0) (h : line words ≡ Ok p) (contents : List (List ℕ)) (are : AreContents told p.inputs contents) where
+module _ (words : List Name) (p : Command) (told : Told) (R W : Type 0) (D F : Verdict → List ℕ → Type 0) (h : line words ≡ Ok p) (contents : List (List ℕ)) (are : AreContents told p.inputs contents) where
   usage_gone : (kind : UsageKind) → fault_of words ≡ Some kind → ⊥
   usage_gone kind e = let none : None ≡ Some kind = sym (ap fault_in h) ∙ e in cc
 
@@ -80,8 +80,8 @@ module _ (words : List Name) (p : Command) (told : Told) (R W : Type 0) (D F : (
   complete write_fault wrong refuses read write answer no_read no_write = no_write write
   complete no_memory wrong refuses read write answer no_read no_write = tt
 
-  pub refusing : (end : End) → IsUsage end (fault_of words) → OnReadFault end R → OnAnswered end (λ verdict. (text : List ℕ) × D text × IsMadeOf p told verdict text)
-      → OnWriteFault end ((verdict : Verdict) × (text : List ℕ) × F text × IsMadeOf p told verdict text) → ¬ IsAnswered p.work contents → ¬ R → IsRefusedOrNoMemory end
+  pub refusing : (end : End) → IsUsage end (fault_of words) → OnReadFault end R → OnAnswered end (λ verdict. (text : List ℕ) × D verdict text × IsMadeOf p told verdict text)
+      → OnWriteFault end ((verdict : Verdict) × (text : List ℕ) × F verdict text × IsMadeOf p told verdict text) → ¬ IsAnswered p.work contents → ¬ R → IsRefusedOrNoMemory end
   refusing (usage kind) wrong read done prefix outside no_read = usage_gone kind wrong
   refusing (answered verdict) wrong read done prefix outside no_read = outside (made_answered p.work contents verdict done.0 (done.2 contents are))
   refusing (refused r) wrong read done prefix outside no_read = tt

@@ -8,6 +8,7 @@ mod Subjects
 pub mod Answers
 pub mod Within
 mod Partners
+mod SourceBehaviour
 pub mod OutcomeParts
 pub mod Cuts
 mod CutAgain

@@ -31,6 +31,7 @@ use Rattle.circt_top.specs.Accepting.{Accepted, unaccepted}
 use Rattle.circt_top.specs.Accepting.{unread as unread_text}
 use Rattle.circt_top.specs.OutcomeParts.{IsTaken, IsPrinted, read_failure, verify_failure}
 use Rattle.circt_top.proofs.Partners.{partners}
+use Rattle.circt_top.proofs.SourceBehaviour.{partners_again, behaves_as_source}
 use Rattle.circt_top.specs.Translation.{IsTranslatedFrom, exported_passes}
 use Rattle.circt_top.specs.Reprint.{IsReprint, IsSaidAgain}
 
@@ -70,13 +71,15 @@ module _ (printing : PrintingLaws) (designs : DesignLaws) (results : ResultLaws)
   pub reprinted : (passes : List Pass) (text : List ℕ) → IsPrinted passes d text → IsReprint passes source text
   reprinted passes text is =
       let after : IsAfter passes d is.made = results.after passes d is.made accepted.accepted printable is.result in
+      let again : IsSaidAgain is.made text = subst (IsSaidAgain is.made) (sym is.is) (said_again is.made after.accepted after.printable) in
       record {
         design = d;
         accepted = accepted;
         made = is.made;
         result = is.result;
         partners = partners passes d is.made accepted.accepted after;
-        said_again = subst (IsSaidAgain is.made) (sym is.is) (said_again is.made after.accepted after.printable);
+        said_again = again;
+        partners_again = partners_again passes d is.made again.again (partners passes d is.made accepted.accepted after) again.same again.behaves;
         laid_out = is.is;
       }
 
@@ -100,12 +103,15 @@ pub exported : ExportLaws → ResultLaws → (passes : List Pass) (d f : Design)
     → (text : List ℕ) → text ≡ verilog_text f → IsTranslatedFrom passes d f text
 exported laws results passes d f accepted shown all none room text laid =
     let after : IsAfter (exported_passes passes) d f = results.after (exported_passes passes) d f accepted shown all in
+    let kept = partners (exported_passes passes) d f accepted after in
+    let behaves : BehavesAs text f = subst (λ t. BehavesAs t f) (sym laid) (laws.behaves f (laws.exportable f after.accepted none room)) in
     record {
       translated = record {
+        behaves_as_source = behaves_as_source (exported_passes passes) d f text kept behaves;
         made = f;
         result = all;
-        partners = partners (exported_passes passes) d f accepted after;
-        behaves = subst (λ t. BehavesAs t f) (sym laid) (laws.behaves f (laws.exportable f after.accepted none room));
+        partners = kept;
+        behaves = behaves;
         laid_out = laid;
       };
       made_is = refl;

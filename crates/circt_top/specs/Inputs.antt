@@ -72,9 +72,9 @@ module _ {F : Type 0} (reads : F → Name → ℕ → Result (List ℕ) FileFail
   HasRead before [] (source ∷ sources) after = ⊥
   HasRead before (name ∷ names) [] after = ⊥
 
-  -- the files of these names were read so, and what follows holds of the files after that
-  abbrev pub ReadsThen : F → List Name → (F → Type 0) → Type 0
-  ReadsThen before names Follows = (after : F) × (sources : List (List ℕ)) × HasRead before names sources after × Follows after
+  -- the files of these names were read so, and what follows holds of the files after that and of what was read
+  abbrev pub ReadsThen : F → List Name → (F → List (List ℕ) → Type 0) → Type 0
+  ReadsThen before names Follows = (after : F) × (sources : List (List ℕ)) × HasRead before names sources after × Follows after sources
 
 -- ---- one of them, by its number
 

@@ -12,6 +12,7 @@ pub mod Outcome
 pub mod Delivery
 pub mod Accepting
 pub mod Reprint
+pub mod SourceBehaviour
 pub mod Pieces
 pub mod PieceReprint
 pub mod PieceViews

@@ -73,12 +73,12 @@ module _ {F : Type 0} (reads : F → Name → ℕ → Result (List ℕ) FileFail
   -- memory, the first few or all; else all
   abbrev pub ReadsAt : End → Command → F → F → Type 0
   ReadsAt (usage kind) c before after = after ≡ before
-  ReadsAt (answered verdict) c before after = ReadsThen reads files before c.inputs (λ opened. WritesAt writes (answered verdict) c.output opened after)
-  ReadsAt (refused r) c before after = ReadsThen reads files before c.inputs (λ opened. WritesAt writes (refused r) c.output opened after)
+  ReadsAt (answered verdict) c before after = ReadsThen reads files before c.inputs (λ opened sources. WritesAt writes (answered verdict) c.output opened after)
+  ReadsAt (refused r) c before after = ReadsThen reads files before c.inputs (λ opened sources. WritesAt writes (refused r) c.output opened after)
   ReadsAt read_fault c before after = (name : Name) × StopsAt reads files before c.inputs name fail.Failed after
-  ReadsAt write_fault c before after = ReadsThen reads files before c.inputs (λ opened. WritesAt writes write_fault c.output opened after)
+  ReadsAt write_fault c before after = ReadsThen reads files before c.inputs (λ opened sources. WritesAt writes write_fault c.output opened after)
   ReadsAt no_memory c before after =
-      StopsFor reads files NoMemory before c.inputs after ⊎ ReadsThen reads files before c.inputs (λ opened. WritesAt writes no_memory c.output opened after)
+      StopsFor reads files NoMemory before c.inputs after ⊎ ReadsThen reads files before c.inputs (λ opened sources. WritesAt writes no_memory c.output opened after)
 
   -- what is read and then written at an end for words: nothing where they are no command
   pub record ReadsFor (words : List Name) (end : End) (before after : F) : Type 0 where

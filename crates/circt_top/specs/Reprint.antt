@@ -32,5 +32,7 @@ pub record IsReprint (passes : List Pass) (bytes text : List ℕ) : Type 0 where
   pub result : IsResult passes design made
   pub partners : HasPartners passes design made
   pub said_again : IsSaidAgain made text
+  -- each public module of the input has its partner in what the text says
+  pub partners_again : HasPartners passes design said_again.again
   -- and it is laid out so
   pub laid_out : text ≡ ir_text made

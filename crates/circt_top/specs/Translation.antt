@@ -9,14 +9,16 @@ use Rattle.pass_pipeline.specs.declared.pass.Pass.TheVariants.{HwLowerAggregates
 use Rattle.pass_manager.specs.Results.{IsResult}
 use Rattle.circt_top.specs.Accepting.{Accepted}
 use Rattle.circt_top.specs.Partners.{HasPartners}
+use Rattle.circt_top.specs.SourceBehaviour.{BehavesAsSource}
 
 -- the passes before an export: those that are asked for, and then aggregates are lowered
 abbrev pub exported_passes : List Pass → List Pass
 exported_passes passes = passes ++ HwLowerAggregates ∷ []
 
--- the text is the Verilog of what those make of the design: each public module of the design has its partner there, and the text
--- behaves as each public module of it
+-- the text behaves as the public modules of the design, and it is the Verilog of what those make of it: each public module of the
+-- design has its partner there, and the text behaves as each public module of that
 pub record IsTranslated (passes : List Pass) (design : Design) (text : List ℕ) : Type 0 where
+  pub behaves_as_source : BehavesAsSource (exported_passes passes) design text
   pub made : Design
   pub result : IsResult (exported_passes passes) design made
   pub partners : HasPartners (exported_passes passes) design made

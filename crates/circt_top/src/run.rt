@@ -66,12 +66,13 @@ pub fn run_circt<R: Threads + Sync, F: Files, O: Sink, E: Sink, G: Gate + Sync>(
 ) -> Status
     ensures usage { IsUsage (end_of result) (fault_of (map string_bytes words.now)) }
     ensures refused { OnRefused (end_of result) (λ r. ForCommand (map string_bytes words.now) (λ c. IsRefusalOf c (F.files files.old) r)) }
+    ensures refused_as_read { OnRefused (end_of result) (λ r. ForCommand (map string_bytes words.now) (λ c. ReadsThen F.reads F.files files.old c.inputs (λ opened sources. IsAnswer c.work sources (refuses r)))) }
     ensures read_fault { OnReadFault (end_of result) (ForCommand (map string_bytes words.now) (λ c. IsOneRisen (F.read_faults files.old) (F.read_faults files.new) c.inputs)) }
     ensures write_fault { OnWriteFault (end_of result) (ForCommand (map string_bytes words.now) (λ c. HasOutputFault c.output (O.faults out.old) (O.faults out.new) (F.write_faults files.old) (F.write_faults files.new))) }
     ensures unwritten { Unwritten (end_of result) ((out.new ≡ out.old) × (F.files files.new ≡ F.files files.old)) }
     ensures read_once { ReadsFor F.reads F.files F.writes (map string_bytes words.now) (end_of result) files.old files.new }
-    ensures done { OnAnswered (end_of result) (λ verdict. ForCommand (map string_bytes words.now) (λ c. (text : List ℕ) × ReadsThen F.reads F.files files.old c.inputs (λ opened. Delivers F.writes F.files O.puts O.told c.output opened files.new out.old out.new text) × IsMadeOf c (F.files files.old) verdict text)) }
-    ensures prefix { OnWriteFault (end_of result) (ForCommand (map string_bytes words.now) (λ c. (verdict : Verdict) × (text : List ℕ) × ReadsThen F.reads F.files files.old c.inputs (λ opened. DeliversPrefix F.writes F.files O.puts O.told c.output opened files.new out.old out.new text) × IsMadeOf c (F.files files.old) verdict text)) }
+    ensures done { OnAnswered (end_of result) (λ verdict. ForCommand (map string_bytes words.now) (λ c. (text : List ℕ) × ReadsThen F.reads F.files files.old c.inputs (λ opened sources. Delivers F.writes F.files O.puts O.told c.output opened files.new out.old out.new text × IsAnswer c.work sources (prints verdict text)) × IsMadeOf c (F.files files.old) verdict text)) }
+    ensures prefix { OnWriteFault (end_of result) (ForCommand (map string_bytes words.now) (λ c. (verdict : Verdict) × (text : List ℕ) × ReadsThen F.reads F.files files.old c.inputs (λ opened sources. DeliversPrefix F.writes F.files O.puts O.told c.output opened files.new out.old out.new text × IsAnswer c.work sources (prints verdict text)) × IsMadeOf c (F.files files.old) verdict text)) }
     ensures complete { (c : _) → line (map string_bytes words.now) ≡ Ok c → (contents : List (List ℕ)) → AreContents (F.files files.old) c.inputs contents → IsAnswered c.work contents
         → ¬ IsOneRisen (F.read_faults files.old) (F.read_faults files.new) c.inputs
         → ¬ HasOutputFault c.output (O.faults out.old) (O.faults out.new) (F.write_faults files.old) (F.write_faults files.new)
@@ -109,12 +110,13 @@ fn run_on<R: Threads + Sync, F: Files, O: Sink, E: Sink, G: Gate + Sync>(
     gate: &G,
 ) -> Status
     ensures refused { OnRefused (end_of result) (IsRefusalOf (command_of invocation.now) (F.files files.old)) }
+    ensures refused_as_read { OnRefused (end_of result) (λ r. ReadsThen F.reads F.files files.old (command_of invocation.now).inputs (λ opened sources. IsAnswer (command_of invocation.now).work sources (refuses r))) }
     ensures read_fault { OnReadFault (end_of result) (IsOneRisen (F.read_faults files.old) (F.read_faults files.new) (command_of invocation.now).inputs) }
     ensures write_fault { OnWriteFault (end_of result) (HasOutputFault (command_of invocation.now).output (O.faults out.old) (O.faults out.new) (F.write_faults files.old) (F.write_faults files.new)) }
     ensures unwritten { Unwritten (end_of result) ((out.new ≡ out.old) × (F.files files.new ≡ F.files files.old)) }
     ensures read_once { ReadsAt F.reads F.files F.writes (end_of result) (command_of invocation.now) files.old files.new }
-    ensures done { OnAnswered (end_of result) (λ verdict. (text : List ℕ) × ReadsThen F.reads F.files files.old (command_of invocation.now).inputs (λ opened. Delivers F.writes F.files O.puts O.told (command_of invocation.now).output opened files.new out.old out.new text) × IsMadeOf (command_of invocation.now) (F.files files.old) verdict text) }
-    ensures prefix { OnWriteFault (end_of result) ((verdict : Verdict) × (text : List ℕ) × ReadsThen F.reads F.files files.old (command_of invocation.now).inputs (λ opened. DeliversPrefix F.writes F.files O.puts O.told (command_of invocation.now).output opened files.new out.old out.new text) × IsMadeOf (command_of invocation.now) (F.files files.old) verdict text) }
+    ensures done { OnAnswered (end_of result) (λ verdict. (text : List ℕ) × ReadsThen F.reads F.files files.old (command_of invocation.now).inputs (λ opened sources. Delivers F.writes F.files O.puts O.told (command_of invocation.now).output opened files.new out.old out.new text × IsAnswer (command_of invocation.now).work sources (prints verdict text)) × IsMadeOf (command_of invocation.now) (F.files files.old) verdict text) }
+    ensures prefix { OnWriteFault (end_of result) ((verdict : Verdict) × (text : List ℕ) × ReadsThen F.reads F.files files.old (command_of invocation.now).inputs (λ opened sources. DeliversPrefix F.writes F.files O.puts O.told (command_of invocation.now).output opened files.new out.old out.new text × IsAnswer (command_of invocation.now).work sources (prints verdict text)) × IsMadeOf (command_of invocation.now) (F.files files.old) verdict text) }
     ensures missing { IsOneMissing (F.files files.old) (command_of invocation.now).inputs → IsReadFaultOrNoMemory (end_of result) }
     ensures no_usage { usage_of (end_of result) ≡ None }
     ensures report { (s : answer.Subject) × IsSubject (IsFirstUnread F.reads F.files F.read_faults files.old files.new) (F.files files.old) (end_of result) (command_of invocation.now) s × Reports E.puts E.told E.faults err.old err.new (line_of s (end_of result)) }

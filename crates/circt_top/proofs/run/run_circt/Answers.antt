@@ -6,7 +6,8 @@ use Rattle.command_line.specs.Invocations.{command_of}
 use Rattle.circt_top.specs.Inputs.{IsOneMissing, IsOneRisen, ReadsThen}
 use Rattle.circt_top.specs.ReadOrder.{IsFirstUnread}
 use Rattle.circt_top.proofs.ReadOrder.{command_reads, stopped_reads}
-use Rattle.circt_top.specs.Outcome.{Verdict}
+use Rattle.circt_top.specs.Outcome.{Verdict, IsAnswer}
+use Rattle.circt_top.specs.Outcome.Answer.{prints, refuses}
 use Rattle.circt_top.specs.Delivery.{HasOutputFault}
 use Rattle.circt_top.specs.Ends.{end_of, OnAnswered, OnRefused, OnReadFault, OnWriteFault, IsReadFaultOrNoMemory}
 use Rattle.circt_top.specs.Answer.{IsRefusalOf, IsMadeOf, Delivers, DeliversPrefix}
@@ -16,6 +17,17 @@ use Rattle.circt_top.proofs.run.run_circt.Goals as goal
 pub returns-in-Ok-clause-refused : goal.returns-in-Ok-clause-refused
 returns-in-Ok-clause-refused g c =
     refused_for (map string_bytes c.args.words.now) (command_of c.in-Ok.invocation) (λ p. IsRefusalOf p (g.F.Files.files c.args.files.now)) (end_of c.run_on.result) c.in-Ok.ensures c.run_on.ensures.refused
+
+pub returns-in-Ok-clause-refused_as_read : goal.returns-in-Ok-clause-refused_as_read
+returns-in-Ok-clause-refused_as_read g c =
+    refused_for (map string_bytes c.args.words.now) (command_of c.in-Ok.invocation) (λ p r. ReadsThen g.F.Files.reads g.F.Files.files c.args.files.now p.inputs (λ opened sources. IsAnswer p.work sources (refuses r)))
+    (end_of c.run_on.result) c.in-Ok.ensures c.run_on.ensures.refused_as_read
+
+pub returns-in-Err-Usage-clause-refused_as_read : goal.returns-in-Err-Usage-clause-refused_as_read
+returns-in-Err-Usage-clause-refused_as_read g c = rw c.stop.ensures.status tt
+
+pub returns-in-Err-NoMemory-clause-refused_as_read : goal.returns-in-Err-NoMemory-clause-refused_as_read
+returns-in-Err-NoMemory-clause-refused_as_read g c = rw c.stop-in-Err-NoMemory.ensures.status tt
 
 pub returns-in-Ok-clause-read_fault : goal.returns-in-Ok-clause-read_fault
 returns-in-Ok-clause-read_fault g c =
@@ -48,19 +60,19 @@ returns-in-Err-NoMemory-clause-silent g c = rw c.stop-in-Err-NoMemory.ensures.st
 pub returns-in-Ok-clause-done : goal.returns-in-Ok-clause-done
 returns-in-Ok-clause-done g c =
     answered_for (map string_bytes c.args.words.now) (command_of c.in-Ok.invocation) (λ p verdict. (text : List ℕ)
-    × ReadsThen g.F.Files.reads g.F.Files.files c.args.files.now p.inputs (λ opened. Delivers g.F.Files.writes g.F.Files.files g.O.Sink.puts g.O.Sink.told p.output opened c.run_on.new.files c.args.out.now c.run_on.new.out text) × IsMadeOf p (g.F.Files.files c.args.files.now) verdict text) (end_of c.run_on.result) c.in-Ok.ensures c.run_on.ensures.done
+    × ReadsThen g.F.Files.reads g.F.Files.files c.args.files.now p.inputs (λ opened sources. Delivers g.F.Files.writes g.F.Files.files g.O.Sink.puts g.O.Sink.told p.output opened c.run_on.new.files c.args.out.now c.run_on.new.out text × IsAnswer p.work sources (prints verdict text)) × IsMadeOf p (g.F.Files.files c.args.files.now) verdict text) (end_of c.run_on.result) c.in-Ok.ensures c.run_on.ensures.done
 
 pub returns-in-Ok-clause-prefix : goal.returns-in-Ok-clause-prefix
 returns-in-Ok-clause-prefix g c =
     write_fault_for (map string_bytes c.args.words.now) (command_of c.in-Ok.invocation) (λ p. (verdict : Verdict) × (text : List ℕ)
-    × ReadsThen g.F.Files.reads g.F.Files.files c.args.files.now p.inputs (λ opened. DeliversPrefix g.F.Files.writes g.F.Files.files g.O.Sink.puts g.O.Sink.told p.output opened c.run_on.new.files c.args.out.now c.run_on.new.out text) × IsMadeOf p (g.F.Files.files c.args.files.now) verdict text) (end_of c.run_on.result) c.in-Ok.ensures c.run_on.ensures.prefix
+    × ReadsThen g.F.Files.reads g.F.Files.files c.args.files.now p.inputs (λ opened sources. DeliversPrefix g.F.Files.writes g.F.Files.files g.O.Sink.puts g.O.Sink.told p.output opened c.run_on.new.files c.args.out.now c.run_on.new.out text × IsAnswer p.work sources (prints verdict text)) × IsMadeOf p (g.F.Files.files c.args.files.now) verdict text) (end_of c.run_on.result) c.in-Ok.ensures c.run_on.ensures.prefix
 
 pub returns-in-Ok-clause-complete : goal.returns-in-Ok-clause-complete
 returns-in-Ok-clause-complete g c =
     λ p h contents are answer no_read no_write.
     complete (map string_bytes c.args.words.now) p (g.F.Files.files c.args.files.now) (IsOneRisen (g.F.Files.read_faults c.args.files.now) (g.F.Files.read_faults c.run_on.new.files) p.inputs)
     (HasOutputFault p.output (g.O.Sink.faults c.args.out.now) (g.O.Sink.faults c.run_on.new.out) (g.F.Files.write_faults c.args.files.now) (g.F.Files.write_faults c.run_on.new.files))
-    (λ _. Unit {0}) (λ _. Unit {0}) h contents are (end_of c.run_on.result) (no_usage (map string_bytes c.args.words.now) (end_of c.run_on.result) c.in-Ok.ensures c.run_on.ensures.no_usage)
+    (λ _ _. Unit {0}) (λ _ _. Unit {0}) h contents are (end_of c.run_on.result) (no_usage (map string_bytes c.args.words.now) (end_of c.run_on.result) c.in-Ok.ensures c.run_on.ensures.no_usage)
     (one_command (map string_bytes c.args.words.now) p (command_of c.in-Ok.invocation) (λ p. OnRefused (end_of c.run_on.result) (IsRefusalOf p (g.F.Files.files c.args.files.now))) h c.in-Ok.ensures c.run_on.ensures.refused)
     (one_command (map string_bytes c.args.words.now) p (command_of c.in-Ok.invocation) (λ p. OnReadFault (end_of c.run_on.result)
     (IsOneRisen (g.F.Files.read_faults c.args.files.now) (g.F.Files.read_faults c.run_on.new.files) p.inputs)) h c.in-Ok.ensures c.run_on.ensures.read_fault)
@@ -73,18 +85,18 @@ pub returns-in-Ok-clause-refusing : goal.returns-in-Ok-clause-refusing
 returns-in-Ok-clause-refusing g c =
     λ p h contents are outside no_read.
     refusing (map string_bytes c.args.words.now) p (g.F.Files.files c.args.files.now) (IsOneRisen (g.F.Files.read_faults c.args.files.now) (g.F.Files.read_faults c.run_on.new.files) p.inputs)
-    (Unit {0}) (λ text. ReadsThen g.F.Files.reads g.F.Files.files c.args.files.now p.inputs
-    (λ opened. Delivers g.F.Files.writes g.F.Files.files g.O.Sink.puts g.O.Sink.told p.output opened c.run_on.new.files c.args.out.now c.run_on.new.out text))
-    (λ text. ReadsThen g.F.Files.reads g.F.Files.files c.args.files.now p.inputs (λ opened. DeliversPrefix g.F.Files.writes g.F.Files.files g.O.Sink.puts g.O.Sink.told p.output opened c.run_on.new.files c.args.out.now c.run_on.new.out text)) h contents are (end_of c.run_on.result) (no_usage (map string_bytes c.args.words.now) (end_of c.run_on.result) c.in-Ok.ensures c.run_on.ensures.no_usage)
+    (Unit {0}) (λ verdict text. ReadsThen g.F.Files.reads g.F.Files.files c.args.files.now p.inputs
+    (λ opened sources. Delivers g.F.Files.writes g.F.Files.files g.O.Sink.puts g.O.Sink.told p.output opened c.run_on.new.files c.args.out.now c.run_on.new.out text × IsAnswer p.work sources (prints verdict text)))
+    (λ verdict text. ReadsThen g.F.Files.reads g.F.Files.files c.args.files.now p.inputs (λ opened sources. DeliversPrefix g.F.Files.writes g.F.Files.files g.O.Sink.puts g.O.Sink.told p.output opened c.run_on.new.files c.args.out.now c.run_on.new.out text × IsAnswer p.work sources (prints verdict text))) h contents are (end_of c.run_on.result) (no_usage (map string_bytes c.args.words.now) (end_of c.run_on.result) c.in-Ok.ensures c.run_on.ensures.no_usage)
     (one_command (map string_bytes c.args.words.now) p (command_of c.in-Ok.invocation) (λ p. OnReadFault (end_of c.run_on.result)
     (IsOneRisen (g.F.Files.read_faults c.args.files.now) (g.F.Files.read_faults c.run_on.new.files) p.inputs)) h c.in-Ok.ensures c.run_on.ensures.read_fault)
     (one_command (map string_bytes c.args.words.now) p (command_of c.in-Ok.invocation) (λ p. OnAnswered (end_of c.run_on.result)
     (λ verdict. (text : List ℕ) × ReadsThen g.F.Files.reads g.F.Files.files c.args.files.now p.inputs
-    (λ opened. Delivers g.F.Files.writes g.F.Files.files g.O.Sink.puts g.O.Sink.told p.output opened c.run_on.new.files c.args.out.now c.run_on.new.out text)
+    (λ opened sources. Delivers g.F.Files.writes g.F.Files.files g.O.Sink.puts g.O.Sink.told p.output opened c.run_on.new.files c.args.out.now c.run_on.new.out text × IsAnswer p.work sources (prints verdict text))
     × IsMadeOf p (g.F.Files.files c.args.files.now) verdict text)) h c.in-Ok.ensures c.run_on.ensures.done)
     (one_command (map string_bytes c.args.words.now) p (command_of c.in-Ok.invocation) (λ p. OnWriteFault (end_of c.run_on.result)
     ((verdict : Verdict) × (text : List ℕ) × ReadsThen g.F.Files.reads g.F.Files.files c.args.files.now p.inputs
-    (λ opened. DeliversPrefix g.F.Files.writes g.F.Files.files g.O.Sink.puts g.O.Sink.told p.output opened c.run_on.new.files c.args.out.now c.run_on.new.out text)
+    (λ opened sources. DeliversPrefix g.F.Files.writes g.F.Files.files g.O.Sink.puts g.O.Sink.told p.output opened c.run_on.new.files c.args.out.now c.run_on.new.out text × IsAnswer p.work sources (prints verdict text))
     × IsMadeOf p (g.F.Files.files c.args.files.now) verdict text)) h c.in-Ok.ensures c.run_on.ensures.prefix)
     outside no_read
 

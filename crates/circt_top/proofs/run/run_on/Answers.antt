@@ -1,10 +1,12 @@
 -- What is answered for the bytes read is answered for the told files.
-use Rattle.std.proofs.Common.{◌≡◌, ap, map}
+use Rattle.std.proofs.Common.{◌≡◌, ap, subst, map}
 use Rattle.std.specs.Prelude.{string_bytes}
 use Rattle.command_line.specs.Invocations.{command_of}
 use Rattle.circt_top.specs.Inputs.{HasRead, AreReads}
 use Rattle.circt_top.specs.ReadOrder.{IsFirstUnread}
 use Rattle.circt_top.specs.Ends.{end_of}
+use Rattle.circt_top.specs.Outcome.{IsAnswer}
+use Rattle.circt_top.specs.Outcome.Answer.{prints, refuses}
 use Rattle.circt_top.specs.Views.{subject_of}
 use Rattle.circt_top.proofs.Answered.{none_missing, refused_whole, made_whole}
 use Rattle.circt_top.proofs.Ends.{refused_on, answered_on, write_fault_on, unread_refuses, unread_ends, unread_answers}
@@ -67,6 +69,19 @@ returns-clause-refused g c =
     let told : AreReads (g.F.Files.files c.args.files.now) (command_of c.args.invocation.now).inputs c.as_slice-2.result.now = rw (← names, viewed) c.in-Ok.ensures.told in
     refused_on _ _ (end_of c.answer-status.result) (λ r is. refused_whole (command_of c.args.invocation.now) (g.F.Files.files c.args.files.now) c.as_slice-2.result.now r told is) c.answer-status.ensures.refused
 
+pub returns-in-Err-clause-refused_as_read : goal.returns-in-Err-clause-refused_as_read
+returns-in-Err-clause-refused_as_read g c = rw c.report_unread.ensures.status (unread_refuses _ c.in-Err.unread)
+
+pub returns-clause-refused_as_read : goal.returns-clause-refused_as_read
+returns-clause-refused_as_read g c =
+    let same : c.as_slice.result.now ≡ c.args.invocation.now.inputs.items = cc in
+    let viewed : c.as_slice-2.result.now ≡ c.in-Ok.sources.items = cc in
+    let names : map string_bytes c.as_slice.result.now ≡ (command_of c.args.invocation.now).inputs = ap (map string_bytes) same in
+    let read : HasRead g.F.Files.reads g.F.Files.files c.args.files.now (command_of c.args.invocation.now).inputs c.in-Ok.sources.items c.read_inputs.new.files = rw (← names) c.in-Ok.ensures.read in
+    refused_on _ _ (end_of c.answer-status.result)
+    (λ r is. (c.read_inputs.new.files, c.in-Ok.sources.items, read, subst (λ s. IsAnswer (command_of c.args.invocation.now).work s (refuses r)) viewed is))
+    c.answer-status.ensures.refused
+
 pub returns-clause-done : goal.returns-clause-done
 returns-clause-done g c =
     let same : c.as_slice.result.now ≡ c.args.invocation.now.inputs.items = cc in
@@ -75,7 +90,7 @@ returns-clause-done g c =
     let told : AreReads (g.F.Files.files c.args.files.now) (command_of c.args.invocation.now).inputs c.as_slice-2.result.now = rw (← names, viewed) c.in-Ok.ensures.told in
     let read : HasRead g.F.Files.reads g.F.Files.files c.args.files.now (command_of c.args.invocation.now).inputs c.in-Ok.sources.items c.read_inputs.new.files = rw (← names) c.in-Ok.ensures.read in
     answered_on _ _ (end_of c.answer-status.result)
-    (λ verdict x. (x.0, (c.read_inputs.new.files, c.in-Ok.sources.items, read, x.1), made_whole (command_of c.args.invocation.now) (g.F.Files.files c.args.files.now) c.as_slice-2.result.now verdict x.0 told x.2))
+    (λ verdict x. (x.0, (c.read_inputs.new.files, c.in-Ok.sources.items, read, (x.1, subst (λ s. IsAnswer (command_of c.args.invocation.now).work s (prints verdict x.0)) viewed x.2)), made_whole (command_of c.args.invocation.now) (g.F.Files.files c.args.files.now) c.as_slice-2.result.now verdict x.0 told x.2))
     c.answer-status.ensures.done
 
 pub returns-clause-prefix : goal.returns-clause-prefix
@@ -86,7 +101,7 @@ returns-clause-prefix g c =
     let told : AreReads (g.F.Files.files c.args.files.now) (command_of c.args.invocation.now).inputs c.as_slice-2.result.now = rw (← names, viewed) c.in-Ok.ensures.told in
     let read : HasRead g.F.Files.reads g.F.Files.files c.args.files.now (command_of c.args.invocation.now).inputs c.in-Ok.sources.items c.read_inputs.new.files = rw (← names) c.in-Ok.ensures.read in
     write_fault_on _ _ (end_of c.answer-status.result)
-    (λ x. (x.0, x.1, (c.read_inputs.new.files, c.in-Ok.sources.items, read, x.2), made_whole (command_of c.args.invocation.now) (g.F.Files.files c.args.files.now) c.as_slice-2.result.now x.0 x.1 told x.3))
+    (λ x. (x.0, x.1, (c.read_inputs.new.files, c.in-Ok.sources.items, read, (x.2, subst (λ s. IsAnswer (command_of c.args.invocation.now).work s (prints x.0 x.1)) viewed x.3)), made_whole (command_of c.args.invocation.now) (g.F.Files.files c.args.files.now) c.as_slice-2.result.now x.0 x.1 told x.3))
     c.answer-status.ensures.prefix
 
 pub returns-clause-report : goal.returns-clause-report
