@@ -1,0 +1,262 @@
+#!/usr/bin/env python3
+"""Gives the program texts that are nearly right, and asks of each answer what holds of every answer.
+
+    fuzz.py PROGRAM [TEXTS [SEED [FOLDER]]]     by default 10000 texts, seed 1; findings go into FOLDER, by default /tmp/findings
+
+The texts are mutations of the cases of `examples/` (bytes, tokens, lines, whole operations, numbers at limits, splices of two
+texts), drawn from the seed, so a run can be repeated. As many runs go side by side as there are processors. Of each text it asks:
+
+* no run ends by a signal, and each by a status of the table (0 to 4, and 7 nowhere, since there is memory);
+* a text that is refused gives one error line of the form `<stdin>:LINE:COL: error: 'OPERATION' CODE: TEXT`, whose line and
+  column lie in the text, and nothing on the output; an accepted one gives no error message;
+* what `opt` prints is accepted again and printed as the same text; `translate` of it gives the Verilog of the source;
+* passes in any order are accepted, what they print is accepted again, and the Verilog of it is made;
+* `lec` of each public module of the source against itself, and against what passes made of it, says `==`, or `unknown`, or
+  that the ports or registers are others, or that there are too many gates.
+"""
+import concurrent.futures
+import os
+import pathlib
+import random
+import re
+import subprocess
+import sys
+import tempfile
+
+sys.dont_write_bytecode = True
+import support
+
+ERROR_LINE = re.compile(rb"\A(?:[^\n]*):(\d+):(\d+): error: '([^'\n]*)' ([SVL]\d+): [^\n]+\n\Z", re.DOTALL)
+TOKEN = re.compile(r"\"(?:[^\"\\\n]|\\.)*\"|[%@#!]?[A-Za-z_$.0-9][\w$.\-]*|->|[^\s]|[ \t]+|\n")
+NUMBER = re.compile(r"\d+")
+LIMITS = ["0", "1", "2", "127", "128", "129", "255", "256", "4095", "4096", "65535", "65536", "2147483647", "2147483648",
+          "4294967295", "4294967296", "18446744073709551615", "18446744073709551616", "340282366920938463463374607431768211455",
+          "340282366920938463463374607431768211456", "-1", "-128", "007", "0x1F"]
+PASSES = ["canonicalize", "cse", "seq-lower-regs", "hw-lower-aggregates", "hw-flatten-modules", "symbol-dce"]
+ON_BODIES = {"canonicalize", "cse", "seq-lower-regs"}
+SECONDS = 120
+
+
+def corpus():
+    """The cases of all examples, without their labels."""
+    texts = []
+    for file in sorted(support.EXAMPLES.rglob("*.mlir")):
+        if ".opt" not in file.name:
+            texts += [case.split("\n", 1)[-1] if case.startswith("//") else case for case in support.cases_of(file)]
+    return [text for text in texts if len(text) < 20000]
+
+
+# ---- mutations: each makes a text of a text, by a source of chance and the other texts
+
+
+def change_byte(chance, text, _texts):
+    if not text:
+        return text
+    at = chance.randrange(len(text))
+    kind = chance.randrange(3)
+    new = chr(chance.choice([0, 9, 10, 13, 32, 34, 37, 64, 92, 127, chance.randrange(33, 126)]))
+    return text[:at] + ("" if kind == 0 else new) + text[at + (kind != 1):]
+
+
+def change_token(chance, text, texts):
+    tokens = TOKEN.findall(text)
+    if not tokens:
+        return text
+    at = chance.randrange(len(tokens))
+    kind = chance.randrange(4)
+    if kind == 0:
+        del tokens[at]
+    elif kind == 1:
+        tokens.insert(at, tokens[at])
+    elif kind == 2:
+        other = chance.randrange(len(tokens))
+        tokens[at], tokens[other] = tokens[other], tokens[at]
+    else:
+        tokens[at] = chance.choice(TOKEN.findall(chance.choice(texts)) or [""])
+    return "".join(tokens)
+
+
+def change_line(chance, text, texts):
+    lines = text.splitlines(keepends=True)
+    if not lines:
+        return text
+    at = chance.randrange(len(lines))
+    kind = chance.randrange(4)
+    if kind == 0:
+        del lines[at]
+    elif kind == 1:
+        lines.insert(at, lines[at])
+    elif kind == 2:
+        other = chance.randrange(len(lines))
+        lines[at], lines[other] = lines[other], lines[at]
+    else:
+        lines.insert(at, chance.choice(chance.choice(texts).splitlines(keepends=True) or [""]))
+    return "".join(lines)
+
+
+def change_operand(chance, text, _texts):
+    """Another value, or another keyword of the text, in the place of one."""
+    sigil = chance.choice(["%", "@", "i", "comb.", "seq.", "hw."])
+    found = [m for m in TOKEN.finditer(text) if m[0].startswith(sigil)]
+    if len(found) < 2:
+        return text
+    one, other = chance.sample(found, 2)
+    return text[:one.start()] + other[0] + text[one.end():]
+
+
+def change_number(chance, text, _texts):
+    found = list(NUMBER.finditer(text))
+    if not found:
+        return text
+    one = chance.choice(found)
+    near = str(max(0, int(one[0]) + chance.choice([-1, 1]))) if len(one[0]) < 40 else "0"
+    return text[:one.start()] + chance.choice(LIMITS + [near] * len(LIMITS)) + text[one.end():]
+
+
+def splice(chance, text, texts):
+    other = chance.choice(texts)
+    return text[:chance.randrange(len(text) + 1)] + other[chance.randrange(len(other) + 1):]
+
+
+def join(chance, text, texts):
+    """Two texts as one, so that instances find modules of both."""
+    return text + "\n" + chance.choice(texts)
+
+
+MUTATIONS = [change_byte, change_token, change_token, change_line, change_line, change_operand, change_operand, change_operand,
+             change_number, change_number, splice, join]
+
+
+def mutated(seed, number, texts):
+    chance = random.Random(f"{seed} {number}")
+    text = chance.choice(texts)
+    for _ in range(chance.choice([0, 1, 1, 1, 2, 2, 3, 5])):
+        text = chance.choice(MUTATIONS)(chance, text, texts)
+    return text, chance
+
+
+# ---- what holds of every answer
+
+
+class Finding(Exception):
+    """An answer that no text may have."""
+
+
+class Program:
+    def __init__(self, path):
+        self.path = path
+
+    def run(self, words, text):
+        """The status, the output and the error message of a run on a text."""
+        try:
+            done = subprocess.run([self.path, *words], input=text, stdout=subprocess.PIPE, stderr=subprocess.PIPE, timeout=SECONDS)
+        except subprocess.TimeoutExpired:
+            raise Finding(f"{' '.join(words)}: no end within {SECONDS} seconds") from None
+        if done.returncode < 0 or done.returncode > 4:
+            raise Finding(f"{' '.join(words)}: status {done.returncode}, {done.stderr[:300]!r}")
+        if done.returncode == 1:
+            self.check_refusal(words, text, done)
+        elif done.stderr:
+            raise Finding(f"{' '.join(words)}: status {done.returncode}, and an error message {done.stderr[:300]!r}")
+        return done.returncode, done.stdout
+
+    @staticmethod
+    def check_refusal(words, text, done):
+        if done.stdout:
+            raise Finding(f"{' '.join(words)}: refused, and {len(done.stdout)} bytes on the output")
+        line = ERROR_LINE.match(done.stderr)
+        if not line:
+            raise Finding(f"{' '.join(words)}: error message {done.stderr[:300]!r}")
+        if line[4].startswith(b"L"):
+            return
+        lines = text.split(b"\n")
+        row, column = int(line[1]), int(line[2])
+        if not (1 <= row <= len(lines) and 1 <= column <= len(lines[row - 1]) + 1):
+            raise Finding(f"{' '.join(words)}: {done.stderr[:300]!r} lies outside the text")
+
+    def taken(self, words, text, why):
+        """The output of a run that has to end well."""
+        status, out = self.run(words, text)
+        if status != 0:
+            raise Finding(f"{' '.join(words)}: status {status} of {why}")
+        return out
+
+
+def pipeline_of(chance):
+    passes = [chance.choice(PASSES) for _ in range(chance.randrange(1, 6))]
+    items = [f"hw.module({p})" if p in ON_BODIES else p for p in passes]
+    return f"--pass-pipeline=builtin.module({','.join(items)})"
+
+
+def check_text(program, text, chance, folder):
+    """Whether the text is accepted. It raises a finding."""
+    status, printed = program.run(["opt"], text)
+    other, verilog = program.run(["translate", "--export-verilog"], text)
+    if other != status:
+        raise Finding(f"opt ends with {status}, translate with {other}")
+    if status != 0:
+        return False
+    if program.taken(["opt"], printed, "what opt printed") != printed:
+        raise Finding("opt of what opt printed is another text")
+    if program.taken(["translate", "--export-verilog"], printed, "what opt printed") != verilog:
+        raise Finding("translate of what opt printed is another text")
+    words = pipeline_of(chance)
+    made = program.taken(["opt", words, "--workers", str(chance.choice([1, 2, 4]))], text, "an accepted text")
+    if program.taken(["opt"], made, f"what {words} made") != made:
+        raise Finding(f"opt of what {words} made is another text")
+    program.taken(["translate", "--export-verilog"], made, f"what {words} made")
+    check_verdicts(program, text, made, words, folder)
+    return True
+
+
+def check_verdicts(program, text, made, words, folder):
+    names = re.findall(rb"^\s*hw\.module @([A-Za-z_][\w$.]*)\s*\(", text, re.MULTILINE)[:2]
+    with tempfile.NamedTemporaryFile(dir=folder, suffix=".mlir") as file:
+        file.write(made)
+        file.flush()
+        for name in {name.decode() for name in names}:
+            asked = ["-c1", name, "-c2", name, "--conflict-limit", "2000"]
+            status, out = program.run(["lec", "-", *asked], text)
+            if status == 3:
+                raise Finding(f"lec of {name} against itself: {out[:200]!r}")
+            status, out = program.run(["lec", "-", file.name, *asked], text)
+            if status == 3:
+                raise Finding(f"lec of {name} against what {words} made of it: {out[:200]!r}")
+
+
+# ---- the run
+
+
+def check_number(number):
+    """Whether the text of a number is accepted, and what was found, if anything."""
+    text, chance = mutated(SEED, number, TEXTS)
+    source = text.encode("utf-8", "surrogateescape")
+    try:
+        return check_text(PROGRAM, source, chance, FOLDER), None
+    except Finding as finding:
+        (FOLDER / f"{SEED}_{number}.mlir").write_bytes(source)
+        return False, f"{SEED}_{number}.mlir: {finding}"
+
+
+def main():
+    count = support.number_word(2, 10000)
+    accepted, findings = 0, 0
+    with concurrent.futures.ThreadPoolExecutor(os.cpu_count()) as pool:
+        for number, (is_accepted, finding) in enumerate(pool.map(check_number, range(count)), 1):
+            accepted += is_accepted
+            if finding:
+                findings += 1
+                print(finding, flush=True)
+            if number % 10000 == 0:
+                print(f"{number} texts, {accepted} accepted, {findings} findings", flush=True)
+    print(f"{count} texts, {accepted} accepted, {findings} findings")
+    return findings > 0
+
+
+if __name__ == "__main__":
+    PROGRAM = Program(support.program_word(__doc__))
+    SEED = support.number_word(3, 1)
+    FOLDER = pathlib.Path(sys.argv[4] if len(sys.argv) > 4 else "/tmp/findings")
+    FOLDER.mkdir(parents=True, exist_ok=True)
+    TEXTS = corpus()
+    sys.exit(main())
