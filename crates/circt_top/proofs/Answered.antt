@@ -179,6 +179,7 @@ module _ (contents sources : List (List ℕ)) (are : sources ≡ prefixes conten
     differ = is.differ;
     names = is.names;
     are_names = is.are_names;
+    as_many = is.as_many;
     is = is.is;
   }
 

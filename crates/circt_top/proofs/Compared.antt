@@ -8,6 +8,7 @@ use Rattle.hw_model.specs.Types.{Name}
 use Rattle.hw_model.specs.Design.{Design}
 use Rattle.command_line.specs.Line.{Work}
 use Rattle.command_line.specs.Line.Work.{comparison}
+use Rattle.lec_tool.proofs.Named.{one_each}
 use Rattle.circt_top.specs.Accepting.{Accepted, first_input}
 use Rattle.circt_top.specs.Comparing.{last_input, last_number, AreTaken, in_pair, value_lines}
 use Rattle.circt_top.specs.Comparing.IsRefusedPair.{first as of_first, last as of_last, pair as of_pair}
@@ -82,7 +83,7 @@ module _ (left right : Name) (limit : ℕ) (contents : List (List ℕ)) where
   module _ (d e : Design) (taken : AreTaken contents d e) where
     found : (finding : Finding) (text : List ℕ) → IsFound left right limit d e finding text → IsAnswer (comparison left right limit) contents (prints (verdict_of finding) text)
     found Given text is = record { one = d; two = e; taken = taken; log = is.0.0; agree = is.0.1; is = is.1 }
-    found (Different input) text is = record { one = d; two = e; taken = taken; differ = is.0; names = is.1.0; are_names = is.1.1; is = is.1.2 }
+    found (Different input) text is = record { one = d; two = e; taken = taken; differ = is.0; names = is.1.0; are_names = is.1.1; as_many = one_each d left e right input is.1.0 is.0 is.1.1; is = is.1.2 }
     found (Unknown log) text is = record { one = d; two = e; taken = taken; undecided = is.0; is = is.1 }
 
     -- what is concluded of the modules of the two designs is the answer

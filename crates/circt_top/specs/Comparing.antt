@@ -72,7 +72,8 @@ pub record IsSame (left right : Name) (contents : List (List ℕ)) (text : List 
   pub agree : DoAgree one left two right log
   pub is : text ≡ codes "c1 == c2\n"
 
--- the modules differ where they are given these words, and the text says so, leaf by leaf of the first one
+-- the modules differ where they are given these words, and the text says so, leaf by leaf of the first one: as many names as words, each
+-- that of its leaf, the inputs first and then the registers, in order
 pub record IsDifference (left right : Name) (contents : List (List ℕ)) (values : List Word) (text : List ℕ) : Type 0 where
   pub one : Design
   pub two : Design
@@ -80,6 +81,7 @@ pub record IsDifference (left right : Name) (contents : List (List ℕ)) (values
   pub differ : DoDiffer one left two right values
   pub names : List Name
   pub are_names : AreLeafNames one left names
+  pub as_many : length names ≡ length values
   pub is : text ≡ difference_text names values
 
 -- as many clauses were learnt as the limit says, and the text says that nothing is known
