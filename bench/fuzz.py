@@ -6,7 +6,8 @@
 The texts are mutations of the cases of `examples/` (bytes, tokens, lines, whole operations, numbers at limits, splices of two
 texts), drawn from the seed, so a run can be repeated. As many runs go side by side as there are processors. Of each text it asks:
 
-* no run ends by a signal, and each by a status of the table (0 to 4, and 7 nowhere, since there is memory);
+* no run ends by a signal, and each by a status of the table: 0 to 4, or 7 with its line where 1 GB of memory does not
+  suffice, which is counted;
 * a text that is refused gives one error line of the form `<stdin>:LINE:COL: error: 'OPERATION' CODE: TEXT`, whose line and
   column lie in the text, and nothing on the output; an accepted one gives no error message;
 * what `opt` prints is accepted again and printed as the same text; `translate` of it gives the Verilog of the source;
@@ -19,6 +20,7 @@ import os
 import pathlib
 import random
 import re
+import resource
 import subprocess
 import sys
 import tempfile
@@ -35,6 +37,7 @@ LIMITS = ["0", "1", "2", "127", "128", "129", "255", "256", "4095", "4096", "655
 PASSES = ["canonicalize", "cse", "seq-lower-regs", "hw-lower-aggregates", "hw-flatten-modules", "symbol-dce"]
 ON_BODIES = {"canonicalize", "cse", "seq-lower-regs"}
 SECONDS = 120
+MEMORY = 1 << 30
 
 
 def corpus():
@@ -142,6 +145,14 @@ class Finding(Exception):
     """An answer that no text may have."""
 
 
+class OutOfMemory(Exception):
+    """A run that wants more memory than it is given."""
+
+
+def limit_memory():
+    resource.setrlimit(resource.RLIMIT_AS, (MEMORY, MEMORY))
+
+
 class Program:
     def __init__(self, path):
         self.path = path
@@ -149,9 +160,12 @@ class Program:
     def run(self, words, text):
         """The status, the output and the error message of a run on a text."""
         try:
-            done = subprocess.run([self.path, *words], input=text, stdout=subprocess.PIPE, stderr=subprocess.PIPE, timeout=SECONDS)
+            done = subprocess.run([self.path, *words], input=text, stdout=subprocess.PIPE, stderr=subprocess.PIPE, timeout=SECONDS,
+                                  preexec_fn=limit_memory)
         except subprocess.TimeoutExpired:
             raise Finding(f"{' '.join(words)}: no end within {SECONDS} seconds") from None
+        if done.returncode == 7 and not done.stdout and done.stderr == b"circt: out of memory\n":
+            raise OutOfMemory()
         if done.returncode < 0 or done.returncode > 4:
             raise Finding(f"{' '.join(words)}: status {done.returncode}, {done.stderr[:300]!r}")
         if done.returncode == 1:
@@ -228,28 +242,31 @@ def check_verdicts(program, text, made, words, folder):
 
 
 def check_number(number):
-    """Whether the text of a number is accepted, and what was found, if anything."""
+    """Whether the text of a number is accepted, whether memory did not suffice, and what was found, if anything."""
     text, chance = mutated(SEED, number, TEXTS)
     source = text.encode("utf-8", "surrogateescape")
     try:
-        return check_text(PROGRAM, source, chance, FOLDER), None
+        return check_text(PROGRAM, source, chance, FOLDER), False, None
+    except OutOfMemory:
+        return True, True, None
     except Finding as finding:
         (FOLDER / f"{SEED}_{number}.mlir").write_bytes(source)
-        return False, f"{SEED}_{number}.mlir: {finding}"
+        return False, False, f"{SEED}_{number}.mlir: {finding}"
 
 
 def main():
     count = support.number_word(2, 10000)
-    accepted, findings = 0, 0
+    accepted, short, findings = 0, 0, 0
     with concurrent.futures.ThreadPoolExecutor(os.cpu_count()) as pool:
-        for number, (is_accepted, finding) in enumerate(pool.map(check_number, range(count)), 1):
+        for number, (is_accepted, is_short, finding) in enumerate(pool.map(check_number, range(count)), 1):
             accepted += is_accepted
+            short += is_short
             if finding:
                 findings += 1
                 print(finding, flush=True)
             if number % 10000 == 0:
-                print(f"{number} texts, {accepted} accepted, {findings} findings", flush=True)
-    print(f"{count} texts, {accepted} accepted, {findings} findings")
+                print(f"{number} texts, {accepted} accepted, {short} short of memory, {findings} findings", flush=True)
+    print(f"{count} texts, {accepted} accepted, {short} short of memory, {findings} findings")
     return findings > 0
 
 
