@@ -64,7 +64,7 @@ pub each_from : {A : Type 0} (P : A → Type 0) (xs : List A) → ((i : ℕ) (x 
 each_from P [] all = tt
 each_from P (x ∷ xs) all = (all 0 x refl, each_from P xs (λ i y is. all (suc i) y is))
 
--- ---- what is refused of modules, by their places
+-- ---- what is refused of modules, by their positions
 
 -- an operation of a body that ends with its output, as an output the last, is not refused, and so the body is not
 no_body_fault : (d : Design) (ports : List Port) (whole os : List Op)
@@ -190,8 +190,8 @@ module _ (d e : Design) (fit : IsFit d) (keeps : KeepsDesign d e) (valid : Valid
 
     printed_before : IsPrintableBody before.was
     printed_before =
-        let place = position_of_In before.was d (found_module d n.symbol before.was before.is_found) in
-        each_at IsPrintableBody d place.0 before.was fit.printable place.1
+        let position = position_of_In before.was d (found_module d n.symbol before.was before.is_found) in
+        each_at IsPrintableBody d position.0 before.was fit.printable position.1
 
     ends_now : EndsWithOutput n.body
     ends_now = keeps_it.body.ends printed_before.ends
@@ -242,14 +242,14 @@ module _ (d e : Design) (fit : IsFit d) (keeps : KeepsDesign d e) (valid : Valid
       where
         if_moved : (x : IsMoved before.was.ports before.was.body n.body o) → IsPrintableOp before.was.ports n.body (record x.was { operands = o.operands })
         if_moved x =
-            let place = position_of_In x.was before.was.body x.was_there in
+            let position = position_of_In x.was before.was.body x.was_there in
             let here = In-slice_get o n.body j at in
             printable_with before.was.ports before.was.body n.body x.was o.operands
             (sym (length-map o.operands (operand_in before.was.ports n.body))
             ∙ length_more (operands_in before.was.ports before.was.body x.was.operands) (operands_in before.was.ports n.body o.operands) x.operands
             ∙ length-map x.was.operands (operand_in before.was.ports before.was.body))
             (all_defined before.was.ports n.body o.operands (no_op_cause e before.was.ports n.body true o (op_kept true o here (λ out. refl))).defined)
-            (each_at (IsPrintableOp before.was.ports before.was.body) before.was.body place.0 x.was printed_before.operations place.1)
+            (each_at (IsPrintableOp before.was.ports before.was.body) before.was.body position.0 x.was printed_before.operations position.1)
 
         go : IsMoved before.was.ports before.was.body n.body o ⊎ IsPlainFitting before.was.ports before.was.body n.body o → IsPrintableOp before.was.ports n.body o
         go (inl x) = subst (IsPrintableOp before.was.ports n.body) (sym x.same) (if_moved x)
@@ -300,8 +300,8 @@ module _ (e : Design) (fit : IsFit e) where
       not_heavy : (s : Name) (x : Option Module) → find_module d s ≡ x → 2 ^ 28 < weight d s → ⊥
       not_heavy s None is heavy = let light : weight d s ≡ 0 = ap (weight_of (module_weight (length d) d)) is in absurd (omega arith)
       not_heavy s (Some m) is heavy =
-          let place = position_of_In m d (found_module d s m is) in
-          accepted.light place.0 m place.1 (subst (λ z. 2 ^ 28 < weight d z) (sym (find_symbol d s m is)) heavy)
+          let position = position_of_In m d (found_module d s m is) in
+          accepted.light position.0 m position.1 (subst (λ z. 2 ^ 28 < weight d z) (sym (find_symbol d s m is)) heavy)
 
 -- an accepted design that can be printed is fit
 pub accepted_fit : (d : Design) → IsAccepted d → Printable d → IsFit d

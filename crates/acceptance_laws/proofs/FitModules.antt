@@ -59,7 +59,7 @@ fit_module d fit i m at = record {
   names = (no_header_cause d there.number m there.header).names;
   ports = printed.ports;
   dictionary = printed.dictionary;
-  ops = λ o here. let place = position_of_In o m.body here in op_at place.0 o place.1;
+  ops = λ o here. let position = position_of_In o m.body here in op_at position.0 o position.1;
   ends = printed.ends;
 }
   where
@@ -124,12 +124,12 @@ none_earlier d distinct i m at = go (find_module (take i d) m.symbol) refl
     go : (x : Option Module) → find_module (take i d) m.symbol ≡ x → is_some x ≡ false
     go None is = refl
     go (Some n) is =
-        let place = position_of_In n (take i d) (found_module (take i d) m.symbol n is) in
+        let position = position_of_In n (take i d) (found_module (take i d) m.symbol n is) in
         let within : i < length d = slice_get_within d i m at in
         let some : length (take i d) ≡ i = length-take-le i d (omega arith) in
-        let less : place.0 < length (take i d) = slice_get_within (take i d) place.0 n place.1 in
-        let before : place.0 < i = omega arith in
-        let same : place.0 ≡ i = distinct place.0 i n m (sym (slice_get-take i d place.0 before) ∙ place.1) at (find_symbol (take i d) m.symbol n is) in
+        let less : position.0 < length (take i d) = slice_get_within (take i d) position.0 n position.1 in
+        let before : position.0 < i = omega arith in
+        let same : position.0 ≡ i = distinct position.0 i n m (sym (slice_get-take i d position.0 before) ∙ position.1) at (find_symbol (take i d) m.symbol n is) in
         absurd (omega arith)
 
 module_unfaulted : (d : Design) → HasDistinctSymbols d → (i : ℕ) (m : Module) → slice_get d i ≡ Some m → IsFitModule d m → module_fault d i m ≡ None

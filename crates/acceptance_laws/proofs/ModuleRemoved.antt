@@ -47,8 +47,8 @@ module _ (d : Design) (k : ℕ) (m : Module) (fit : IsFit d) (at : slice_get d k
   -- what a symbol finds it found, and it is not the module that is gone
   left_found : (s : Name) (n : Module) → find_module (remove d k) s ≡ Some n → find_module d s ≡ Some n
   left_found s n is =
-      let place = position_of_In n (remove d k) (found_module (remove d k) s n is) in
-      ap (find_module d) (sym (find_symbol (remove d k) s n is)) ∙ (found_at d was_distinct (up k place.0) n (stood_at place.0 n place.1)).1
+      let position = position_of_In n (remove d k) (found_module (remove d k) s n is) in
+      ap (find_module d) (sym (find_symbol (remove d k) s n is)) ∙ (found_at d was_distinct (up k position.0) n (stood_at position.0 n position.1)).1
 
   none_found : find_module (remove d k) m.symbol ≡ None
   none_found = go (find_module (remove d k) m.symbol) refl
@@ -56,9 +56,9 @@ module _ (d : Design) (k : ℕ) (m : Module) (fit : IsFit d) (at : slice_get d k
       go : (x : Option Module) → find_module (remove d k) m.symbol ≡ x → find_module (remove d k) m.symbol ≡ None
       go None is = is
       go (Some n) is =
-          let place = position_of_In n (remove d k) (found_module (remove d k) m.symbol n is) in
-          let here : up k place.0 ≡ k = was_distinct (up k place.0) k n m (stood_at place.0 n place.1) at (find_symbol (remove d k) m.symbol n is) in
-          let clash : Some place.0 ≡ None = sym (down-up k place.0) ∙ ap (down k) here ∙ down_same k in cc
+          let position = position_of_In n (remove d k) (found_module (remove d k) m.symbol n is) in
+          let here : up k position.0 ≡ k = was_distinct (up k position.0) k n m (stood_at position.0 n position.1) at (find_symbol (remove d k) m.symbol n is) in
+          let clash : Some position.0 ≡ None = sym (down-up k position.0) ∙ ap (down k) here ∙ down_same k in cc
 
   pub is_without : IsWithout d (remove d k) m.symbol
   is_without = record { others = removed_others d k m at; absent = none_found; unused = unused }

@@ -1,4 +1,4 @@
--- Modules of two designs: those of the second keep those at their places in the first.
+-- Modules of two designs: those of the second keep those at their positions in the first.
 use Rattle.std.proofs.Common.{◌≡◌, ℕ, zero, suc, Bool, true, false, cond, [], ◌∷◌, Option, Some, None, slice_get, refl, sym, subst, ◌∙◌}
 use Rattle.std.specs.Prelude.{is_some, ⊤}
 use Rattle.hw_model.specs.Types.{Name}
@@ -30,7 +30,7 @@ same_there None (Some n) both = absurd both
 same_there (Some m) None both = absurd both
 same_there (Some m) (Some n) both = refl
 
--- the module that a module at a place keeps
+-- the module that a module at a position keeps
 record KeptAt (d : Design) (i : ℕ) (n : Module) : Type 0 where
   was : Module
   there : slice_get d i ≡ Some was
@@ -43,7 +43,7 @@ kept_at (x ∷ d) [] i n keeps is = absurd keeps
 kept_at (x ∷ d) (y ∷ e) zero n (first, rest) is = let same : y ≡ n = cc in record { was = x; there = refl; keeps = subst (KeepsModule x) same first }
 kept_at (x ∷ d) (y ∷ e) (suc i) n (first, rest) is = let later = kept_at d e i n rest is in record { was = later.was; there = later.there; keeps = later.keeps }
 
--- where modules keep those at their places, the design keeps the design
+-- where modules keep those at their positions, the design keeps the design
 pub design_kept : (d e : Design) → HasDistinctSymbols d → KeepsModules d e → KeepsDesign d e
 design_kept d e distinct keeps = record {
   distinct = λ i j m n at_i at_j same.

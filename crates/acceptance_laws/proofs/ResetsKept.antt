@@ -109,8 +109,8 @@ module _ (d e : Design) (marked : Module → ℕ → Bool) (keeps : KeepsDesign 
 
     register_in_body : (o : Op) (r : ResetBy) → In o n.body → async_reset_in o ≡ Some r → IsMarkedInput marks n r.signal × IsConstantOf n.body r.value
     register_in_body o r here async =
-        let place = position_of_In o n.body here in
-        register_now o r async (keeps_old.body.each place.0 o place.1)
+        let position = position_of_In o n.body here in
+        register_now o r async (keeps_old.body.each position.0 o position.1)
 
   -- what is joined to a port, where it was a port
   port_stays : (p : Option Port) (qs rs : List Ref) (k j : ℕ) → ((n i : ℕ) → slice_get qs n ≡ Some (port i) → slice_get rs n ≡ Some (port i))
@@ -126,8 +126,8 @@ module _ (d e : Design) (marked : Module → ℕ → Bool) (keeps : KeepsDesign 
       → (given : IsMarkedInput marks c r) → (q : Ref) × (port_ref c.ports o.operands given.number ≡ Some q) × IsMarkedInput marks n q
   unfolding marked_then
   joined_now s n is o c r here leads given =
-      let place = position_of_In o n.body here in
-      go ((keeps_old s n is).body.each place.0 o place.1)
+      let position = position_of_In o n.body here in
+      go ((keeps_old s n is).body.each position.0 o position.1)
     where
       inst : (i : Instance) × (instance_in o.kind ≡ Some i) × (find_module e i.symbol ≡ Some c)
       inst = and_then_some (instance_in o.kind) (λ (i : Instance). find_module e i.symbol) leads

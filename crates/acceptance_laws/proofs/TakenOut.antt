@@ -116,11 +116,11 @@ module _ (d : Design) (fit : IsFit d) (k : ℕ) (md : Module) (at : slice_get d 
       by_number zero h = stand_allows
       by_number (suc n) h = absurd (no_other_result n h)
 
-      by_place : (j n : ℕ) (w : Option ℕ) → down i j ≡ w → is_some (type_in md.ports md.body (result j n)) ≡ true
+      by_position : (j n : ℕ) (w : Option ℕ) → down i j ≡ w → is_some (type_in md.ports md.body (result j n)) ≡ true
           → AllowsMore (operand_in md.ports md.body (result j n)) (operand_in md.ports (erase_op i x md.body) (without i (without i undefined x) (result j n)))
-      by_place j n (Some j') is h =
+      by_position j n (Some j') is h =
           allows_other md i o change.there change.plain (without i undefined x) (result j n) (λ m same. let e : j ≡ i = cc in let clash : None ≡ Some j' = sym (down_same i) ∙ ap (down i) (sym e) ∙ is in cc)
-      by_place j n None is h =
+      by_position j n None is h =
           let e : j ≡ i = down_none i j is in
           subst (λ z. AllowsMore (operand_in md.ports md.body (result j n)) (operand_in md.ports (erase_op i x md.body) (ref_after_erase z (without i undefined x) n))) (sym is)
           (subst (λ z. AllowsMore (operand_in md.ports md.body (result z n)) (operand_in md.ports (erase_op i x md.body) (ref_after_erase None (without i undefined x) n))) (sym e)
@@ -130,7 +130,7 @@ module _ (d : Design) (fit : IsFit d) (k : ℕ) (md : Module) (at : slice_get d 
           → AllowsMore (operand_in md.ports md.body r) (operand_in md.ports (erase_op i x md.body) (without i (without i undefined x) r))
       by_ref (port p) h = allows_itself (operand_in md.ports md.body (port p))
       by_ref undefined h = allows_itself (operand_in md.ports md.body undefined)
-      by_ref (result p n) h = by_place p n (down i p) refl h
+      by_ref (result p n) h = by_position p n (down i p) refl h
 
   erased_keeps : KeepsModule md (record md { body = erase_op i x md.body })
   erased_keeps = taken_out_keeps md i o change.there change.plain (without i undefined x) named_allow

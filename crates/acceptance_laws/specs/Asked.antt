@@ -36,7 +36,7 @@ operand_in ports os r = record {
   input = is_input_port ports r;
 }
 
--- of an operation's operands
+-- what is asked of each operand of an operation, in the body of a module with these ports
 abbrev pub operands_in : List Port → List Op → List Ref → List Operand
 operands_in ports os rs = map (operand_in ports os) rs
 
@@ -132,7 +132,7 @@ pub record AllowsMore (a b : Operand) : Type 0 where
   pub constant : a.constant ≡ true → b.constant ≡ true
   pub input : a.input ≡ true → b.input ≡ true
 
--- so one by one
+-- of two lists of operands, no more is refused of each of the second than of the one at its position in the first
 abbrev pub AllowMore : List Operand → List Operand → Type 0
 AllowMore [] [] = ⊤
 AllowMore (a ∷ xs) (b ∷ ys) = AllowsMore a b × AllowMore xs ys

@@ -65,7 +65,7 @@ pub record KeepsModule (m n : Module) : Type 0 where
   pub dictionary_is : n.dictionary ≡ m.dictionary
   pub body : KeepsBody m.ports m.body n.body
 
--- each module of the design keeps the one at its place
+-- each module of the design keeps the one at its position
 abbrev pub KeepsModules : Design → Design → Type 0
 KeepsModules [] [] = ⊤
 KeepsModules (m ∷ d) (n ∷ e) = KeepsModule m n × KeepsModules d e

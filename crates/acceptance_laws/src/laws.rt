@@ -34,7 +34,7 @@ pub fn fit_designs_are_accepted()
 {}
 
 /// Does nothing. Its clauses say that a design stays fit by an edit of one module by which no more is refused of what stands
-/// for an operand; and so by any change that keeps its modules, at their places or by their symbols, where the new design
+/// for an operand; and so by any change that keeps its modules, at their positions or by their symbols, where the new design
 /// is valid.
 pub fn edits_keep_fit()
     ensures edit { (d : Design) (k : ℕ) (m : Module) (os : List Op) (edit : ValidEdit (Some m) (Some (record m { body = os }))) → IsFit d
@@ -47,7 +47,7 @@ pub fn edits_keep_fit()
 /// fit design stays fit: of an operation that is changed in place, taken out with a value in the place of its result, taken
 /// out where nothing names it, or put in, and of a register that loads in another way.
 pub fn each_edit_keeps_fit()
-    ensures place { (d : Design) (k : ℕ) (md : Module) (i : ℕ) (o new : Op) → IsFit d → slice_get d k ≡ Some md → InPlace md i o new → InPlaceFits md o new
+    ensures position { (d : Design) (k : ℕ) (md : Module) (i : ℕ) (o new : Op) → IsFit d → slice_get d k ≡ Some md → InPlace md i o new → InPlaceFits md o new
         → IsFit (with_body d k md (set md.body i new)) }
     ensures erased { (d : Design) (k : ℕ) (md : Module) (i : ℕ) (o : Op) (t : HwType) (x : Ref) → IsFit d → slice_get d k ≡ Some md → Erased md i o t x
         → ErasedFits md o x → IsFit (with_body d k md (erase_op i x md.body)) }

@@ -42,8 +42,8 @@ cuts i (u ∷ us) skip size p here =
   where
     later : IsCut us (suc i) p → IsCut (u ∷ us) i p
     later is =
-        let place = is.value_is in
-        record { number = suc is.number; value_is = place ∙ (let e : suc i + is.number ≡ i + suc is.number = omega arith in e); there = is.there; within = is.within; some = is.some }
+        let position = is.value_is in
+        record { number = suc is.number; value_is = position ∙ (let e : suc i + is.number ≡ i + suc is.number = omega arith in e); there = is.there; within = is.within; some = is.some }
 
     go : (taken : ℕ) → taken ≤ width u - skip → (ps : List Piece) → (In p ps → IsCut us (suc i) p) → In p (with_piece i u skip taken ps) → IsCut (u ∷ us) i p
     go zero few ps rest there = later (rest there)
@@ -116,7 +116,7 @@ module _ (ps : List Port) (os : List Op) (o : Op) (rs : List Ref) (us : List HwT
 
   cut_typed : (p : Piece) → IsCut us 0 p → type_in ps os (part rs p.value) ≡ Some p.type
   cut_typed p is =
-      let place = is.value_is in
+      let position = is.value_is in
       let number_is : p.value ≡ is.number = omega arith in
       ap (λ n. type_in ps os (part rs n)) number_is ∙ (part_there (type_in ps os) rs us is.number p.type typed is.there).1
 

@@ -81,7 +81,7 @@ first_member : (ts : List HwType) (t : HwType) → first_written ts ≡ Some t �
 first_member [] t is = cc
 first_member (u ∷ ts) t is = let same : t ≡ u = cc in inl same
 
--- a type that is written at a place, where it is no struct without fields
+-- a type that is written at a position, where it is no struct without fields
 nth_member : (ts : List HwType) (n : ℕ) (t : HwType) → nth_type ts n ≡ t → (t ≡ nth_type [] n → ⊥) → In t ts
 nth_member [] n t is not = absurd (not (sym is))
 nth_member (u ∷ ts) zero t is not = inl (sym is)

@@ -56,15 +56,15 @@ module _ (S : Lowering) (k : ℕ) (m : Module) (at : slice_get S.d k ≡ Some m)
   module _ (j : ℕ) (o : Op) (is : slice_get m.body j ≡ Some o) (one : is_constant o.kind ≡ true) where
     -- a leaf of its result
     leaf_constant : (n i : ℕ) (t : HwType) → result_type o n ≡ Some t → i < length (leaves t)
-        → (x : Op) × (slice_get (new_body S m) (begin (rules_of S) m.body j + ((rules_of S).rule o).place (result_start o n + i)) ≡ Some x) × ComesFrom o x
+        → (x : Op) × (slice_get (new_body S m) (begin (rules_of S) m.body j + ((rules_of S).rule o).position (result_start o n + i)) ≡ Some x) × ComesFrom o x
     leaf_constant n i t typed below =
         let leaf = slice_get_some (leaves t) i below in
-        let made = and_then_some (slice_get (block_by (rules_of S) (parts_in S m) (begin (rules_of S) m.body j) o) (((rules_of S).rule o).place (result_start o n + i))) (λ (x : Op). result_type x 0)
+        let made = and_then_some (slice_get (block_by (rules_of S) (parts_in S m) (begin (rules_of S) m.body j) o) (((rules_of S).rule o).position (result_start o n + i))) (λ (x : Op). result_type x 0)
         ((splits_at S k m at o (In-slice_get o m.body j is)).shape.leaf_type (constant_plain o one) (begin (rules_of S) m.body j) n i t leaf.0 typed leaf.1) in (
           made.0,
-          stands_at S k m at j o is (((rules_of S).rule o).place (result_start o n + i)) made.0 made.1,
+          stands_at S k m at j o is (((rules_of S).rule o).position (result_start o n + i)) made.0 made.1,
           made_constant o o.kind refl one (map (parts_in S m) o.operands) (begin (rules_of S) m.body j) made.0
-              (In-slice_get made.0 (block_by (rules_of S) (parts_in S m) (begin (rules_of S) m.body j) o) (((rules_of S).rule o).place (result_start o n + i)) made.1),
+              (In-slice_get made.0 (block_by (rules_of S) (parts_in S m) (begin (rules_of S) m.body j) o) (((rules_of S).rule o).position (result_start o n + i)) made.1),
         )
 
     part_constant : (n : ℕ) (r : Ref) → In r (parts_in S m (result j n))
@@ -78,10 +78,10 @@ module _ (S : Lowering) (k : ℕ) (m : Module) (at : slice_get S.d k ≡ Some m)
             let found = from_In-in_row (leaf_ref ((rules_of S).rule o) (begin (rules_of S) m.body j) o) (result_start o n) (length (leaves t)) r
             (subst (λ y. In r (leaf_refs ((rules_of S).rule o) (begin (rules_of S) m.body j) o (result_start o n) y)) typed there) in
             let leaf = leaf_constant n found.0 t typed found.1 in (
-              begin (rules_of S) m.body j + ((rules_of S).rule o).place (result_start o n + found.0),
+              begin (rules_of S) m.body j + ((rules_of S).rule o).position (result_start o n + found.0),
               leaf.0,
               found.2
-                  ∙ ap (λ b. cond b (result (begin (rules_of S) m.body j) (result_start o n + found.0)) (result (begin (rules_of S) m.body j + ((rules_of S).rule o).place (result_start o n + found.0)) 0))
+                  ∙ ap (λ b. cond b (result (begin (rules_of S) m.body j) (result_start o n + found.0)) (result (begin (rules_of S) m.body j + ((rules_of S).rule o).position (result_start o n + found.0)) 0))
                   (plain_not_one o (constant_plain o one)),
               leaf.1,
               leaf.2,

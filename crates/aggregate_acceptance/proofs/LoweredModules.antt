@@ -82,14 +82,14 @@ module _ (S : Lowering) where
   follows_lowered =
       aggregates_follow S.split S.named S.d S.ports.leaves_are
       (λ s m found o here.
-      let place = position_of_In m S.d (found_module S.d s m found) in
+      let position = position_of_In m S.d (found_module S.d s m found) in
       let spot = position_of_In o m.body here in
-      regular_at place.0 m place.1 spot.0 o spot.1) S.fit.valid
+      regular_at position.0 m position.1 spot.0 o spot.1) S.fit.valid
 
   pub valid_lowered : Valid (lowered S)
   valid_lowered = follows_lowered.valid
 
-  -- a module at a place of the lowered design
+  -- a module at a position of the lowered design
   pub lowered_at : (i : ℕ) (n : Module) → slice_get (lowered S) i ≡ Some n → (m : Module) × (slice_get S.d i ≡ Some m) × (lowered_module (rules_of S) m ≡ n)
   lowered_at i n is = option_map_some (lowered_module (rules_of S)) (slice_get S.d i) (sym (slice_get-map (lowered_module (rules_of S)) S.d i) ∙ is)
 

@@ -133,14 +133,14 @@ module _ (S : Lowering) (k : ℕ) (m : Module) (at : slice_get S.d k ≡ Some m)
         let reset = async_alike own o.kind (ap (λ (y : Op). has_async_reset y.kind) leaf.2) in
         let forms : Some f ≡ Some (record { has_enable = false; reset = sync_reset }) = sym form ∙ async_form o.kind reset in
         let same : f ≡ record { has_enable = false; reset = sync_reset } = some_from forms in
-        let place : 0 + spot.0 ≡ spot.0 = omega arith in
+        let position : 0 + spot.0 ≡ spot.0 = omega arith in
         record {
           kind = async_kind o.kind reset;
           number = spot.0;
           type = leaf.0;
           leaf = leaf.1;
           operands = ap (λ (y : Op). y.operands) leaf.2
-              ∙ ap₂ (λ (g : RegisterForm) n. leaf_operands g.has_enable g.reset (map (parts_in S m) o.operands) n) same place;
+              ∙ ap₂ (λ (g : RegisterForm) n. leaf_operands g.has_enable g.reset (map (parts_in S m) o.operands) n) same position;
         })
         (λ none there. spread_case none there)
         (among (register_anchor x (record { has_enable = false; reset = sync_reset }) (async_form x.kind own)))
@@ -336,35 +336,35 @@ module _ (S : Lowering) (k : ℕ) (m : Module) (at : slice_get S.d k ≡ Some m)
             ap (λ ps. slice_get ps given.number) (sym (S.ports.leaves_are c.ports)) ∙ slice_get-map bare_port (S.split c.ports) given.number
             ∙ ap (option_map bare_port) (ap (λ ps. slice_get ps given.number) (sym ports_are) ∙ given.there)
 
-        place : (j : ℕ) × (i : ℕ) × (q : Port) × (slice_get c.ports j ≡ Some q) × (slice_get (leaf_ports q) i ≡ Some (bare_port given.port_of)) × (given.number ≡ leaf_start c.ports j + i)
-        place = flat_map_position leaf_ports c.ports given.number (bare_port given.port_of) leaf_there
+        position : (j : ℕ) × (i : ℕ) × (q : Port) × (slice_get c.ports j ≡ Some q) × (slice_get (leaf_ports q) i ≡ Some (bare_port given.port_of)) × (given.number ≡ leaf_start c.ports j + i)
+        position = flat_map_position leaf_ports c.ports given.number (bare_port given.port_of) leaf_there
 
-        is_of : port_of_leaf c.ports given.number ≡ place.0
-        is_of = ap (port_of_leaf c.ports) place.5 ∙ leaf_is_of c.ports place.0 place.1 place.2 place.3 (slice_get_within (leaf_ports place.2) place.1 (bare_port given.port_of) place.4)
+        is_of : port_of_leaf c.ports given.number ≡ position.0
+        is_of = ap (port_of_leaf c.ports) position.5 ∙ leaf_is_of c.ports position.0 position.1 position.2 position.3 (slice_get_within (leaf_ports position.2) position.1 (bare_port given.port_of) position.4)
 
-        mark : is_reset_port S.d c place.0 ≡ true
+        mark : is_reset_port S.d c position.0 ≡ true
         mark =
             ap (is_reset_port S.d c) (sym is_of) ∙ ap (has_leaf_mark (is_reset_port S.d) given.number) (sym c_found)
             ∙ ap (λ (y : Module). leaf_marks S.d (is_reset_port S.d) y given.number) was.2 ∙ given.has_mark
 
-        bit : IsBitInput c place.0
-        bit = (reset_some S.d (port_count S.d) c place.0 mark).1
+        bit : IsBitInput c position.0
+        bit = (reset_some S.d (port_count S.d) c position.0 mark).1
 
-        first : place.1 ≡ 0
+        first : position.1 ≡ 0
         first =
-            let same : Some bit.port_there ≡ Some place.2 = sym bit.there ∙ place.3 in
-            let one : bit.port_there ≡ place.2 = some_from same in
-            let size : length (leaf_ports place.2) ≡ 1 = one_leaf place.2 (ap (λ (q : Port). q.type) (sym one) ∙ bit.is_bit) in
-            only_zero place.1 (length (leaf_ports place.2)) (slice_get_within (leaf_ports place.2) place.1 (bare_port given.port_of) place.4) size
+            let same : Some bit.port_there ≡ Some position.2 = sym bit.there ∙ position.3 in
+            let one : bit.port_there ≡ position.2 = some_from same in
+            let size : length (leaf_ports position.2) ≡ 1 = one_leaf position.2 (ap (λ (q : Port). q.type) (sym one) ∙ bit.is_bit) in
+            only_zero position.1 (length (leaf_ports position.2)) (slice_get_within (leaf_ports position.2) position.1 (bare_port given.port_of) position.4) size
 
-        old_given : IsMarkedInput (is_reset_port S.d) c (port place.0)
-        old_given = record { number = place.0; is_port = refl; port_of = bit.port_there; there = bit.there; is_input = bit.is_input; has_mark = mark }
+        old_given : IsMarkedInput (is_reset_port S.d) c (port position.0)
+        old_given = record { number = position.0; is_port = refl; port_of = bit.port_there; there = bit.there; is_input = bit.is_input; has_mark = mark }
 
-        joins : (q : Ref) × (port_ref c.ports o.operands place.0 ≡ Some q) × IsMarkedInput (is_reset_port S.d) m q
-        joins = from_old (resets.joined m.symbol m o c (port place.0) found o_there called old_given)
+        joins : (q : Ref) × (port_ref c.ports o.operands position.0 ≡ Some q) × IsMarkedInput (is_reset_port S.d) m q
+        joins = from_old (resets.joined m.symbol m o c (port position.0) found o_there called old_given)
           where
-            from_old : (q : Ref) × (port_ref c.ports o.operands place.0 ≡ Some q) × IsMarkedInput (is_reset_port S.d) m q
-                → (q : Ref) × (port_ref c.ports o.operands place.0 ≡ Some q) × IsMarkedInput (is_reset_port S.d) m q
+            from_old : (q : Ref) × (port_ref c.ports o.operands position.0 ≡ Some q) × IsMarkedInput (is_reset_port S.d) m q
+                → (q : Ref) × (port_ref c.ports o.operands position.0 ≡ Some q) × IsMarkedInput (is_reset_port S.d) m q
             from_old h = h
 
         types : map (old_type m) o.operands ≡ map (λ (t : HwType). Some t) (input_types c.ports)
@@ -374,22 +374,22 @@ module _ (S : Lowering) (k : ℕ) (m : Module) (at : slice_get S.d k ≡ Some m)
             let same : Some fits.0 ≡ Some c = sym fits.1 ∙ ap (find_module S.d) of.2 ∙ was.1 in
             fits.2 ∙ ap (λ (y : Module). map (λ (t : HwType). Some t) (input_types y.ports)) (some_from same)
 
-        taken : slice_get o.operands (input_count (take place.0 c.ports)) ≡ Some joins.0
+        taken : slice_get o.operands (input_count (take position.0 c.ports)) ≡ Some joins.0
         taken =
-            sym (ap (λ y. operand_for y o.operands (input_count (take place.0 c.ports))) bit.there
-            ∙ ap (λ b. cond b None (slice_get o.operands (input_count (take place.0 c.ports)))) bit.is_input) ∙ joins.1
+            sym (ap (λ y. operand_for y o.operands (input_count (take position.0 c.ports))) bit.there
+            ∙ ap (λ b. cond b None (slice_get o.operands (input_count (take position.0 c.ports)))) bit.is_input) ∙ joins.1
 
         joined_leaf : port_ref c'.ports x.operands given.number ≡ Some (port (leaf_start m.ports joins.2.number))
         joined_leaf =
             ap (λ ps. port_ref ps x.operands given.number) ports_are
             ∙ sym (port_ref_bare (S.split c.ports) x.operands given.number)
             ∙ ap₂ (λ ps rs. port_ref ps rs given.number) (S.ports.leaves_are c.ports) (ap (λ (y : Op). y.operands) alike)
-            ∙ ap (port_ref (flat_map leaf_ports c.ports) (flat_map (parts_in S m) o.operands)) (place.5 ∙ ap (λ i. leaf_start c.ports place.0 + i) first)
-            ∙ port_ref_leaf c.ports place.0 bit.port_there bit.there bit.is_input (parts_in S m) o.operands joins.0
+            ∙ ap (port_ref (flat_map leaf_ports c.ports) (flat_map (parts_in S m) o.operands)) (position.5 ∙ ap (λ i. leaf_start c.ports position.0 + i) first)
+            ∙ port_ref_leaf c.ports position.0 bit.port_there bit.there bit.is_input (parts_in S m) o.operands joins.0
             (typed_length (old_type m) o.operands (input_types c.ports) types)
             (λ n y t at_y at_t.
             typed_size (new_type S m) (parts_in S m y) (leaves t) (parts_typed_at S k m at y t (typed_here (old_type m) o.operands (input_types c.ports) n y t types at_y at_t)))
-            taken (input_found c.ports place.0 bit.port_there bit.there bit.is_input) 0 (some_of_one (length (leaves bit.port_there.type)) (ap (λ t. length (leaves t)) bit.is_bit))
+            taken (input_found c.ports position.0 bit.port_there bit.there bit.is_input) 0 (some_of_one (length (leaves bit.port_there.type)) (ap (λ t. length (leaves t)) bit.is_bit))
             ∙ ap (λ rs. slice_get rs 0) (part_marked found joins.0 joins.2).0
 
 -- ---- the design

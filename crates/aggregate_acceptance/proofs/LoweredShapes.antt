@@ -99,8 +99,8 @@ module _ (S : Lowering) where
     -- registers, instances and outputs of the new body, without names
     anchors_lowered : map bare_op (anchors (new_body S m)) ≡ flat_map (lower_anchor (parts_in S m)) (anchors m.body)
     anchors_lowered =
-        let place = position_of_In m S.d (found_module S.d s m found) in
-        anchors_blocks (rules_of S) (parts_in S m) m.body (λ o here. (splits_at S place.0 m place.1 o here).shape) 0
+        let position = position_of_In m S.d (found_module S.d s m found) in
+        anchors_blocks (rules_of S) (parts_in S m) m.body (λ o here. (splits_at S position.0 m position.1 o here).shape) 0
 
     body_lowered : (inner : Name → List (Option HwType)) → body_held (inner_leaves inner) (new_body S m) ≡ flat_map leaf_types (body_held inner m.body)
     body_lowered inner =

@@ -517,8 +517,8 @@ joined_light S =
     go : (s : Name) (inner : Name → ℕ) (x : Option Module) → find_module S.d s ≡ x → weight_of inner (option_map (joined_module (rules_of S)) x) ≤ weight_of inner x
     go s inner None is = omega arith
     go s inner (Some m) is =
-        let place = position_of_In m S.d (found_module S.d s m is) in
-        module_light S place.0 m place.1 inner
+        let position = position_of_In m S.d (found_module S.d s m is) in
+        module_light S position.0 m position.1 inner
 
 pub joins_light : (split : List Port → List Port) (named : Op → Kind) (d : Design) → IsFit d → NamesPorts split d → NamesInstances split d named
     → (s : Name) → weight (joined_design (aggregate_rules split named) d) s ≤ weight d s

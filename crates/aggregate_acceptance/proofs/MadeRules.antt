@@ -147,10 +147,10 @@ module _ (ps : List Port) (os : List Op) where
       → AreGood (for_each (λ i t. made_op o (constant (number i)) [] (t ∷ []) [] t) 0 ts)
   constants_good o number ts made x here fits =
       let found = from_for_each (λ i t. made_op o (constant (number i)) [] (t ∷ []) [] t) 0 ts x here in
-      let place : 0 + found.0 ≡ found.0 = omega arith in
+      let position : 0 + found.0 ≡ found.0 = omega arith in
       good_same x (made_op o (constant (number (0 + found.0))) [] (found.1 ∷ []) [] found.1) found.3
       (λ given. constant_good o (number (0 + found.0)) found.1
-      (subst (λ k. IsMadeKind (constant (number k)) [] (found.1 ∷ []) found.1) (sym place) (made found.0 found.1 found.2))) fits
+      (subst (λ k. IsMadeKind (constant (number k)) [] (found.1 ∷ []) found.1) (sym position) (made found.0 found.1 found.2))) fits
 
   -- a register for each leaf
   pub registers_good : (o : Op) (f : RegisterOp) (r : Reset) (rs : ℕ → List Ref) (names : ℕ → Name) (ts : List HwType) → o.kind ≡ register f r

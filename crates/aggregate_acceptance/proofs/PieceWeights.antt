@@ -69,10 +69,10 @@ few_pieces i (u ∷ us) skip size =
         ap (λ n. length (with_piece i u skip n (pieces (suc i) us (skip - width u) (size - min (width u - skip) size)))) none in
         let first : ends (u ∷ us) skip ≡ suc (ends us (skip - width u)) = ends_past u us skip past in
         let last : ends (u ∷ us) (skip + size) ≡ suc (ends us (skip + size - width u)) = ends_past u us (skip + size) (omega arith) in
-        let place : ends us ((skip - width u) + (size - min (width u - skip) size)) ≡ ends us (skip + size - width u) =
+        let position : ends us ((skip - width u) + (size - min (width u - skip) size)) ≡ ends us (skip + size - width u) =
         ap (ends us) (let e : (skip - width u) + (size - min (width u - skip) size) ≡ skip + size - width u = omega arith in e) in
         linear (length (pieces i (u ∷ us) skip size)) (length (pieces (suc i) us (skip - width u) (size - min (width u - skip) size))) (ends (u ∷ us) skip) (ends us (skip - width u))
-        (ends (u ∷ us) (skip + size)) (ends us (skip + size - width u)) (ends us ((skip - width u) + (size - min (width u - skip) size))) same first last place rest
+        (ends (u ∷ us) (skip + size)) (ends us (skip + size - width u)) (ends us ((skip - width u) + (size - min (width u - skip) size))) same first last position rest
       where
         linear : (a b c e f g h : ℕ) → a ≡ b → c ≡ suc e → f ≡ suc g → h ≡ g → b + e ≤ suc h → a + c ≤ suc f
         linear a b c e f g h p q r s t = omega arith
@@ -83,10 +83,10 @@ few_pieces i (u ∷ us) skip size =
         with_piece_length i u skip (min (width u - skip) size) (pieces (suc i) us (skip - width u) (size - min (width u - skip) size)) in
         let first : ends (u ∷ us) skip ≡ 0 = ends_before u us skip before in
         let last : ends (u ∷ us) (skip + size) ≡ suc (ends us (skip + size - width u)) = ends_past u us (skip + size) past in
-        let place : ends us ((skip - width u) + (size - min (width u - skip) size)) ≡ ends us (skip + size - width u) =
+        let position : ends us ((skip - width u) + (size - min (width u - skip) size)) ≡ ends us (skip + size - width u) =
         ap (ends us) (let e : (skip - width u) + (size - min (width u - skip) size) ≡ skip + size - width u = omega arith in e) in
         linear (length (pieces i (u ∷ us) skip size)) (length (pieces (suc i) us (skip - width u) (size - min (width u - skip) size))) (ends (u ∷ us) skip) (ends us (skip - width u))
-        (ends (u ∷ us) (skip + size)) (ends us (skip + size - width u)) (ends us ((skip - width u) + (size - min (width u - skip) size))) most first last place rest
+        (ends (u ∷ us) (skip + size)) (ends us (skip + size - width u)) (ends us ((skip - width u) + (size - min (width u - skip) size))) most first last position rest
       where
         linear : (a b c e f g h : ℕ) → a ≤ suc b → c ≡ 0 → f ≡ suc g → h ≡ g → b + e ≤ suc h → a + c ≤ suc f
         linear a b c e f g h p q r s t = omega arith

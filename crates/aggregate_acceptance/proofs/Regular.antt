@@ -361,6 +361,6 @@ module _ (d : Design) (fit : IsFit d) (k : ℕ) (m : Module) (at : slice_get d k
 pub all_regular : (d : Design) (named : Op → Kind) → IsFit d → ((o : Op) → is_instance o ≡ true → bare_kind (named o) ≡ bare_kind o.kind)
     → (s : Name) (m : Module) → find_module d s ≡ Some m → (o : Op) → In o m.body → IsRegular named (type_in m.ports m.body) o o.kind
 all_regular d named fit names s m found o here =
-    let place = position_of_In m d (found_module d s m found) in
+    let position = position_of_In m d (found_module d s m found) in
     let spot = position_of_In o m.body here in
-    regular_op d fit place.0 m place.1 named spot.0 o spot.1 (names o)
+    regular_op d fit position.0 m position.1 named spot.0 o spot.1 (names o)

@@ -178,13 +178,13 @@ module _ (S : Lowering) where
       d0 : Design
       d0 = done ++ lowered_module (rules_of S) m ∷ map (lowered_module (rules_of S)) ms
 
-      place : (k : ℕ) × (slice_get S.d k ≡ Some m)
-      place = among m (inl refl)
+      position : (k : ℕ) × (slice_get S.d k ≡ Some m)
+      position = among m (inl refl)
 
       first : IsFitAfter d0 (done ++ joined_module (rules_of S) m ∷ map (lowered_module (rules_of S)) ms)
       first =
           subst (IsFitAfter d0) (set_between done (lowered_module (rules_of S) m) (joined_module (rules_of S) m) (map (lowered_module (rules_of S)) ms))
-          (joins_out (rules_of S) m.body [] (new_body S m) (block_rules S place.0 m place.1 m.body (λ o here. here) 0) d0 (length done) (lowered_module (rules_of S) m) fit
+          (joins_out (rules_of S) m.body [] (new_body S m) (block_rules S position.0 m position.1 m.body (λ o here. here) 0) d0 (length done) (lowered_module (rules_of S) m) fit
           (slice_get-append_at done (lowered_module (rules_of S) m) (map (lowered_module (rules_of S)) ms)) refl)
 
       moved : (n : Module) (ns : List Module) → (done ++ n ∷ []) ++ ns ≡ done ++ n ∷ ns

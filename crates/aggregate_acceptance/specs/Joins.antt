@@ -22,7 +22,7 @@ without_joins rules i [] body = body
 without_joins rules i (o ∷ os) body =
     cond (only_joins o.kind) (without_joins rules i os (unwire i (count_by rules o) body)) (without_joins rules (i + count_by rules o) os body)
 
--- so a module that is lowered
+-- a lowered module without the wires of operations that only join
 abbrev pub joined_module : Rules → Module → Module
 joined_module rules m = record (lowered_module rules m) { body = without_joins rules 0 m.body (lowered_module rules m).body }
 

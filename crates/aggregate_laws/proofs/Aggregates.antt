@@ -137,6 +137,6 @@ pub aggregates_follow : (split : List Port → List Port) (named : Op → Kind) 
 aggregates_follow split named d leaves_are regular valid =
     design_follows (aggregate_rules split named) d leaves_are
     (λ s m is o here.
-    let place = position_of_In o m.body here in
-    regular_splits named o (type_in m.ports m.body) (parts_of (aggregate_rules split named) m.ports m.body) ((valid.sound s m is).ops place.0 o place.1) o.kind refl (regular s m is o here))
+    let position = position_of_In o m.body here in
+    regular_splits named o (type_in m.ports m.body) (parts_of (aggregate_rules split named) m.ports m.body) ((valid.sound s m is).ops position.0 o position.1) o.kind refl (regular s m is o here))
     valid

@@ -16,14 +16,14 @@ use Rattle.aggregate_laws.proofs.Leafwise.{length-for_each}
 -- a rule whose block is what becomes of the operation, but for names
 anchor_splits : (rule : Rule) (old_type : Ref → Option HwType) (stand : Ref → List Ref) (o : Op) → is_anchor o ≡ true → ((start : ℕ) → length (block rule stand start o) ≡ rule.count)
     → ((start : ℕ) → map bare_op (block rule stand start o) ≡ lower_anchor stand o) → (is_register o ≡ true → (k : ℕ) → result_type o (suc k) ≡ None)
-    → (is_register o ≡ true → (i : ℕ) → rule.place i ≡ i) → Splits rule old_type stand o
-anchor_splits rule old_type stand o anchor size becomes one place = record {
+    → (is_register o ≡ true → (i : ℕ) → rule.position i ≡ i) → Splits rule old_type stand o
+anchor_splits rule old_type stand o anchor size becomes one position = record {
   shape = record {
     size = size;
     anchor = λ is. becomes;
     plain = λ plain start x here. let clash : true ≡ false = sym anchor ∙ plain in cc;
     register_has_one = one;
-    register_place = place;
+    register_position = position;
     leaf_type = λ plain start k i t u typed at_u. let clash : true ≡ false = sym anchor ∙ plain in cc;
   };
   has_first = λ plain start i x at_i. absurd (apart plain);

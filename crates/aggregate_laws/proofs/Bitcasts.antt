@@ -278,21 +278,21 @@ module _ (new_type : Ref → Option HwType) (stand : Ref → List Ref) (start : 
   extracts_typed : (o : Op) (m begin : ℕ) (ps : List Piece) → begin ≡ start + m → EachOp (OwnType new_type stand start operands) m (extracts o (stand y) ps)
       → map new_type (in_row (λ i. result i 0) begin (length ps)) ≡ map (λ (u : HwType). Some u) (map piece_type ps)
   unfolding OwnType
-  extracts_typed o m begin [] place own = refl
-  extracts_typed o m begin (p ∷ ps) place (first, rest) =
-      ap₂ (λ x xs. x ∷ xs) (ap (λ n. new_type (result n 0)) place ∙ first) (extracts_typed o (suc m) (suc begin) ps (let e : suc begin ≡ start + suc m = omega arith in e) rest)
+  extracts_typed o m begin [] position own = refl
+  extracts_typed o m begin (p ∷ ps) position (first, rest) =
+      ap₂ (λ x xs. x ∷ xs) (ap (λ n. new_type (result n 0)) position ∙ first) (extracts_typed o (suc m) (suc begin) ps (let e : suc begin ≡ start + suc m = omega arith in e) rest)
 
   many_good : (o : Op) (t : HwType) (m begin : ℕ) (ps : List Piece) → begin ≡ start + m → sizes ps ≡ width t → EachPiece (IsPiece us 0) ps
       → EachOp (OwnType new_type stand start operands) m (extracts o (stand y) ps ++ (made_op o concat (in_row (λ i. result i 0) begin (length ps)) (map piece_type ps) [] t ∷ []))
       → EachOp (GoodOp new_type stand start operands) m (extracts o (stand y) ps ++ (made_op o concat (in_row (λ i. result i 0) begin (length ps)) (map piece_type ps) [] t ∷ []))
   unfolding GoodOp
-  many_good o t m begin ps place size all own =
+  many_good o t m begin ps position size all own =
       each_append (GoodOp new_type stand start operands) m (extracts o (stand y) ps) (made_op o concat (in_row (λ i. result i 0) begin (length ps)) (map piece_type ps) [] t ∷ [])
       (extracts_good o m ps all) (
         (
           made_fits new_type o concat (in_row (λ i. result i 0) begin (length ps)) (map piece_type ps) [] t (
             map piece_type ps,
-            extracts_typed o m begin ps place
+            extracts_typed o m begin ps position
                 (each_left (OwnType new_type stand start operands) m (extracts o (stand y) ps) (made_op o concat (in_row (λ i. result i 0) begin (length ps)) (map piece_type ps) [] t ∷ []) own),
             sym size ∙ sizes_total ps,
           ),
@@ -310,18 +310,18 @@ module _ (new_type : Ref → Option HwType) (stand : Ref → List Ref) (start : 
   joined_good : (o : Op) (t : HwType) (m begin : ℕ) (ps : List Piece) → begin ≡ start + m → sizes ps ≡ width t → EachPiece (IsPiece us 0) ps
       → EachOp (OwnType new_type stand start operands) m (joined_pieces o (stand y) t begin ps) → EachOp (GoodOp new_type stand start operands) m (joined_pieces o (stand y) t begin ps)
   unfolding GoodOp many_good
-  joined_good o t m begin [] place size all own = many_good o t m begin [] place size all own
-  joined_good o t m begin (p ∷ []) place size (first, rest) own =
+  joined_good o t m begin [] position size all own = many_good o t m begin [] position size all own
+  joined_good o t m begin (p ∷ []) position size (first, rest) own =
       ((extract_fits o p t first (sym size ∙ add-zero p.size), λ r here. only_part p first m r here), tt)
-  joined_good o t m begin (p ∷ q ∷ ps) place size all own = many_good o t m begin (p ∷ q ∷ ps) place size all own
+  joined_good o t m begin (p ∷ q ∷ ps) position size all own = many_good o t m begin (p ∷ q ∷ ps) position size all own
 
   leaf_good : (o : Op) (skip m begin : ℕ) (ts : List HwType) → skip + widths ts ≤ widths us → begin ≡ start + m
       → EachOp (OwnType new_type stand start operands) m (leaf_pieces o (stand y) us skip begin ts) → EachOp (GoodOp new_type stand start operands) m (leaf_pieces o (stand y) us skip begin ts)
-  leaf_good o skip m begin [] within place own = tt
-  leaf_good o skip m begin (t ∷ ts) within place own =
+  leaf_good o skip m begin [] within position own = tt
+  leaf_good o skip m begin (t ∷ ts) within position own =
       each_append (GoodOp new_type stand start operands) m (joined_pieces o (stand y) t begin (pieces 0 us skip (width t)))
       (leaf_pieces o (stand y) us (skip + width t) (begin + suc (joined_end (pieces 0 us skip (width t)))) ts)
-      (joined_good o t m begin (pieces 0 us skip (width t)) place (pieces_sizes 0 us skip (width t) (omega arith)) (pieces_are 0 us skip (width t))
+      (joined_good o t m begin (pieces 0 us skip (width t)) position (pieces_sizes 0 us skip (width t) (omega arith)) (pieces_are 0 us skip (width t))
       (each_left (OwnType new_type stand start operands) m (joined_pieces o (stand y) t begin (pieces 0 us skip (width t)))
       (leaf_pieces o (stand y) us (skip + width t) (begin + suc (joined_end (pieces 0 us skip (width t)))) ts) own))
       (leaf_good o (skip + width t) (m + length (joined_pieces o (stand y) t begin (pieces 0 us skip (width t)))) (begin + suc (joined_end (pieces 0 us skip (width t)))) ts (omega arith)
@@ -358,11 +358,11 @@ module _ (o : Op) (old_type : Ref → Option HwType) (stand : Ref → List Ref) 
     size = λ start. leaf_pieces_length o (argument 0 (map stand o.operands)) (leaves u) 0 start (all_leaves o);
     anchor = λ anchored start. let clash : true ≡ false = sym anchored ∙ cast_plain in cc;
     plain = λ plain start x here.
-        let place = position_of_In x (leaf_pieces o (argument 0 (map stand o.operands)) (leaves u) 0 start (all_leaves o)) here in
+        let position = position_of_In x (leaf_pieces o (argument 0 (map stand o.operands)) (leaves u) 0 start (all_leaves o)) here in
         each_at PlainOp 0 (leaf_pieces o (argument 0 (map stand o.operands)) (leaves u) 0 start (all_leaves o))
-        (leaf_pieces_plain o (argument 0 (map stand o.operands)) (leaves u) 0 start 0 (all_leaves o)) place.0 x place.1;
+        (leaf_pieces_plain o (argument 0 (map stand o.operands)) (leaves u) 0 start 0 (all_leaves o)) position.0 x position.1;
     register_has_one = λ register k. let clash : true ≡ false = sym register ∙ plain_no_register o cast_plain in cc;
-    register_place = λ register i. let clash : true ≡ false = sym register ∙ plain_no_register o cast_plain in cc;
+    register_position = λ register i. let clash : true ≡ false = sym register ∙ plain_no_register o cast_plain in cc;
     leaf_type = λ plain start k i v w typed at_w.
         leaf_last o (argument 0 (map stand o.operands)) (leaves u) 0 start (all_leaves o) (result_start o k + i) w (leaf_among o k i v w typed at_w);
   }

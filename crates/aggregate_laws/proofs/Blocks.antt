@@ -21,8 +21,8 @@ use Rattle.aggregate_laws.proofs.Anchors.{by_form, from_leaf_register}
 abbrev pub block_by : Rules → (Ref → List Ref) → ℕ → Op → List Op
 block_by rules parts start o = block (rules.rule o) parts start o
 
-abbrev pub place_by : Rules → Op → ℕ → ℕ
-place_by rules o = (rules.rule o).place
+abbrev pub position_by : Rules → Op → ℕ → ℕ
+position_by rules o = (rules.rule o).position
 
 abbrev pub leaf_by : Rules → ℕ → Op → ℕ → Ref
 leaf_by rules start o = leaf_ref (rules.rule o) start o
@@ -47,10 +47,10 @@ lowered_anchors : (parts : Ref → List Ref) (o : Op) → is_anchor o ≡ true �
 lowered_anchors parts o is x =
     by_form parts (λ xs. In x xs → is_anchor x ≡ true) o
     (λ f form here.
-    let place = position_of_In x (leaf_registers (bare_kind o.kind) (leaf_operands f.has_enable f.reset (map parts o.operands)) 0 (leaves_of (result_type o 0))) here in
-    let leaf = from_leaf_register (bare_kind o.kind) (leaf_operands f.has_enable f.reset (map parts o.operands)) (leaves_of (result_type o 0)) 0 place.0 x place.1 in
-    ap is_anchor leaf.2 ∙ ap (λ (y : Option RegisterForm). cond (is_some y) true (cond (is_instance (bare (bare_kind o.kind) (leaf_operands f.has_enable f.reset (map parts o.operands) (0 + place.0)) (leaf.0 ∷ [])))
-    true (is_output_op (bare (bare_kind o.kind) (leaf_operands f.has_enable f.reset (map parts o.operands) (0 + place.0)) (leaf.0 ∷ []))))) (form_bare o.kind ∙ form))
+    let position = position_of_In x (leaf_registers (bare_kind o.kind) (leaf_operands f.has_enable f.reset (map parts o.operands)) 0 (leaves_of (result_type o 0))) here in
+    let leaf = from_leaf_register (bare_kind o.kind) (leaf_operands f.has_enable f.reset (map parts o.operands)) (leaves_of (result_type o 0)) 0 position.0 x position.1 in
+    ap is_anchor leaf.2 ∙ ap (λ (y : Option RegisterForm). cond (is_some y) true (cond (is_instance (bare (bare_kind o.kind) (leaf_operands f.has_enable f.reset (map parts o.operands) (0 + position.0)) (leaf.0 ∷ [])))
+    true (is_output_op (bare (bare_kind o.kind) (leaf_operands f.has_enable f.reset (map parts o.operands) (0 + position.0)) (leaf.0 ∷ []))))) (form_bare o.kind ∙ form))
     (λ none here. by_member here)
   where
     by_member : In x (spread parts o ∷ []) → is_anchor x ≡ true
@@ -160,7 +160,7 @@ module _ (rules : Rules) (parts : Ref → List Ref) where
           sym (slice_get-append_right (block_by rules parts start o) (blocks rules parts (start + count_by rules o) os) (n - count_by rules o))
           ∙ ap (slice_get (block_by rules parts start o ++ blocks rules parts (start + count_by rules o) os)) (sym sum) ∙ is in
           let found = rest later in
-          let place : n - count_by rules o ≡ begin rules os found.0 + found.2 = found.6 in (
+          let position : n - count_by rules o ≡ begin rules os found.0 + found.2 = found.6 in (
             suc found.0,
             found.1,
             found.2,

@@ -31,7 +31,7 @@ use Rattle.aggregate_laws.proofs.Anchors.{lowered_register, lowered_other, leaf_
 use Rattle.aggregate_laws.proofs.Ports.{leaf_port_at}
 use Rattle.aggregate_laws.proofs.Nets.{no_result}
 use Rattle.aggregate_laws.proofs.Types.{bare_types}
-use Rattle.aggregate_laws.proofs.Blocks.{block_by, place_by, leaf_by, leaves_by, block_anchors, blocks_at, blocks_position, anchors_blocks, anchors_before}
+use Rattle.aggregate_laws.proofs.Blocks.{block_by, position_by, leaf_by, leaves_by, block_anchors, blocks_at, blocks_position, anchors_blocks, anchors_before}
 use Rattle.aggregate_laws.proofs.Owners.{owner, owner_at, starts, take_counts}
 
 -- ---- rules
@@ -127,9 +127,9 @@ module _ (rules : Rules) (ps ps' : List Port) (os : List Op) (ports_are : map ba
 
     -- a leaf of an operation that is made of its operands is a result of its block
     leaf_made : is_anchor o ≡ false → (k i : ℕ) (t u : HwType) → result_type o k ≡ Some t → slice_get (leaves t) i ≡ Some u
-        → (x : Op) × (slice_get (block_by rules (parts_of rules ps os) (begin rules os j) o) (place_by rules o (result_start o k + i)) ≡ Some x) × (result_type x 0 ≡ Some u)
+        → (x : Op) × (slice_get (block_by rules (parts_of rules ps os) (begin rules os j) o) (position_by rules o (result_start o k + i)) ≡ Some x) × (result_type x 0 ≡ Some u)
     leaf_made plain k i t u typed at_u =
-        and_then_some (slice_get (block_by rules (parts_of rules ps os) (begin rules os j) o) (place_by rules o (result_start o k + i))) (λ (x : Op). result_type x 0)
+        and_then_some (slice_get (block_by rules (parts_of rules ps os) (begin rules os j) o) (position_by rules o (result_start o k + i))) (λ (x : Op). result_type x 0)
         ((splits o (In-slice_get o os j is)).shape.leaf_type plain (begin rules os j) k i t u typed at_u)
 
     -- ---- the types of leaves
@@ -142,7 +142,7 @@ module _ (rules : Rules) (ps ps' : List Port) (os : List Op) (ports_are : map ba
         one anchor none =
             let there = option_map_some bare_op (slice_get (blocks rules (parts_of rules ps os) 0 os) (begin rules os j + 0))
             (anchor_at anchor 0 (spread (parts_of rules ps os) o) (ap (λ xs. slice_get xs 0) (lowered_other (parts_of rules ps os) o none))) in
-            ap (λ b. type_in ps' (blocks rules (parts_of rules ps os) 0 os) (cond b (result (begin rules os j) (result_start o k + i)) (result (begin rules os j + place_by rules o (result_start o k + i)) 0)))
+            ap (λ b. type_in ps' (blocks rules (parts_of rules ps os) 0 os) (cond b (result (begin rules os j) (result_start o k + i)) (result (begin rules os j + position_by rules o (result_start o k + i)) 0)))
             (one_from_anchor o anchor none)
             ∙ ap (λ n. option_and_then (λ (x : Op). result_type x (result_start o k + i)) (slice_get (blocks rules (parts_of rules ps os) 0 os) n)) (sym (add-zero (begin rules os j)))
             ∙ ap (λ y. option_and_then (λ (x : Op). result_type x (result_start o k + i)) y) there.1
@@ -152,10 +152,10 @@ module _ (rules : Rules) (ps ps' : List Port) (os : List Op) (ports_are : map ba
             ∙ flat_map_at leaves (result_types o) k i t (sym (type_listed o k) ∙ typed) (slice_get_within (leaves t) i u at_u)
             ∙ at_u
 
-        two : stays_one o ≡ false → (n : ℕ) → place_by rules o (result_start o k + i) ≡ n → (x : Op) → slice_get (blocks rules (parts_of rules ps os) 0 os) (begin rules os j + n) ≡ Some x → result_type x 0 ≡ Some u
+        two : stays_one o ≡ false → (n : ℕ) → position_by rules o (result_start o k + i) ≡ n → (x : Op) → slice_get (blocks rules (parts_of rules ps os) 0 os) (begin rules os j + n) ≡ Some x → result_type x 0 ≡ Some u
             → type_in ps' (blocks rules (parts_of rules ps os) 0 os) (leaf_by rules (begin rules os j) o (result_start o k + i)) ≡ Some u
-        two not_one n place x at_n typed_x =
-            ap₂ (λ b m. type_in ps' (blocks rules (parts_of rules ps os) 0 os) (cond b (result (begin rules os j) (result_start o k + i)) (result (begin rules os j + m) 0))) not_one place
+        two not_one n position x at_n typed_x =
+            ap₂ (λ b m. type_in ps' (blocks rules (parts_of rules ps os) 0 os) (cond b (result (begin rules os j) (result_start o k + i)) (result (begin rules os j + m) 0))) not_one position
             ∙ ap (λ y. option_and_then (λ (z : Op). result_type z 0) y) at_n ∙ typed_x
 
         by_number : (f : RegisterForm) → register_form o.kind ≡ Some f → (m : ℕ) → k ≡ m
@@ -169,16 +169,16 @@ module _ (rules : Rules) (ps ps' : List Port) (os : List Op) (ports_are : map ba
             ∙ leaf_register_at (bare_kind o.kind) (leaf_operands f.has_enable f.reset (map (parts_of rules ps os) o.operands)) (leaves t) 0 i u at_u in
             let there = option_map_some bare_op (slice_get (blocks rules (parts_of rules ps os) 0 os) (begin rules os j + i)) (anchor_at (register_anchor o f form) i _ leaf) in
             two (register_not_one o f form) i
-            ((splits o (In-slice_get o os j is)).shape.register_place (ap is_some form) (result_start o k + i) ∙ ap (λ n. result_start o n + i) is_m ∙ zero-add i)
+            ((splits o (In-slice_get o os j is)).shape.register_position (ap is_some form) (result_start o k + i) ∙ ap (λ n. result_start o n + i) is_m ∙ zero-add i)
             there.0 there.1 (sym (type_bare there.0 0) ∙ ap (λ (z : Op). result_type z 0) there.2)
 
         made : is_anchor o ≡ false → type_in ps' (blocks rules (parts_of rules ps os) 0 os) (leaf_by rules (begin rules os j) o (result_start o k + i)) ≡ Some u
         made plain =
             let leaf = leaf_made plain k i t u typed at_u in
-            let below : place_by rules o (result_start o k + i) < length (block_by rules (parts_of rules ps os) (begin rules os j) o) =
-            slice_get_within (block_by rules (parts_of rules ps os) (begin rules os j) o) (place_by rules o (result_start o k + i)) leaf.0 leaf.1 in
-            two (plain_not_one o plain) (place_by rules o (result_start o k + i)) refl leaf.0
-            (block_at (place_by rules o (result_start o k + i)) (omega (arith, count_is)) ∙ leaf.1) leaf.2
+            let below : position_by rules o (result_start o k + i) < length (block_by rules (parts_of rules ps os) (begin rules os j) o) =
+            slice_get_within (block_by rules (parts_of rules ps os) (begin rules os j) o) (position_by rules o (result_start o k + i)) leaf.0 leaf.1 in
+            two (plain_not_one o plain) (position_by rules o (result_start o k + i)) refl leaf.0
+            (block_at (position_by rules o (result_start o k + i)) (omega (arith, count_is)) ∙ leaf.1) leaf.2
 
         go : Sort o.kind → type_in ps' (blocks rules (parts_of rules ps os) 0 os) (leaf_by rules (begin rules os j) o (result_start o k + i)) ≡ Some u
         go (a_register f r n w) = by_number f r k refl
@@ -274,7 +274,7 @@ module _ (rules : Rules) (ps ps' : List Port) (os : List Op) (ports_are : map ba
       ∙ rule_same (leaf_by rules (begin rules os j) o) (λ i. result (begin rules os j + i) 0) 0 (length (leaves t))
       (λ i.
       ap₂ (λ b n. cond b (result (begin rules os j) i) (result (begin rules os j + n) 0)) (register_one_not o register)
-      ((splits o (In-slice_get o os j is)).shape.register_place register i))
+      ((splits o (In-slice_get o os j is)).shape.register_position register i))
 
   instance_parts_are : (j : ℕ) (o : Op) (k : ℕ) (t : HwType) → slice_get os j ≡ Some o → is_instance o ≡ true → result_type o k ≡ Some t
       → parts_of rules ps os (result j k) ≡ in_row (result (begin rules os j + 0)) (result_start o k) (length (leaves t))
@@ -282,7 +282,7 @@ module _ (rules : Rules) (ps ps' : List Port) (os : List Op) (ports_are : map ba
       parts_result j o k t is typed
       ∙ rule_same (leaf_by rules (begin rules os j) o) (result (begin rules os j + 0)) (result_start o k) (length (leaves t))
       (λ i.
-      ap (λ b. cond (cond b true (is_output_op o)) (result (begin rules os j) i) (result (begin rules os j + place_by rules o i) 0)) inst
+      ap (λ b. cond (cond b true (is_output_op o)) (result (begin rules os j) i) (result (begin rules os j + position_by rules o i) 0)) inst
       ∙ ap (λ n. result n i) (sym (add-zero (begin rules os j))))
 
   anchor_stands : (j : ℕ) (o : Op) (i : ℕ) (x : Op) → slice_get os j ≡ Some o → is_anchor o ≡ true → slice_get (lower_anchor (parts_of rules ps os) o) i ≡ Some x
@@ -382,7 +382,7 @@ module _ (rules : Rules) (ps ps' : List Port) (os : List Op) (ports_are : map ba
         one : is_anchor o ≡ true → register_form o.kind ≡ None → h (home_of (leaf_by rules (begin rules os j) o (result_start o k + i))) ≡ h (result j k)
         one anchor none =
             let single_op : count_by rules o ≡ 1 = one_count j o is anchor none in
-            ap (λ b. h (home_of (cond b (result (begin rules os j) (result_start o k + i)) (result (begin rules os j + place_by rules o (result_start o k + i)) 0)))) (one_from_anchor o anchor none)
+            ap (λ b. h (home_of (cond b (result (begin rules os j) (result_start o k + i)) (result (begin rules os j + position_by rules o (result_start o k + i)) 0)))) (one_from_anchor o anchor none)
             ∙ ap (λ n. h (home_of (result n (result_start o k + i)))) (sym (add-zero (begin rules os j)))
             ∙ ap h (home_at j o is 0 (result_start o k + i) (omega arith))
             ∙ ap (λ b. h (result j (cond b (owner (map (λ (u : HwType). length (leaves u)) (result_types o)) (result_start o k + i)) 0))) (one_from_anchor o anchor none)
@@ -392,11 +392,11 @@ module _ (rules : Rules) (ps ps' : List Port) (os : List Op) (ports_are : map ba
             (slice_get-map (λ (u : HwType). length (leaves u)) (result_types o) k ∙ ap (option_map (λ (u : HwType). length (leaves u))) (sym (type_listed o k) ∙ typed)) below)
 
         -- each is the result of one
-        two : stays_one o ≡ false → place_by rules o (result_start o k + i) < count_by rules o → h (result j 0) ≡ h (result j k)
+        two : stays_one o ≡ false → position_by rules o (result_start o k + i) < count_by rules o → h (result j 0) ≡ h (result j k)
             → h (home_of (leaf_by rules (begin rules os j) o (result_start o k + i))) ≡ h (result j k)
         two not_one within same =
-            ap (λ b. h (home_of (cond b (result (begin rules os j) (result_start o k + i)) (result (begin rules os j + place_by rules o (result_start o k + i)) 0)))) not_one
-            ∙ ap h (home_at j o is (place_by rules o (result_start o k + i)) 0 within)
+            ap (λ b. h (home_of (cond b (result (begin rules os j) (result_start o k + i)) (result (begin rules os j + position_by rules o (result_start o k + i)) 0)))) not_one
+            ∙ ap h (home_at j o is (position_by rules o (result_start o k + i)) 0 within)
             ∙ ap (λ b. h (result j (cond b (owner (map (λ (u : HwType). length (leaves u)) (result_types o)) 0) 0))) not_one
             ∙ same
 
@@ -405,7 +405,7 @@ module _ (rules : Rules) (ps ps' : List Port) (os : List Op) (ports_are : map ba
             let never : None ≡ Some t = sym ((splits o (In-slice_get o os j is)).shape.register_has_one (ap is_some form) m) ∙ ap (result_type o) (sym is_m) ∙ typed in cc
         by_number f form zero is_m =
             let sum : result_start o k + i ≡ i = ap (λ n. result_start o n + i) is_m ∙ zero-add i in
-            let place : place_by rules o (result_start o k + i) ≡ result_start o k + i = (splits o (In-slice_get o os j is)).shape.register_place (ap is_some form) (result_start o k + i) in
+            let position : position_by rules o (result_start o k + i) ≡ result_start o k + i = (splits o (In-slice_get o os j is)).shape.register_position (ap is_some form) (result_start o k + i) in
             let size : count_by rules o ≡ length (leaves t) = register_count j o is f t form (ap (result_type o) (sym is_m) ∙ typed) in
             two (register_not_one o f form) (omega arith) (ap (λ n. h (result j n)) (sym is_m))
 
@@ -413,9 +413,9 @@ module _ (rules : Rules) (ps ps' : List Port) (os : List Op) (ports_are : map ba
         made plain =
             let leaf = slice_get_some (leaves t) i below in
             let new = leaf_made j o is plain k i t leaf.0 typed leaf.1 in
-            let within : place_by rules o (result_start o k + i) < length (block_by rules (parts_of rules ps os) (begin rules os j) o) =
-            slice_get_within (block_by rules (parts_of rules ps os) (begin rules os j) o) (place_by rules o (result_start o k + i)) new.0 new.1 in
-            let first_type = (splits o (In-slice_get o os j is)).has_first plain (begin rules os j) (place_by rules o (result_start o k + i)) new.0 new.1 in
+            let within : position_by rules o (result_start o k + i) < length (block_by rules (parts_of rules ps os) (begin rules os j) o) =
+            slice_get_within (block_by rules (parts_of rules ps os) (begin rules os j) o) (position_by rules o (result_start o k + i)) new.0 new.1 in
+            let first_type = (splits o (In-slice_get o os j is)).has_first plain (begin rules os j) (position_by rules o (result_start o k + i)) new.0 new.1 in
             two (plain_not_one o plain) (omega (arith, count_is j o is)) (local.made j 0 o first_type.0 is plain first_type.1 ∙ sym (local.made j k o t is plain typed))
 
         go : Sort o.kind → h (home_of (leaf_by rules (begin rules os j) o (result_start o k + i))) ≡ h (result j k)

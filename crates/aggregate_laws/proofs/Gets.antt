@@ -331,9 +331,9 @@ copies_at (suc n) (suc k) l xs below within =
     ∙ slice_get-append_right xs (list_copies n xs) (k * length xs + l) ∙ copies_at n k l xs (omega arith) within
 
 -- which of the copies a leaf is in
-pub copies_place : {A : Type 0} (n l : ℕ) (xs : List A) (x : A) → slice_get (list_copies n xs) l ≡ Some x → slice_get xs (l % length xs) ≡ Some x
-copies_place zero l xs x is = cc
-copies_place (suc n) l xs x is = go (grind arith) (copies_place n (l - length xs) xs x)
+pub copies_position : {A : Type 0} (n l : ℕ) (xs : List A) (x : A) → slice_get (list_copies n xs) l ≡ Some x → slice_get xs (l % length xs) ≡ Some x
+copies_position zero l xs x is = cc
+copies_position (suc n) l xs x is = go (grind arith) (copies_position n (l - length xs) xs x)
   where
     go : (l < length xs) ⊎ (length xs ≤ l) → (slice_get (list_copies n xs) (l - length xs) ≡ Some x → slice_get xs ((l - length xs) % length xs) ≡ Some x) → slice_get xs (l % length xs) ≡ Some x
     go (inl below) rest = ap (slice_get xs) (mod-eq_of_lt below) ∙ sym (slice_get-append_left xs (list_copies n xs) l below) ∙ is
@@ -363,13 +363,13 @@ module _ (new_type : Ref → Option HwType) (parts : Ref → List Ref) (start : 
   module _ (o : Op) (w : ℕ) (index y : Ref) (index_type : new_type index ≡ Some (int w)) (among : In y rs) (of_index : In index (parts y)) where
     pub tests_good : (m begin from n : ℕ) → begin ≡ start + m → EachOp OwnType m (tests o w index begin from n) → EachOp GoodOp m (tests o w index begin from n)
     unfolding OwnType GoodOp
-    tests_good m begin from zero place own = tt
-    tests_good m begin from (suc n) place (own_constant, (own_test, rest)) = (
+    tests_good m begin from zero position own = tt
+    tests_good m begin from (suc n) position (own_constant, (own_test, rest)) = (
       (made_fits new_type o (constant (pos from)) [] (int w ∷ []) [] (int w) refl, λ r never. absurd never),
       (
         (
           made_fits new_type o (icmp eq) (index ∷ result begin 0 ∷ []) (int w ∷ []) [] (int 1)
-              (int w, ap₂ (λ a b. a ∷ b ∷ []) index_type (ap (λ k. new_type (result k 0)) place ∙ own_constant), refl),
+              (int w, ap₂ (λ a b. a ∷ b ∷ []) index_type (ap (λ k. new_type (result k 0)) position ∙ own_constant), refl),
           member,
         ),
         tests_good (suc (suc m)) (begin + 2) (suc from) n (let e : begin + 2 ≡ start + suc (suc m) = omega arith in e) rest,
@@ -378,15 +378,15 @@ module _ (new_type : Ref → Option HwType) (parts : Ref → List Ref) (start : 
       where
         member : (r : Ref) → In r (index ∷ result begin 0 ∷ []) → StandsBefore parts start rs (suc m) r
         member r (inl same) = inl (y, among, subst (λ x. In x (parts y)) (sym same) of_index)
-        member r (inr (inl same)) = inr (m, omega arith, same ∙ ap (λ k. result k 0) place)
+        member r (inr (inl same)) = inr (m, omega arith, same ∙ ap (λ k. result k 0) position)
         member r (inr (inr never)) = absurd never
 
     pub tests_typed : (m begin from n : ℕ) → begin ≡ start + m → EachOp OwnType m (tests o w index begin from n) → (i : ℕ) → i < n → new_type (result (begin + (2 * i + 1)) 0) ≡ Some (int 1)
     unfolding OwnType
-    tests_typed m begin from zero place own i below = absurd (omega arith)
-    tests_typed m begin from (suc n) place (own_constant, (own_test, rest)) zero below =
+    tests_typed m begin from zero position own i below = absurd (omega arith)
+    tests_typed m begin from (suc n) position (own_constant, (own_test, rest)) zero below =
         ap (λ k. new_type (result k 0)) (let e : begin + (2 * 0 + 1) ≡ start + suc m = omega arith in e) ∙ own_test
-    tests_typed m begin from (suc n) place (own_constant, (own_test, rest)) (suc i) below =
+    tests_typed m begin from (suc n) position (own_constant, (own_test, rest)) (suc i) below =
         ap (λ k. new_type (result k 0)) (let e : begin + (2 * suc i + 1) ≡ begin + 2 + (2 * i + 1) = omega arith in e)
         ∙ tests_typed (suc (suc m)) (begin + 2) (suc from) n (let e : begin + 2 ≡ start + suc (suc m) = omega arith in e) rest i (omega arith)
 
@@ -396,8 +396,8 @@ module _ (new_type : Ref → Option HwType) (parts : Ref → List Ref) (start : 
         → ((e : ℕ) → e < k → (new_type (element e) ≡ Some t) × ((x : Ref) × In x rs × In (element e) (parts x)))
         → EachOp OwnType (suc m) (choices o t test element before k) → EachOp GoodOp (suc m) (choices o t test element before k)
     unfolding OwnType GoodOp
-    choices_good t element m before zero few after place typed elements own = tt
-    choices_good t element m before (suc k) few after place typed elements (own_first, rest) = (
+    choices_good t element m before zero few after position typed elements own = tt
+    choices_good t element m before (suc k) few after position typed elements (own_first, rest) = (
       (
         made_fits new_type o mux (test k ∷ element k ∷ result before 0 ∷ []) (t ∷ []) [] t
             (ap₂ (λ a b. a ∷ b ∷ new_type (result before 0) ∷ []) (test_type k (omega arith)) (elements k (omega arith)).0 ∙ ap (λ c. Some (int 1) ∷ Some t ∷ c ∷ []) typed),
@@ -412,18 +412,18 @@ module _ (new_type : Ref → Option HwType) (parts : Ref → List Ref) (start : 
         member r (inr (inl same)) =
             let found = (elements k (omega arith)).1 in
             inl (found.0, found.1, subst (λ x. In x (parts found.0)) (sym same) found.2)
-        member r (inr (inr (inl same))) = inr (m, omega arith, same ∙ ap (λ j. result j 0) place)
+        member r (inr (inr (inl same))) = inr (m, omega arith, same ∙ ap (λ j. result j 0) position)
         member r (inr (inr (inr never))) = absurd never
 
     leaf_choices_good : (element : ℕ → ℕ → Ref) (sizes : ℕ → ℕ) (m begin l : ℕ) (ts : List HwType) → ((k : ℕ) → sizes k ≤ n) → 2 * n ≤ m → begin ≡ start + m
         → ((i e : ℕ) (t : HwType) → slice_get ts i ≡ Some t → e < sizes (l + i) → (new_type (element (l + i) e) ≡ Some t) × ((x : Ref) × In x rs × In (element (l + i) e) (parts x)))
         → EachOp OwnType m (leaf_choices o test element sizes begin l ts) → EachOp GoodOp m (leaf_choices o test element sizes begin l ts)
     unfolding OwnType GoodOp choices_good
-    leaf_choices_good element sizes m begin l [] few after place elements own = tt
-    leaf_choices_good element sizes m begin l (t ∷ ts) few after place elements (own_zero, rest) = (
+    leaf_choices_good element sizes m begin l [] few after position elements own = tt
+    leaf_choices_good element sizes m begin l (t ∷ ts) few after position elements (own_zero, rest) = (
       (made_fits new_type o (constant (pos 0)) [] (t ∷ []) [] t refl, λ r never. absurd never),
       each_append GoodOp (suc m) (choices o t test (element l) begin (sizes l)) (leaf_choices o test element sizes (begin + suc (sizes l)) (suc l) ts)
-          (choices_good t (element l) m begin (sizes l) (few l) after place (ap (λ j. new_type (result j 0)) place ∙ own_zero)
+          (choices_good t (element l) m begin (sizes l) (few l) after position (ap (λ j. new_type (result j 0)) position ∙ own_zero)
           (λ e below. subst (λ j. (new_type (element j e) ≡ Some t) × ((x : Ref) × In x rs × In (element j e) (parts x))) (add-zero l)
           (elements 0 e t refl (subst (λ j. e < sizes j) (sym (add-zero l)) below)))
           (each_left OwnType (suc m) (choices o t test (element l) begin (sizes l)) (leaf_choices o test element sizes (begin + suc (sizes l)) (suc l) ts) rest))
@@ -466,10 +466,10 @@ module _ (o : Op) (n w : ℕ) (sizes : ℕ → ℕ) (pick : List Ref → ℕ →
   choice_member : (args : List (List Ref)) (start : ℕ) (x : Op) → In x (first_part args start ++ second_part args start) → is_anchor x ≡ false
   unfolding PlainOp
   choice_member args start x here =
-      let place = position_of_In x (first_part args start ++ second_part args start) here in
+      let position = position_of_In x (first_part args start ++ second_part args start) here in
       each_at PlainOp 0 (first_part args start ++ second_part args start)
       (each_append PlainOp 0 (first_part args start) (second_part args start) (tests_plain o w (index_of args) 0 start 0 n)
-      (leaf_choices_plain o (test_at start) (pick (argument 0 args)) sizes (0 + length (first_part args start)) (start + 2 * n) 0 (all_leaves o))) place.0 x place.1
+      (leaf_choices_plain o (test_at start) (pick (argument 0 args)) sizes (0 + length (first_part args start)) (start + 2 * n) 0 (all_leaves o))) position.0 x position.1
 
   choice_leaf : (args : List (List Ref)) (start l : ℕ) (u : HwType) → slice_get (all_leaves o) l ≡ Some u
       → option_and_then (λ (x : Op). result_type x 0) (slice_get (first_part args start ++ second_part args start) (2 * n + choice_end sizes 0 l)) ≡ Some u
@@ -484,7 +484,7 @@ module _ (o : Op) (n w : ℕ) (sizes : ℕ → ℕ) (pick : List Ref → ℕ →
     anchor = λ anchored start. let clash : true ≡ false = sym anchored ∙ plain_o in cc;
     plain = λ plain start x here. choice_member (map stand o.operands) start x here;
     register_has_one = λ register k. let clash : true ≡ false = sym register ∙ plain_no_register o plain_o in cc;
-    register_place = λ register i. let clash : true ≡ false = sym register ∙ plain_no_register o plain_o in cc;
+    register_position = λ register i. let clash : true ≡ false = sym register ∙ plain_no_register o plain_o in cc;
     leaf_type = λ plain start k i v u typed at_u. choice_leaf (map stand o.operands) start (result_start o k + i) u (leaf_among o k i v u typed at_u);
   }
 
@@ -647,8 +647,8 @@ pub stacked_rules : (h : ℕ → Word) (m k : ℕ) (g : ℕ → Word) → ((j : 
 stacked_rules h m k g each = go k 0 (let q : 0 + k * m ≡ k * m = omega arith in q) (omega arith)
   where
     go : (j s : ℕ) → s + j * m ≡ k * m → j ≤ k → stacked h j ≡ concat_words (in_row g s (j * m))
-    go zero s place few = ap (λ x. concat_words (in_row g s x)) (sym (zero-mul m))
-    go (suc j) s place few =
+    go zero s position few = ap (λ x. concat_words (in_row g s x)) (sym (zero-mul m))
+    go (suc j) s position few =
         let more : suc j * m ≡ j * m + m = suc-mul j m in
         let prefix : ((k - suc j) + suc j) * m ≡ (k - suc j) * m + suc j * m = add-mul (k - suc j) (suc j) m in
         let whole_is : ((k - suc j) + suc j) * m ≡ k * m = ap (λ x. x * m) (let q : (k - suc j) + suc j ≡ k = omega arith in q) in
@@ -672,8 +672,8 @@ slice_splits o n k w old_type stand e t is one t_is given written enough =
     record {
       values = λ l j u at_u below.
           let array_leaf : slice_get (list_copies k (leaves e)) l ≡ Some u = ap (λ x. slice_get (leaves x) l) (sym t_is) ∙ at_u in
-          let place = copies_place k l (leaves e) u array_leaf in
-          element_typed new_type (stand operands.0) n e (typed operands.0 (array n e) operands.3) (l % length (leaves e)) (j + element_of k (length (leaves e)) l) u place (omega arith);
+          let position = copies_position k l (leaves e) u array_leaf in
+          element_typed new_type (stand operands.0) n e (typed operands.0 (array n e) operands.3) (l % length (leaves e)) (j + element_of k (length (leaves e)) l) u position (omega arith);
       words = λ τ wide g is_g index_word.
           ap₂ (λ kind rs. op_value kind o.types t 0 (map (whole stand τ) rs)) is operands.2
           ∙ ap₂ (λ u v. slice_of u (whole stand τ operands.0) (number (whole stand τ operands.1)) v) written t_is

@@ -170,7 +170,7 @@ module _ (scale : ℕ) (d d' : Design) (each : (s : Name) → LoweredWell scale 
   instance_falls : (p : Path) (j' k' : ℕ) (j : ℕ) (o : Op) (n : Instance) → slice_get (body_of (module_at d top p)) j ≡ Some o → instance_in o.kind ≡ Some n
       → j' ≡ (low scale d d' each top p).start j 0 → (z : Op) → slice_get (body_of (module_at d' top p)) j' ≡ Some z → is_anchor z ≡ true
       → (b : Net) → In b (needs d' top (net p (result j' k'))) → lifted b < lifted (net p (result j' k'))
-  instance_falls p j' k' j o n is inst place z there anchor b need = subst (λ y. lifted y < lifted (net p (result j' k'))) (sym copied.2) inner
+  instance_falls p j' k' j o n is inst position z there anchor b need = subst (λ y. lifted y < lifted (net p (result j' k'))) (sym copied.2) inner
     where
       path : Path
       path = length (instances (take j (body_of (module_at d top p)))) ∷ p
@@ -181,7 +181,7 @@ module _ (scale : ℕ) (d d' : Design) (each : (s : Name) → LoweredWell scale 
       copied : (r : Ref) × (slice_get (output_refs (body_of (module_at d' top path))) k' ≡ Some r) × (b ≡ net path r)
       copied =
           copy_need path (slice_get (output_refs (body_of (module_at d' top path))) k') b
-          (subst (λ s. In b (needs_of s)) (ap (λ m. source d' top (net p (result m k'))) place ∙ instance_source scale d d' each same top p j o n is inst k') need)
+          (subst (λ s. In b (needs_of s)) (ap (λ m. source d' top (net p (result m k'))) position ∙ instance_source scale d d' each same top p j o n is inst k') need)
 
       found : (k : ℕ) × (i : ℕ) × (out : Ref) × (slice_get (output_refs (body_of (module_at d top path))) k ≡ Some out) × (slice_get (parts_at scale d d' each top path out) i ≡ Some copied.0)
           × (k' ≡ length (flat_map (parts_at scale d d' each top path) (take k (output_refs (body_of (module_at d top path))))) + i)
@@ -225,7 +225,7 @@ module _ (scale : ℕ) (d d' : Design) (each : (s : Name) → LoweredWell scale 
           (at scale d d' each top p).part_home (λ x. h (net p x)) (local_height d top h height p) (result j found.0) (result j' k')
           (subst (In (result j' k')) (sym ((low scale d d' each top p).instance_is j o found.0 out_type.0 is (ap is_some inst) (type_listed o found.0 ∙ out_type.1)))
           (subst (λ r. In r (in_row (result ((low scale d d' each top p).start j 0)) (result_start o found.0) (length (leaves out_type.0))))
-          (ap₂ result (sym place) (ap (λ m. m + found.1) (sym begins) ∙ sym found.5))
+          (ap₂ result (sym position) (ap (λ m. m + found.1) (sym begins) ∙ sym found.5))
           (In-in_row (result ((low scale d d' each top p).start j 0)) (result_start o found.0) (length (leaves out_type.0)) found.1 within)))
 
       inner : lifted (net path copied.0) < lifted (net p (result j' k'))
@@ -250,11 +250,11 @@ module _ (scale : ℕ) (d d' : Design) (each : (s : Name) → LoweredWell scale 
           let form_o : register_form o.kind ≡ Some f = sym (form_bare o.kind) ∙ ap (λ (w : Op). register_form w.kind) alike ∙ form_bare y.kind ∙ form in
           let clash : None ≡ Some n = sym (register_apart o.kind f form_o).0 ∙ inst in
           cc
-      by_origin o n is inst (of_other j y at_j none anchored alike place) =
+      by_origin o n is inst (of_other j y at_j none anchored alike position) =
           let called : called_symbol y.kind ≡ Some n.symbol =
           sym (called_bare y.kind) ∙ ap (λ (w : Op). called_symbol w.kind) (sym alike) ∙ called_bare o.kind ∙ ap (option_map (λ (m : Instance). m.symbol)) inst in
           let found = called_instance y.kind n.symbol called in
-          instance_falls p j' k j y found.0 at_j found.1 place o is (instance_anchor o n inst) b need
+          instance_falls p j' k j y found.0 at_j found.1 position o is (instance_anchor o n inst) b need
 
       by_sort : (o : Op) → slice_get (body_of (module_at d' top p)) j' ≡ Some o → Sort o.kind → lifted b < lifted (net p (result j' k))
       by_sort o is (a_register f r i u) =

@@ -30,7 +30,7 @@ use Rattle.aggregate_laws.proofs.Leafwise.{made_fits, leaf_among, length-for_eac
 use Rattle.aggregate_laws.proofs.Joins.{rule_alike, plain_kind}
 use Rattle.aggregate_laws.proofs.Muxes.{three_operands, part_there, typed_size, words_in_rule, one_rule, all_of_one}
 use Rattle.aggregate_laws.proofs.Gets.{length-tests, EachOp, each_at, each_append, each_from, each_left, each_right, HoldsFrom, tests_hold, PlainOp, tests_plain, OwnType, GoodOp, tests_good}
-use Rattle.aggregate_laws.proofs.Gets.{tests_typed, element_words, rule_shift, copies_at, copies_length, copies_place, leaf_number, stacked, stacked_rules}
+use Rattle.aggregate_laws.proofs.Gets.{tests_typed, element_words, rule_shift, copies_at, copies_length, copies_position, leaf_number, stacked, stacked_rules}
 
 injected_stacked : (t : HwType) (a : Word) (i : ℕ) (v : Word) (k : ℕ) → injected_below k t a i v ≡ stacked (λ j. cond (j == i) v (element t a j)) k
 injected_stacked t a i v zero = refl
@@ -80,11 +80,11 @@ module _ (o : Op) (n w : ℕ) (old_type : Ref → Option HwType) (stand : Ref �
   inject_member : (args : List (List Ref)) (start : ℕ) (x : Op) → In x (first_part args start ++ second_part args start) → is_anchor x ≡ false
   unfolding PlainOp
   inject_member args start x here =
-      let place = position_of_In x (first_part args start ++ second_part args start) here in
+      let position = position_of_In x (first_part args start ++ second_part args start) here in
       each_at PlainOp 0 (first_part args start ++ second_part args start)
       (each_append PlainOp 0 (first_part args start) (second_part args start) (tests_plain o w (part (argument 1 args) 0) 0 start 0 n)
       (each_from PlainOp (0 + length (first_part args start)) (second_part args start)
-      (λ i y at_i. let found = found_mux args start i y at_i in ap is_anchor (sym found.2)))) place.0 x place.1
+      (λ i y at_i. let found = found_mux args start i y at_i in ap is_anchor (sym found.2)))) position.0 x position.1
 
   inject_leaf : (args : List (List Ref)) (start l : ℕ) (u : HwType) → slice_get (all_leaves o) l ≡ Some u
       → option_and_then (λ (x : Op). result_type x 0) (slice_get (first_part args start ++ second_part args start) (2 * n + l)) ≡ Some u
@@ -99,7 +99,7 @@ module _ (o : Op) (n w : ℕ) (old_type : Ref → Option HwType) (stand : Ref �
     anchor = λ anchored start. let clash : true ≡ false = sym anchored ∙ plain_o in cc;
     plain = λ plain start x here. inject_member (map stand o.operands) start x here;
     register_has_one = λ register k. let clash : true ≡ false = sym register ∙ plain_no_register o plain_o in cc;
-    register_place = λ register i. let clash : true ≡ false = sym register ∙ plain_no_register o plain_o in cc;
+    register_position = λ register i. let clash : true ≡ false = sym register ∙ plain_no_register o plain_o in cc;
     leaf_type = λ plain start k i v u typed at_u. inject_leaf (map stand o.operands) start (result_start o k + i) u (leaf_among o k i v u typed at_u);
   }
 
@@ -155,7 +155,7 @@ module _ (o : Op) (n w : ℕ) (old_type : Ref → Option HwType) (stand : Ref �
             below = let some : 0 < n = some_copies n i (leaves e) u (leaf_copy i u at_u) in omega arith
 
             value : (In (part (stand operands.2) (i % length (leaves e))) (stand operands.2)) × (new_type (part (stand operands.2) (i % length (leaves e))) ≡ Some u)
-            value = part_there new_type (stand operands.2) (leaves e) (i % length (leaves e)) u (typed operands.2 e operands.6) (copies_place n i (leaves e) u (leaf_copy i u at_u))
+            value = part_there new_type (stand operands.2) (leaves e) (i % length (leaves e)) u (typed operands.2 e operands.6) (copies_position n i (leaves e) u (leaf_copy i u at_u))
 
             old_one : (In (part (stand operands.0) i) (stand operands.0)) × (new_type (part (stand operands.0) i) ≡ Some u)
             old_one = part_there new_type (stand operands.0) (list_copies n (leaves e)) i u array_typed (leaf_copy i u at_u)

@@ -124,8 +124,8 @@ module _ (scale : ℕ) (d d' : Design) (each : (s : Name) → LoweredWell scale 
     abbrev parts_here : Ref → List Ref
     parts_here = parts_at scale d d' each top p
 
-    abbrev place : ℕ
-    place = (low scale d d' each top p).start j 0
+    abbrev position : ℕ
+    position = (low scale d d' each top p).start j 0
 
     one_stands : Standing (body_of (module_at d top p)) (body_of (module_at d' top p)) (parts_at scale d d' each top p) j o 0 (spread (parts_at scale d d' each top p) o) ((low scale d d' each top p).start j 0)
     one_stands =

@@ -88,11 +88,11 @@ module _ (o : Op) (each : List (List Ref) → ℕ → HwType → Op) (old_type :
     size = λ start. length-for_each (each (map parts o.operands)) 0 (all_leaves o);
     anchor = λ anchored start. let clash : true ≡ false = sym anchored ∙ plain in cc;
     plain = λ is start x here.
-        let place = position_of_In x (for_each (each (map parts o.operands)) 0 (all_leaves o)) here in
-        let found = found_each place.0 x place.1 in
-        ap is_anchor (sym found.2) ∙ plain_each (map parts o.operands) place.0 found.0;
+        let position = position_of_In x (for_each (each (map parts o.operands)) 0 (all_leaves o)) here in
+        let found = found_each position.0 x position.1 in
+        ap is_anchor (sym found.2) ∙ plain_each (map parts o.operands) position.0 found.0;
     register_has_one = λ register k. let clash : true ≡ false = sym register ∙ plain_no_register o plain in cc;
-    register_place = λ register i. refl;
+    register_position = λ register i. refl;
     leaf_type = λ is start k i t u typed at_u.
         ap (λ y. option_and_then (λ (x : Op). result_type x 0) y) (leaf_there (result_start o k + i) u (leaf_among o k i t u typed at_u))
         ∙ typed_each (map parts o.operands) (result_start o k + i) u;

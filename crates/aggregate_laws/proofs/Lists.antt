@@ -64,7 +64,7 @@ module _ {A B : Type 0} (f : A → List B) where
       ∙ slice_get-append_right (flat_map f (take i xs)) (f x ++ flat_map f (drop (suc i) xs)) k
       ∙ slice_get-append_left (f x) (flat_map f (drop (suc i) xs)) k below
 
-  -- the beginning up to a place in the part of a position
+  -- the beginning up to a position in the part of a position
   pub flat_map_take : (xs : List A) (i k : ℕ) (x : A) → slice_get xs i ≡ Some x → k ≤ length (f x)
       → take (length (flat_map f (take i xs)) + k) (flat_map f xs) ≡ flat_map f (take i xs) ++ take k (f x)
   flat_map_take xs i k x is below =
@@ -87,7 +87,7 @@ module _ {A B : Type 0} (f : A → List B) where
           let later : slice_get (flat_map f xs) (n - length (f x)) ≡ Some y =
           sym (slice_get-append_right (f x) (flat_map f xs) (n - length (f x))) ∙ ap (slice_get (f x ++ flat_map f xs)) (sym sum) ∙ is in
           let found = rest later in
-          let place : n - length (f x) ≡ length (flat_map f (take found.0 xs)) + found.1 = found.5 in (
+          let position : n - length (f x) ≡ length (flat_map f (take found.0 xs)) + found.1 = found.5 in (
             suc found.0,
             found.1,
             found.2,
@@ -110,7 +110,7 @@ module _ {A B : Type 0} where
   flat_map_same f g [] agree = refl
   flat_map_same f g (x ∷ xs) agree = ap₂ (λ ys zs. ys ++ zs) (agree x (inl refl)) (flat_map_same f g xs (λ z here. agree z (inr here)))
 
-  -- parts of equal lengths begin at equal places
+  -- parts of equal lengths begin at equal positions
   pub flat_map_lengths : {C D : Type 0} (f : A → List B) (g : C → List D) (xs : List A) (ys : List C)
       → length xs ≡ length ys → ((i : ℕ) (x : A) (y : C) → slice_get xs i ≡ Some x → slice_get ys i ≡ Some y → length (f x) ≡ length (g y))
       → (i : ℕ) → length (flat_map f (take i xs)) ≡ length (flat_map g (take i ys))

@@ -146,7 +146,7 @@ stays_splits o old_type parts t us plain one scalar given each_scalar fits = rec
     anchor = λ anchored start. let clash : true ≡ false = sym anchored ∙ plain in cc;
     plain = λ is start x here. only_member x here;
     register_has_one = λ register k. let clash : true ≡ false = sym register ∙ plain_no_register o plain in cc;
-    register_place = λ register i. let clash : true ≡ false = sym register ∙ plain_no_register o plain in cc;
+    register_position = λ register i. let clash : true ≡ false = sym register ∙ plain_no_register o plain in cc;
     leaf_type = λ is start k i u v typed at_v. leaf_is k i u v typed at_v;
   };
   has_first = λ is start i x at_i. (t, first_result);

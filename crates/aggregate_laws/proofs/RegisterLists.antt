@@ -55,17 +55,17 @@ module _ (inner : Path → Name → List Slot) (p : Path) (x : Slot) where
       inr (0, o, z.symbol, simp i, ap (option_map (λ (y : Instance). y.symbol)) i, subst (λ m. In x (inner (m ∷ p) z.symbol)) e first)
   by_part o os n z i rest (inr later) = past_instance o os n z i (rest later)
 
-  by_place : (o : Op) (os : List Op) (n : ℕ) → is_register o ≡ true → instance_in o.kind ≡ None → (In x (body_registers inner p n os) → FoundIn inner p x n os)
+  by_position : (o : Op) (os : List Op) (n : ℕ) → is_register o ≡ true → instance_in o.kind ≡ None → (In x (body_registers inner p n os) → FoundIn inner p x n os)
       → In x (record { path = p; op = o } ∷ body_registers inner p n os) → FoundIn inner p x n (o ∷ os)
-  by_place o os n register i rest (inl same) = inl (o, inl refl, register, same)
-  by_place o os n register i rest (inr later) = past_plain o os n i (rest later)
+  by_position o os n register i rest (inl same) = inl (o, inl refl, register, same)
+  by_position o os n register i rest (inr later) = past_plain o os n i (rest later)
 
   from_registers : (os : List Op) (n : ℕ) → In x (body_registers inner p n os) → FoundIn inner p x n os
   from_registers [] n here = absurd here
   from_registers (o ∷ os) n here = go (sort_of o.kind) (from_registers os n) (from_registers os (suc n))
     where
       go : Sort o.kind → (In x (body_registers inner p n os) → FoundIn inner p x n os) → (In x (body_registers inner p (suc n) os) → FoundIn inner p x (suc n) os) → FoundIn inner p x n (o ∷ os)
-      go (a_register f r i u) rest more = by_place o os n (ap is_some r) i rest (simp (r, i) at here)
+      go (a_register f r i u) rest more = by_position o os n (ap is_some r) i rest (simp (r, i) at here)
       go (an_instance z r i u) rest more =
           let here' : In x (inner (n ∷ p) z.symbol ++ body_registers inner p (suc n) os) = simp (r, i) at here in
           by_part o os n z i more (In-append_cases x (inner (n ∷ p) z.symbol) (body_registers inner p (suc n) os) here')
@@ -195,8 +195,8 @@ module _ (scale : ℕ) (d d' : Design) (each : (s : Name) → LoweredWell scale 
           ⊎ ((v : ℕ) × (o : Op) × (t : Name) × (slice_get (instances (body_of (find_module d s))) v ≡ Some o) × (called_symbol o.kind ≡ Some t) × In x (module_registers n d ((0 + v) ∷ p) t))
           → Stands x
       go inner (inl (o, within, register, same_slot)) =
-          let place = position_of_In o (body_of (find_module d s)) within in
-          let here' : Stands (record { path = p; op = o }) = (place.0, ap (λ m. slice_get (body_of m) place.0) is ∙ place.1, register) in
+          let position = position_of_In o (body_of (find_module d s)) within in
+          let here' : Stands (record { path = p; op = o }) = (position.0, ap (λ m. slice_get (body_of m) position.0) is ∙ position.1, register) in
           subst Stands (sym same_slot) here'
       go inner (inr (v, o, t, at_v, called, within)) =
           let here' : slice_get (instances (body_of (module_at d top p))) v ≡ Some o = ap (λ m. slice_get (instances (body_of m)) v) is ∙ at_v in

@@ -134,8 +134,8 @@ module _ (scale : ℕ) (o o' : Option Module) (x : LoweredWell scale o o') where
 
       by_number : (i : ℕ) → register_form from.1.kind ≡ None → slice_get (spread x.lowered.parts from.1 ∷ []) i ≡ Some from.3 → j' ≡ x.lowered.start from.0 i
           → Comes (body_of o) x.lowered.parts x.lowered.start j' z
-      by_number zero none at_i place = let same : spread x.lowered.parts from.1 ≡ from.3 = cc in of_other from.0 from.1 from.4 none from.5 (alike ∙ sym same) place
-      by_number (suc i) none at_i place = cc
+      by_number zero none at_i position = let same : spread x.lowered.parts from.1 ≡ from.3 = cc in of_other from.0 from.1 from.4 none from.5 (alike ∙ sym same) position
+      by_number (suc i) none at_i position = cc
 
       by_form : (f : Option RegisterForm) → register_form from.1.kind ≡ f → Comes (body_of o) x.lowered.parts x.lowered.start j' z
       by_form None none = by_number from.2 none (ap (λ xs. slice_get xs from.2) (sym (lowered_other x.lowered.parts from.1 none)) ∙ from.6) from.7
@@ -206,7 +206,7 @@ module _ (scale : ℕ) (d d' : Design) (each : (s : Name) → LoweredWell scale 
         go (of_register j y f s i u at_j form typed_s at_u alike) =
             by_number j y f s i u at_j form typed_s at_u alike k
             (ap (λ ts. slice_get ts k) (sym (bare_types z (bare_kind y.kind) (leaf_operands f.has_enable f.reset (map x.lowered.parts y.operands) (0 + i)) (u ∷ []) alike)) ∙ sym (type_listed z k) ∙ typed)
-        go (of_other j y at_j none anchored alike place) = other j y at_j none anchored alike (sort_of y.kind)
+        go (of_other j y at_j none anchored alike position) = other j y at_j none anchored alike (sort_of y.kind)
 
     anchor_instance : (j' : ℕ) (z : Op) → slice_get (body_of o') j' ≡ Some z → (n : Instance) → instance_in z.kind ≡ Some n → InstanceFits d' (type_in (ports_of o') (body_of o')) z
     anchor_instance j' z is n inst i inst_i = go (comes scale o o' x j' z is (instance_anchor z n inst))
@@ -233,7 +233,7 @@ module _ (scale : ℕ) (d d' : Design) (each : (s : Name) → LoweredWell scale 
             let form_z : register_form z.kind ≡ Some f = sym (form_bare z.kind) ∙ ap (λ (w : Op). register_form w.kind) alike ∙ form_bare y.kind ∙ form in
             let clash : None ≡ Some n = sym (register_apart z.kind f form_z).0 ∙ inst in
             cc
-        go (of_other j y at_j none anchored alike place) =
+        go (of_other j y at_j none anchored alike position) =
             let called : called_symbol y.kind ≡ Some i.symbol =
             sym (called_bare y.kind) ∙ ap (λ (w : Op). called_symbol w.kind) (sym alike) ∙ called_bare z.kind ∙ ap (option_map (λ (m : Instance). m.symbol)) inst_i in
             let found = called_instance y.kind i.symbol called in

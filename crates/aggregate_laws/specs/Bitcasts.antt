@@ -68,6 +68,6 @@ piece_end us skip (t ∷ ts) (suc i) = suc (joined_end (pieces 0 us skip (width 
 abbrev pub bitcast_rule : Op → HwType → Rule
 bitcast_rule o u = record {
   count = piece_count (leaves u) 0 (all_leaves o);
-  place = λ l. piece_end (leaves u) 0 (all_leaves o) l;
+  position = λ l. piece_end (leaves u) 0 (all_leaves o) l;
   made = λ args start. leaf_pieces o (argument 0 args) (leaves u) 0 start (all_leaves o);
 }

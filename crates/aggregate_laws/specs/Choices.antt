@@ -52,7 +52,7 @@ choice_end sizes l (suc k) = suc (sizes l) + choice_end sizes (suc l) k
 abbrev pub choice_rule : Op → ℕ → ℕ → (ℕ → ℕ) → (List Ref → ℕ → ℕ → Ref) → Rule
 choice_rule o n w sizes element = record {
   count = 2 * n + choice_count sizes 0 (length (all_leaves o));
-  place = λ l. 2 * n + choice_end sizes 0 l;
+  position = λ l. 2 * n + choice_end sizes 0 l;
   made = λ args start.
       tests o w (part (argument 1 args) 0) start 0 n ++ leaf_choices o (test_at start) (element (argument 0 args)) sizes (start + 2 * n) 0 (all_leaves o);
 }
@@ -77,7 +77,7 @@ slice_rule o n k m w = choice_rule o n w (λ l. n - element_of k m l) (λ rs l e
 abbrev pub array_inject_rule : Op → ℕ → ℕ → ℕ → Rule
 array_inject_rule o n m w = record {
   count = 2 * n + length (all_leaves o);
-  place = λ l. 2 * n + l;
+  position = λ l. 2 * n + l;
   made = λ args start.
       tests o w (part (argument 1 args) 0) start 0 n
       ++ for_each (λ l t. made_op o mux (test_at start (element_of n m l) ∷ part (argument 2 args) (l % m) ∷ part (argument 0 args) l ∷ []) (t ∷ []) [] t) 0 (all_leaves o);

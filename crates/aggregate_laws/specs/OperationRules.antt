@@ -51,7 +51,7 @@ for_each each i (t ∷ ts) = each i t ∷ for_each each (suc i) ts
 abbrev pub leafwise : Op → (List (List Ref) → ℕ → HwType → Op) → Rule
 leafwise o each = record {
   count = length (all_leaves o);
-  place = λ i. i;
+  position = λ i. i;
   made = λ args start. for_each (each args) 0 (all_leaves o);
 }
 
@@ -126,7 +126,7 @@ constant_rule o ls = leafwise o (λ args i t. made_op o (constant (number_at (li
 -- ---- an operation without aggregates stays, with what now stands for its operands
 
 abbrev pub stays_rule : Op → Rule
-stays_rule o = record { count = 1; place = λ i. 0; made = λ args start. record o { operands = joined_parts args } ∷ [] }
+stays_rule o = record { count = 1; position = λ i. 0; made = λ args start. record o { operands = joined_parts args } ∷ [] }
 
 -- ---- registers, instances and outputs
 
@@ -134,7 +134,7 @@ stays_rule o = record { count = 1; place = λ i. 0; made = λ args start. record
 abbrev pub register_rule : Op → RegisterForm → (ℕ → Name) → Rule
 register_rule o form names = record {
   count = length (leaves_of (result_type o 0));
-  place = λ i. i;
+  position = λ i. i;
   made = λ args start. for_each (λ i t. made_op o o.kind (leaf_operands form.has_enable form.reset args i) (t ∷ []) (names i) t) 0 (leaves_of (result_type o 0));
 }
 
@@ -142,7 +142,7 @@ register_rule o form names = record {
 abbrev pub register_stays_rule : Op → RegisterForm → Rule
 register_stays_rule o form = record {
   count = 1;
-  place = λ i. i;
+  position = λ i. i;
   made = λ args start. record o { operands = leaf_operands form.has_enable form.reset args 0 } ∷ [];
 }
 
@@ -150,7 +150,7 @@ register_stays_rule o form = record {
 abbrev pub spread_rule : Op → Kind → Rule
 spread_rule o kind = record {
   count = 1;
-  place = λ i. i;
+  position = λ i. i;
   made = λ args start.
       record o { kind = kind; operands = joined_parts args; types = flat_map leaves o.types; results = map bare_result (all_leaves o); named = length (all_leaves o) } ∷ [];
 }

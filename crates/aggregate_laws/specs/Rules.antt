@@ -17,7 +17,7 @@ use Rattle.aggregate_laws.specs.Lowered.{whole}
 -- its results, and these operations, from what stands for each operand and where the first of them stands
 pub record Rule : Type 0 where
   pub count : ℕ
-  pub place : ℕ → ℕ
+  pub position : ℕ → ℕ
   pub made : List (List Ref) → ℕ → List Op
 
 -- the leaves of ports, with names, and for each operation what it becomes
@@ -41,7 +41,7 @@ stays_one o = cond (is_instance o) true (is_output_op o)
 
 -- the i-th leaf of the results of an operation, what it becomes beginning at a position
 abbrev pub leaf_ref : Rule → ℕ → Op → ℕ → Ref
-leaf_ref rule start o i = cond (stays_one o) (result start i) (result (start + rule.place i) 0)
+leaf_ref rule start o i = cond (stays_one o) (result start i) (result (start + rule.position i) 0)
 
 -- the leaves of a result that there may be, the first having a number
 abbrev pub leaf_refs : Rule → ℕ → Op → ℕ → Option HwType → List Ref
@@ -83,9 +83,9 @@ pub record SplitsShape (rule : Rule) (parts : Ref → List Ref) (o : Op) : Type 
   pub anchor : is_anchor o ≡ true → (start : ℕ) → map bare_op (block rule parts start o) ≡ lower_anchor parts o
   pub plain : is_anchor o ≡ false → (start : ℕ) (x : Op) → In x (block rule parts start o) → is_anchor x ≡ false
   pub register_has_one : is_register o ≡ true → (k : ℕ) → result_type o (suc k) ≡ None
-  pub register_place : is_register o ≡ true → (i : ℕ) → rule.place i ≡ i
+  pub register_position : is_register o ≡ true → (i : ℕ) → rule.position i ≡ i
   pub leaf_type : is_anchor o ≡ false → (start k i : ℕ) (t u : HwType) → result_type o k ≡ Some t → slice_get (leaves t) i ≡ Some u
-      → option_and_then (λ (x : Op). result_type x 0) (slice_get (block rule parts start o) (rule.place (result_start o k + i))) ≡ Some u
+      → option_and_then (λ (x : Op). result_type x 0) (slice_get (block rule parts start o) (rule.position (result_start o k + i))) ≡ Some u
 
 -- an operand of the i-th operation of a block that begins at a position: what stands for an operand of the operation that
 -- the block is made of, or a result of an operation before it in the block

@@ -217,9 +217,9 @@ module _ (rules : Rules) (ps ps' : List Port) (os : List Op) where
           let from = from_join_ids rules 0 os (op_id j) leaves_later in
           let j_is : j ≡ 0 + (begin rules os from.j + from.n) = ap (λ (i : OpId). i.index) from.number in
           let found = and_then_some (slice_get new_ops j) (λ (o : Op). result_type o (suc k)) (ap new_type (sym is) ∙ has) in
-          let place : begin rules os from.j + from.n ≡ j = omega arith in
+          let position : begin rules os from.j + from.n ≡ j = omega arith in
           let at : slice_get (block_by rules stand (0 + begin rules os from.j) from.o) from.n ≡ Some found.0 =
-          sym (blocks_at rules stand os shapes from.j from.o from.there from.n 0 from.within) ∙ ap (slice_get new_ops) place ∙ found.1 in
+          sym (blocks_at rules stand os shapes from.j from.o from.there from.n 0 from.within) ∙ ap (slice_get new_ops) position ∙ found.1 in
           let none : result_type found.0 (suc k) ≡ None =
           wires from.o (In-slice_get from.o os from.j from.there) from.joins (0 + begin rules os from.j) found.0
           (In-slice_get found.0 (block_by rules stand (0 + begin rules os from.j) from.o) from.n at) k in

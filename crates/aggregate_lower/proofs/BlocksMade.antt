@@ -54,19 +54,19 @@ module _ (d : Design) (t : LeafTable) where
 
 -- ---- all blocks
 
-module _ (d : Design) (t : LeafTable) (parts : Ref → List Ref) (place : ℕ → ℕ) where
+module _ (d : Design) (t : LeafTable) (parts : Ref → List Ref) (position : ℕ → ℕ) where
   -- the table has what stands for an operation's operands
   abbrev pub HasParts : BodyOp → Type 0
-  HasParts o = (v : Value) → In v o.operands → leaves_at t v ≡ parts (ref_by place v)
+  HasParts o = (v : Value) → In v o.operands → leaves_at t v ≡ parts (ref_by position v)
 
-  block_same : (o : BodyOp) → HasParts o → (start : ℕ) → block_made d t o start ≡ block ((lowering_rules d).rule (op_by place o)) parts start (op_by place o)
+  block_same : (o : BodyOp) → HasParts o → (start : ℕ) → block_made d t o start ≡ block ((lowering_rules d).rule (op_by position o)) parts start (op_by position o)
   block_same o has start =
-      ap₂ (λ (rule : Rule) args. rule.made args start) (rule_without d (op_by place o) [] o.parts.kind)
-      (map_same (leaves_at t) (λ v. parts (ref_by place v)) o.operands has ∙ sym (map-map parts (ref_by place) o.operands))
+      ap₂ (λ (rule : Rule) args. rule.made args start) (rule_without d (op_by position o) [] o.parts.kind)
+      (map_same (leaves_at t) (λ v. parts (ref_by position v)) o.operands has ∙ sym (map-map parts (ref_by position) o.operands))
 
   pub blocks_same : (ops : List BodyOp) → ((o : BodyOp) → In o ops → HasParts o) → (start : ℕ)
-      → blocks_made d t ops (starts_from (lowering_rules d) start (map (op_by place) ops)) ≡ blocks (lowering_rules d) parts start (map (op_by place) ops)
+      → blocks_made d t ops (starts_from (lowering_rules d) start (map (op_by position) ops)) ≡ blocks (lowering_rules d) parts start (map (op_by position) ops)
   blocks_same [] has start = refl
   blocks_same (o ∷ ops) has start =
       ap₂ (λ xs ys. xs ++ ys) (block_same o (has o (inl refl)) start)
-      (blocks_same ops (λ p here. has p (inr here)) (start + count_by (lowering_rules d) (op_by place o)))
+      (blocks_same ops (λ p here. has p (inr here)) (start + count_by (lowering_rules d) (op_by position o)))

@@ -131,9 +131,9 @@ leaf_nameless ps q here =
 module _ (d : Design) (accepted : IsAccepted d) where
   few_leaves : (m : Module) → In m d → length (wanted_names m.ports) < 2 ^ 64
   few_leaves m among =
-      let place = position_of_In m d among in
-      let small : weight d m.symbol ≤ 2 ^ 28 = light d accepted place.0 m place.1 in
-      let same : weight d m.symbol ≡ weight_of (module_weight (length d) d) (Some m) = ap (weight_of (module_weight (length d) d)) (found_here d accepted place.0 m place.1) in
+      let position = position_of_In m d among in
+      let small : weight d m.symbol ≤ 2 ^ 28 = light d accepted position.0 m position.1 in
+      let same : weight d m.symbol ≡ weight_of (module_weight (length d) d) (Some m) = ap (weight_of (module_weight (length d) d)) (found_here d accepted position.0 m position.1) in
       let count = wanted_weighs m.ports in
       omega (arith, small, same, count)
 

@@ -79,8 +79,8 @@ module _ (d : Design) (accepted : IsAccepted d) (printable : Printable d) where
     own_ports : (s : Name) (m : Module) → find_module d s ≡ Some m → m.ports ≡ split_ports m.ports
     own_ports s m found =
         let among = found_module d s m found in
-        let place = position_of_In m d among in
-        let printed : IsPrintableModule m = each_at IsPrintableModule d place.0 m printable place.1 in
+        let position = position_of_In m d among in
+        let printed : IsPrintableModule m = each_at IsPrintableModule d position.0 m printable position.1 in
         sym (plain_split m.ports (λ q here. plain_port q here printed (scalar_module d none m among).0) (fresh_same [] (map (λ (q : Port). q.name) m.ports) (named_once d accepted printable s m found)))
       where
         plain_port : (q : Port) → In q m.ports → IsPrintableModule m → has_aggregate_port m.ports ≡ false → IsPlainPort q

@@ -77,6 +77,6 @@ module _ (d : Design) (fit : IsFit d) (k : ℕ) (m : Module) (at : slice_get d k
 
 pub well_named : (d : Design) → IsFit d → (ps : List Port) (os : List Op) → HasBody d ps os → IsWellNamed (lowering_rules d) ps os
 well_named d fit ps os has =
-    let place = position_of_In has.owner d has.is_in in
+    let position = position_of_In has.owner d has.is_in in
     subst (λ (qs : List Port). IsWellNamed (lowering_rules d) qs os) has.ports_are
-    (subst (λ (xs : List Op). IsWellNamed (lowering_rules d) has.owner.ports xs) has.body_is (well_named_at d fit place.0 has.owner place.1))
+    (subst (λ (xs : List Op). IsWellNamed (lowering_rules d) has.owner.ports xs) has.body_is (well_named_at d fit position.0 has.owner position.1))

@@ -233,10 +233,10 @@ module _ (S : Lowering) where
   blocks_plain : (m : Module) → In m S.d → (os : List Op) → ((o : Op) → In o os → In o m.body) → (start : ℕ) → AllPlain (blocks (rules_of S) (parts_in S m) start os)
   blocks_plain m among [] within start = refl
   blocks_plain m among (o ∷ os) within start =
-      let place = position_of_In m S.d among in
+      let position = position_of_In m S.d among in
       let spot = position_of_In o m.body (within o (inl refl)) in
       plain_append ((rule_of S.named o o.kind).made (map (parts_in S m) o.operands) start) (blocks (rules_of S) (parts_in S m) (start + count_by (rules_of S) o) os)
-      (rule_plain S.named o (old_type m) o.kind (regular_at S place.0 m place.1 spot.0 o spot.1) (map (parts_in S m) o.operands) start)
+      (rule_plain S.named o (old_type m) o.kind (regular_at S position.0 m position.1 spot.0 o spot.1) (map (parts_in S m) o.operands) start)
       (blocks_plain m among os (λ p here. within p (inr here)) (start + count_by (rules_of S) o))
 
   body_plain : (m : Module) → In m S.d → AllPlain (joined_module (rules_of S) m).body

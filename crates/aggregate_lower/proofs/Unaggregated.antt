@@ -75,9 +75,9 @@ module _ (S : Lowering) (none : has_aggregates S.d ≡ false) where
   register_scalar : (s : Name) (m : Module) → find_module S.d s ≡ Some m → (o : Op) → In o m.body → is_register o ≡ true → (t : HwType) × (result_type o 0 ≡ Some t) × (is_scalar t ≡ true)
   register_scalar s m found o here is =
       let among = found_module S.d s m found in
-      let place = position_of_In m S.d among in
+      let position = position_of_In m S.d among in
       let spot = position_of_In o m.body here in
-      let one = register_one S.named (old_type m) o o.kind is (regular_at S place.0 m place.1 spot.0 o spot.1) in
+      let one = register_one S.named (old_type m) o o.kind is (regular_at S position.0 m position.1 spot.0 o spot.1) in
       (one.0, type_listed o 0 ∙ ap (λ ts. slice_get ts 0) one.1, first_scalar o.results one.0 (scalar_result m.body (scalar_module S.d none m among).1 o here) one.1)
     where
       first_scalar : (xs : List OpResult) (t : HwType) → has_aggregate_type xs ≡ false → map (λ (x : OpResult). x.type) xs ≡ t ∷ [] → is_scalar t ≡ true

@@ -121,10 +121,10 @@ module _ (later : List OpId) where
     wire_gone : ops_by_position after ≡ erase_op (length prefix) (operand_at (length prefix) (ops_by_position ops)) (ops_by_position ops)
     wire_gone =
         wire_erased (op_id start) [] ops s.once together
-        ∙ ap (λ i. erase_op i (operand_at i (ops_by_position ops)) (ops_by_position ops)) place
+        ∙ ap (λ i. erase_op i (operand_at i (ops_by_position ops)) (ops_by_position ops)) position
       where
-        place : position_of (ids_in ops) start ≡ length prefix
-        place =
+        position : position_of (ids_in ops) start ≡ length prefix
+        position =
             let back = ap (λ ids. position_of ids start) s.ids ∙ position_back prefix (start ∷ numbers (suc start) more) start none_before in
             let zero_is = position_self start (numbers (suc start) more) in
             omega (arith, back, zero_is)

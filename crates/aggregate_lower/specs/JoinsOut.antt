@@ -23,7 +23,7 @@ wires_out (w ∷ ws) ops = wires_out ws (taken_out w.index (all_replaced (Result
 abbrev pub join_out : Op → ℕ → ℕ → List BodyOp → List BodyOp
 join_out o low high ops = cond (only_joins o.kind) (wires_out (ids_between low high) ops) ops
 
--- and for operations in order
+-- the operations once the wires of each operation that only joins are taken out, one operation after another
 abbrev pub joins_out : List Op → List ℕ → List ℕ → List BodyOp → List BodyOp
 joins_out (o ∷ os) (low ∷ lows) (high ∷ highs) ops = joins_out os lows highs (join_out o low high ops)
 joins_out _ _ _ ops = ops

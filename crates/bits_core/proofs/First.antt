@@ -68,13 +68,13 @@ extract-extract low width inner_low inner_width x h k =
     omega (arith, length-take inner_width (drop above x), length-drop above x) in
     let parts : inner_width ≡ between + (low + width) = omega arith in
     let within : width ≤ low + width = omega arith in
-    let place : above + between ≡ length x - (inner_low + low + width) = omega arith in
+    let position : above + between ≡ length x - (inner_low + low + width) = omega arith in
     ap (λ (n : ℕ). take width (drop (n - (low + width)) (take inner_width (drop above x)))) inner
     ∙ ap (λ (n : ℕ). take width (drop between (take n (drop above x)))) parts
     ∙ ap (take width) (drop-take between (low + width) (drop above x))
     ∙ take-take width (low + width) (drop between (drop above x)) within
     ∙ ap (take width) (drop-drop between above x)
-    ∙ ap (λ (n : ℕ). take width (drop n x)) place
+    ∙ ap (λ (n : ℕ). take width (drop n x)) position
 
 -- the middle of three words
 pub extract-append : (x y z : Word) → extract (length z) (length y) (x ++ y ++ z) ≡ y

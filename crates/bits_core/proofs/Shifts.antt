@@ -51,9 +51,9 @@ shift_right_signed_out x n h = filled_out (sign x) x n h
 number-shift_left_within : (x : Word) (n : ℕ) → n ≤ length x → number (shift_left x n) ≡ number x % 2 ^ (length x - n) * 2 ^ n
 number-shift_left_within x n h =
     let zeroes = zeros (min n (length x)) in
-    let places : length zeroes ≡ n = length-replicate (min n (length x)) false ∙ min-eq_left h in
+    let positions : length zeroes ≡ n = length-replicate (min n (length x)) false ∙ min-eq_left h in
     number-append (drop n x) zeroes
-    ∙ ap₂ (λ (a k : ℕ). a * 2 ^ k + number zeroes) (number-drop n x) places
+    ∙ ap₂ (λ (a k : ℕ). a * 2 ^ k + number zeroes) (number-drop n x) positions
     ∙ ap (λ (a : ℕ). number x % 2 ^ (length x - n) * 2 ^ n + a) (number-zeros (min n (length x)))
     ∙ add-zero (number x % 2 ^ (length x - n) * 2 ^ n)
 

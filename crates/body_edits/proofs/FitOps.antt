@@ -46,8 +46,8 @@ module _ (d : Design) (fit : IsFit d) (k : ℕ) (md : Module) (at : slice_get d 
   -- a value that some operation names has a type
   typed : (o : Op) (r : Ref) → In o md.body → In r o.operands → is_some (type_in md.ports md.body r) ≡ true
   typed o r there here =
-      let place = position_of_In o md.body there in
-      operand_there d fit k md at place.0 o r place.1 here
+      let position = position_of_In o md.body there in
+      operand_there d fit k md at position.0 o r position.1 here
 
   -- a result that has a type is one of an operation that is there
   result_there : (j n : ℕ) → is_some (type_in md.ports md.body (result j n)) ≡ true → j < length md.body

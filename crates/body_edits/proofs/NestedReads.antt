@@ -66,11 +66,11 @@ module _ (b : Body) (op id : OpId) (t : InnerKind) (n : ℕ) where
   pub own_nested : nat_eq id.index op.index ≡ true → None ≡ option_map (later n) (nested_at (kind_test t) (body_ops b) (position_in b op) (value_ref b (Result id 0)))
   own_nested same = sym (ap (option_map (later n)) (at_result ∙ go (slice_get (body_ops b) (position_in b id))))
     where
-      place : nat_eq (position_in b id) (position_in b op) ≡ true
-      place = eq-eqb (position_in b id) (position_in b op) (one_position b id op (eqb-true id.index op.index same))
+      position : nat_eq (position_in b id) (position_in b op) ≡ true
+      position = eq-eqb (position_in b id) (position_in b op) (one_position b id op (eqb-true id.index op.index same))
 
       refused : (k : Bool) (u : Bool) (m : Nested) → cond (k && (not (nat_eq (position_in b id) (position_in b op)) && u)) (Some m) None ≡ None
-      refused true u m = ap (λ e. cond (not e && u) (Some m) None) place
+      refused true u m = ap (λ e. cond (not e && u) (Some m) None) position
       refused false u m = refl
 
       go : (x : Option Op) → option_and_then (nested_result (kind_test t) (body_ops b) (position_in b op) (position_in b id)) x ≡ None

@@ -86,7 +86,7 @@ operand_stays b b' op f k n is keeps has =
     go None h = tt
     go (Some o) h = keeps o.operands h
 
--- a list with one more value has each place that it had
+-- a list with one more value has each position that it had
 pub longer : {A : Type 0} (xs : List A) (n : ℕ) (x : A) (k : ℕ) → k < length xs → k < length (insert xs n x)
 longer xs n x k within = omega (arith, within, length-append (take n xs) (x ∷ drop n xs), length-take n xs, length-drop n xs)
 
@@ -102,17 +102,17 @@ one_dropped b b' op k there is = record {
   ids = ap ids_in is ∙ ids_stay op.index (λ xs. remove xs k) (ops_of b);
 }
 
--- the place of an operation where the ids stay
-pub same_place : (b b' : Body) (op : OpId) → ids_of b' ≡ ids_of b → position_in b' op ≡ position_in b op
+-- the position of an operation where the ids stay
+pub same_position : (b b' : Body) (op : OpId) → ids_of b' ≡ ids_of b → position_in b' op ≡ position_in b op
 unfolding position_in
-same_place b b' op is = ap (λ ids. position_of ids op.index) is
+same_position b b' op is = ap (λ ids. position_of ids op.index) is
 
 -- an operand goes after another change
 pub then_dropped : (b b' b'' : Body) (op : OpId) (k : ℕ) (g : List Ref → List Ref) → HasOp b' op → body_ops b' ≡ with_operands (position_in b op) g (body_ops b) → ids_of b' ≡ ids_of b
     → ops_of b'' ≡ operands_at op.index (λ xs. remove xs k) (ops_of b') → body_ops b'' ≡ with_operands (position_in b op) (λ rs. remove (g rs) k) (body_ops b)
 then_dropped b b' b'' op k g there first ids is =
     (one_dropped b' b'' op k there is).ops
-    ∙ ap (λ i. with_operands i (λ rs. remove rs k) (body_ops b')) (same_place b b' op ids)
+    ∙ ap (λ i. with_operands i (λ rs. remove rs k) (body_ops b')) (same_position b b' op ids)
     ∙ ap (with_operands (position_in b op) (λ rs. remove rs k)) first
     ∙ operands_twice (position_in b op) (λ rs. remove rs k) g (body_ops b)
 

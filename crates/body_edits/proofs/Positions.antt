@@ -48,7 +48,7 @@ op_at_position f id (p ∷ ops) o is = go (nat_eq p.id id) is (op_at_position f 
 
 -- ---- an operation put before another one
 
--- the other one is then one place further
+-- the other one is then one position further
 pub position_after : (b : OpId) (o : BodyOp) (ops : List BodyOp) → Contains (ids_in ops) b.index → (o.id ≡ b.index → ⊥)
     → position_of (ids_in (put_before (Some b) o ops)) b.index ≡ suc (position_of (ids_in ops) b.index)
 position_after b o [] (k, l, e) other = absurd (omega (arith, l))

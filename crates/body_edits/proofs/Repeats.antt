@@ -52,7 +52,7 @@ module _ {A : Type 0} (same : A → A → Bool) where
   pub repeat_later : (xs : List A) (n : ℕ) (d : A) → n < length xs → position (same (get_or xs n d)) (drop (suc n) xs) ≡ None → first_repeat same (drop n xs) ≡ option_map later (first_repeat same (drop (suc n) xs))
   repeat_later xs n d within is = rw (drop-cons xs n d within, is) refl
 
--- so many places later
+-- so many positions later
 abbrev pub further : ℕ → Repeat → Repeat
 further n r = record { first = n + r.first; second = n + r.second }
 

@@ -98,7 +98,7 @@ pub numbered_in_place : (op id : OpId) (o : BodyOp) (ops : List BodyOp) → AreL
     ≡ set (ops_by_position ops) (position_of (ids_in ops) op.index) (op_by (position_of (ids_in ops)) o)
 numbered_in_place op id o ops live there is own fresh further new unused =
     numbered_erase op (Result id 0) (put_before (Some op) o ops) (added_live (Some op) o ops live own) still unused
-    ∙ ap₂ (λ i x. erase_op i x (ops_by_position (put_before (Some op) o ops))) (position_after op o ops there other) place
+    ∙ ap₂ (λ i x. erase_op i x (ops_by_position (put_before (Some op) o ops))) (position_after op o ops there other) position
     ∙ ap (erase_op (suc (position_of (ids_in ops) op.index)) (result (position_of (ids_in ops) op.index) 0)) (numbered-put_before op o ops live own there unknown)
     ∙ erase_put (position_of (ids_in ops) op.index) (op_by (position_of (ids_in ops)) o) (ops_by_position ops) within further new
   where
@@ -112,8 +112,8 @@ numbered_in_place op id o ops live there is own fresh further new unused =
     still =
         still_contained (ids_in ops) (ids_in (put_before (Some op) o ops)) (λ v. omega (arith, times-put_before v (Some op) o ops)) op.index there
 
-    place : ref_by (position_of (ids_in (put_before (Some op) o ops))) (Result id 0) ≡ result (position_of (ids_in ops) op.index) 0
-    place = ap (λ n. result (position_of (ids_in (put_before (Some op) o ops)) n) 0) (sym is) ∙ ap (λ n. result n 0) (position_before op o ops unknown)
+    position : ref_by (position_of (ids_in (put_before (Some op) o ops))) (Result id 0) ≡ result (position_of (ids_in ops) op.index) 0
+    position = ap (λ n. result (position_of (ids_in (put_before (Some op) o ops)) n) 0) (sym is) ∙ ap (λ n. result n 0) (position_before op o ops unknown)
 
     within : position_of (ids_in ops) op.index < length (ops_by_position ops)
     within =

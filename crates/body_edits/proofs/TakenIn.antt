@@ -27,7 +27,7 @@ use Rattle.body_edits.specs.Views.{HasOp, body_ops, position_in}
 use Rattle.body_edits.proofs.FitOps.{fit_live}
 use Rattle.body_edits.proofs.IdsAfter.{ids_left}
 use Rattle.body_edits.proofs.OperandChanges.{with_operands_set}
-use Rattle.body_edits.proofs.OperandEditing.{op_there, operands_seen, has_operand, same_place}
+use Rattle.body_edits.proofs.OperandEditing.{op_there, operands_seen, has_operand, same_position}
 use Rattle.body_edits.proofs.Positions.{position_there}
 use Rattle.body_edits.proofs.SpliceEdits.{all_splice, one_change, each_there}
 use Rattle.body_edits.proofs.UnusedPattern.{body_unused, erased_plainly}
@@ -73,9 +73,9 @@ values_live ids (o ∷ ops) id live = go (nat_eq o.id id) (values_live ids ops i
     go true rest = first_of_all (HasLive ids) o ops live
     go false rest = rest
 
-one_place : (b : Body) (i j : OpId) → i.index ≡ j.index → position_in b i ≡ position_in b j
+one_position : (b : Body) (i j : OpId) → i.index ≡ j.index → position_in b i ≡ position_in b j
 unfolding position_in
-one_place b i j same = ap (position_of (ids_of b)) same
+one_position b i j same = ap (position_of (ids_of b)) same
 
 -- ---- the operands of one in the place of an operand of another
 
@@ -92,7 +92,7 @@ changed_seen b b' op o n ws there is within put =
 module _ (b : Body) (op inner : OpId) (n : ℕ) (of : IsOfFit b) (there : HasOp b op) (is : IsInner (body_ops b) (position_in b op) n (position_in b inner)) where
   -- they are two operations, and both are there
   pub inner_other : inner.index ≡ op.index → ⊥
-  inner_other same = is.other (one_place b inner op same)
+  inner_other same = is.other (one_position b inner op same)
 
   pub inner_there : HasOp b inner
   inner_there = id_there b inner is.inner is.inside
@@ -153,15 +153,15 @@ module _ (b : Body) (op inner : OpId) (n : ℕ) (of : IsOfFit b) (there : HasOp 
     pub inner_unused : IsUnused inner.index (ops_of b')
     inner_unused =
         body_unused b' inner joined_live inner_stays
-        (ap₂ is_used (same_place b b' inner same_ids) joined_seen ∙ no_uses)
+        (ap₂ is_used (same_position b b' inner same_ids) joined_seen ∙ no_uses)
 
     -- it is gone
     pub taken_in : (b'' : Body) → ops_of b'' ≡ taken_out inner.index (ops_of b') → IsTakenIn b b'' (position_in b op) n (position_in b inner)
     taken_in b'' gone = record {
       ops = λ o c o_there c_there.
           gone_seen b' b'' inner inner_stays inner_unused gone
-          ∙ ap₂ (λ i os. erase_op i undefined os) (same_place b b' inner same_ids) joined_seen
+          ∙ ap₂ (λ i os. erase_op i undefined os) (same_position b b' inner same_ids) joined_seen
           ∙ ap₂ (λ (p q : Op). erase_op (position_in b inner) undefined (set (body_ops b) (position_in b op) (record p { operands = splice n q.operands p.operands })))
           (one_op (slice_get (body_ops b) (position_in b op)) is.outer o is.there o_there) (one_op (slice_get (body_ops b) (position_in b inner)) is.inner c is.inside c_there);
-      ids = gone_ids b' b'' inner gone ∙ ap₂ (λ ids i. remove ids i) same_ids (same_place b b' inner same_ids);
+      ids = gone_ids b' b'' inner gone ∙ ap₂ (λ ids i. remove ids i) same_ids (same_position b b' inner same_ids);
     }

@@ -182,8 +182,8 @@ module _ (w : OpId) (wires : List OpId) (ops : List BodyOp) (once : AreDistinct 
     first_only = others_first;
   }
 
-  place_is : position_of (ids_in ops) w.index ≡ length t.prefix
-  place_is =
+  position_is : position_of (ids_in ops) w.index ≡ length t.prefix
+  position_is =
       let back = ap (λ ids. position_of ids w.index) t.ids ∙ position_back t.prefix (w.index ∷ (numbers ++ t.back)) w.index none_before in
       let zero_is = position_self w.index (numbers ++ t.back) in
       omega (arith, back, zero_is)
@@ -193,10 +193,10 @@ module _ (w : OpId) (wires : List OpId) (ops : List BodyOp) (once : AreDistinct 
   wire_erased = numbered_erase w carried ops t.live wire_there wire_unused ∙ erased_alike w.index ops found.0 found.1
 
 -- the next one is where it was
-next_place : (w : OpId) (wires : List OpId) (ops : List BodyOp) → AreDistinct (ids_in ops) → (t : StandTogether (w ∷ wires) ops) → (os : List Op)
+next_position : (w : OpId) (wires : List OpId) (ops : List BodyOp) → AreDistinct (ids_in ops) → (t : StandTogether (w ∷ wires) ops) → (os : List Op)
     → unwire (first_position (t.prefix ++ (map (λ (i : OpId). i.index) wires ++ t.back)) wires) (length wires) os ≡ unwire (length t.prefix) (length wires) os
-next_place w [] ops once t os = refl
-next_place w (v ∷ wires) ops once t os =
+next_position w [] ops once t os = refl
+next_position w (v ∷ wires) ops once t os =
     let numbers : List ℕ = map (λ (i : OpId). i.index) wires in
     let apart : AreDistinct (t.prefix ++ (w.index ∷ (v.index ∷ (numbers ++ t.back)))) = subst AreDistinct t.ids once in
     let few = apart v.index in
@@ -206,8 +206,8 @@ next_place w (v ∷ wires) ops once t os =
     let none : times v.index t.prefix ≡ 0 = omega (arith, few, both, own, more) in
     let back = position_back t.prefix (v.index ∷ (numbers ++ t.back)) v.index none in
     let zero_is = position_self v.index (numbers ++ t.back) in
-    let place : position_of (t.prefix ++ (v.index ∷ (numbers ++ t.back))) v.index ≡ length t.prefix = omega (arith, back, zero_is) in
-    ap (λ n. unwire n (suc (length wires)) os) place
+    let position : position_of (t.prefix ++ (v.index ∷ (numbers ++ t.back))) v.index ≡ length t.prefix = omega (arith, back, zero_is) in
+    ap (λ n. unwire n (suc (length wires)) os) position
   where
     at_least : (x y : ℕ) (xs : List ℕ) → times x xs ≤ times x (y ∷ xs)
     at_least x y xs = go (nat_eq y x)
@@ -222,5 +222,5 @@ pub wire_out : (w : OpId) (wires : List OpId) (ops : List BodyOp) (once : AreDis
     ≡ unwire (first_position (ids_in ops) (w ∷ wires)) (suc (length wires)) (ops_by_position ops)
 wire_out w wires ops once t =
     ap (λ ids. unwire (first_position ids wires) (length wires) (ops_by_position (taken_out w.index (all_replaced (Result w 0) (carried_value w.index ops) ops)))) (others_ids w wires ops once t)
-    ∙ next_place w wires ops once t (ops_by_position (taken_out w.index (all_replaced (Result w 0) (carried_value w.index ops) ops)))
-    ∙ ap₂ (λ n os. unwire n (length wires) os) (sym (place_is w wires ops once t)) (wire_erased w wires ops once t)
+    ∙ next_position w wires ops once t (ops_by_position (taken_out w.index (all_replaced (Result w 0) (carried_value w.index ops) ops)))
+    ∙ ap₂ (λ n os. unwire n (length wires) os) (sym (position_is w wires ops once t)) (wire_erased w wires ops once t)

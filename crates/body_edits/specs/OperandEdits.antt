@@ -45,7 +45,7 @@ pub record IsOperandEdit (edit : OperandEdit) (before after : Body) (i : ℕ) : 
 
 -- ---- two equal values of a list
 
--- one place later
+-- one position later
 abbrev pub later : Repeat → Repeat
 later r = record { first = suc r.first; second = suc r.second }
 

@@ -47,7 +47,7 @@ carried_by id (Some o) = other_value id (value_or_undefined (slice_get o.operand
 abbrev pub carried_value : ℕ → List BodyOp → Value
 carried_value id ops = carried_by id (op_at ops id)
 
--- ids without the first place of each of some
+-- ids without the first position of each of some
 abbrev pub ids_without : List OpId → List ℕ → List ℕ
 ids_without [] ids = ids
 ids_without (w ∷ wires) ids = ids_without wires (remove ids (position_of ids w.index))

@@ -19,7 +19,7 @@ use crate::operands::OperandEdit;
 use crate::reading::{constant_of, meets};
 use crate::site::Site;
 use ir_store::body::Body;
-use ir_store::operation::{OpId, UsePlace, Value, is_same};
+use ir_store::operation::{OpId, UsePosition, Value, is_same};
 
 /// The positions of two equal operands.
 #[derive(Clone, Copy)]
@@ -122,8 +122,8 @@ fn may_stand_after(body: &Body, op: OpId, at: usize, value: Value, most: usize) 
     ensures { result ≡ false → (j : ℕ) → at < j → use_times (use_at op.index j) (uses_in value (ops_of body.now)) ≡ 0 }
 {
     let mut left = most;
-    for place in body.uses(value) {
-        if left == 0 || is_after(place, op, at) {
+    for position in body.uses(value) {
+        if left == 0 || is_after(position, op, at) {
             return true;
         }
         left -= 1;
@@ -131,11 +131,11 @@ fn may_stand_after(body: &Body, op: OpId, at: usize, value: Value, most: usize) 
     false
 }
 
-/// Whether a place is one of an operation after a position.
-fn is_after(place: UsePlace, op: OpId, at: usize) -> bool
-    ensures { result ≡ (nat_eq place.op.index op.index && nat_lt at place.at) }
+/// Whether a position is one of an operation after a position.
+fn is_after(position: UsePosition, op: OpId, at: usize) -> bool
+    ensures { result ≡ (nat_eq position.op.index op.index && nat_lt at position.at) }
 {
-    place.op == op && at < place.at as usize
+    position.op == op && at < position.at as usize
 }
 
 /// The position of the first value that is the same as one.

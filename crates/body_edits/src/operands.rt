@@ -105,7 +105,7 @@ fn drop_one(body: &mut Body, op: OpId, at: usize) -> Result<(), AllocError>
     ensures ok { OnOk result (IsOperandEdit (Drop at) body.old body.new (position_in body.old op)) }
     ensures kept { OnErr result (ops_of body.new ≡ ops_of body.old) }
 {
-    let at = operand_place(at)?;
+    let at = operand_position(at)?;
     body.drop_operand(op, at);
     Ok(())
 }
@@ -118,8 +118,8 @@ fn drop_both(body: &mut Body, op: OpId, first: usize, second: usize) -> Result<(
     ensures ok { OnOk result (IsOperandEdit (DropBoth first second) body.old body.new (position_in body.old op)) }
     ensures kept { OnErr result (ops_of body.new ≡ ops_of body.old) }
 {
-    let first = operand_place(first)?;
-    let second = operand_place(second)?;
+    let first = operand_position(first)?;
+    let second = operand_position(second)?;
     body.drop_operand(op, second);
     body.drop_operand(op, first);
     Ok(())
@@ -134,16 +134,16 @@ fn move_last(body: &mut Body, op: OpId, at: usize) -> Result<(), AllocError>
 {
     let operands = body.op(op).operands;
     let value = operands[at];
-    let end = operand_place(operands.len())?;
-    let at = operand_place(at)?;
+    let end = operand_position(operands.len())?;
+    let at = operand_position(at)?;
     body.insert_operand(op, end, value)?;
     body.drop_operand(op, at);
     Ok(())
 }
 
 /// A position as operands of a body have them. A body with 2^32 operands or more wants more memory than there is.
-pub fn operand_place(at: usize) -> Result<u32, AllocError>
-    ensures { IfOk result (λ place. place ≡ at) }
+pub fn operand_position(at: usize) -> Result<u32, AllocError>
+    ensures { IfOk result (λ position. position ≡ at) }
 {
     u32::try_from(at).map_err(|_| AllocError)
 }

@@ -86,7 +86,7 @@ times-remove v (x ∷ xs) (suc k) = go (nat_eq x v) (times-remove v xs k)
     go true less = omega (arith, less)
     go false less = less
 
--- an id is not among ids where it stands at no place
+-- an id is not among ids where it stands at no position
 absent : (v : ℕ) (xs : List ℕ) → times v xs ≡ 0 → Contains xs v → ⊥
 absent v xs none there = let some : 0 < times v xs = contained_times xs v there in omega (arith, none, some)
 
@@ -112,7 +112,7 @@ drop_here : (xs : List ℕ) (x : ℕ) (ys : List ℕ) → drop (suc (length xs))
 drop_here [] x ys = refl
 drop_here (z ∷ xs) x ys = drop_here xs x ys
 
--- an id that stands once stands in no other place
+-- an id that stands once stands in no other position
 pub once_here : (prefix : List ℕ) (id : ℕ) (rest : List ℕ) → AreDistinct (prefix ++ id ∷ rest) → (times id prefix ≡ 0) × (times id rest ≡ 0)
 once_here prefix id rest distinct =
     let sum : times id (prefix ++ id ∷ rest) ≡ times id prefix + times id (id ∷ rest) = times-append id prefix (id ∷ rest) in

@@ -103,23 +103,23 @@ retarget_then : (f g : Ref → Ref) (x : Option Op) → option_map (retarget g) 
 retarget_then f g None = refl
 retarget_then f g (Some o) = ap (λ rs. Some (record o { operands = rs })) (map-map g f o.operands)
 
-pub keeps_then : (gone more : ℕ → Type 0) (name next : Ref → Ref) (place further : ℕ → ℕ) (lost gained lost' gained' : ℕ → ℕ) (os mid os' : List Op)
-    → Keeps gone name place lost gained os mid → Keeps more next further lost' gained' mid os'
-    → Keeps (λ j. gone j ⊎ more (place j)) (λ r. next (name r)) (λ j. further (place j)) (λ j. lost j + lost' (place j)) (λ j. gained j + gained' (place j)) os os'
-keeps_then gone more name next place further lost gained lost' gained' os mid os' one two = record {
-  ops = λ j stays. two.ops (place j) (λ away. stays (inr away)) ∙ ap (option_map (retarget next)) (one.ops j (λ away. stays (inl away))) ∙ retarget_then name next (slice_get os j);
+pub keeps_then : (gone more : ℕ → Type 0) (name next : Ref → Ref) (position further : ℕ → ℕ) (lost gained lost' gained' : ℕ → ℕ) (os mid os' : List Op)
+    → Keeps gone name position lost gained os mid → Keeps more next further lost' gained' mid os'
+    → Keeps (λ j. gone j ⊎ more (position j)) (λ r. next (name r)) (λ j. further (position j)) (λ j. lost j + lost' (position j)) (λ j. gained j + gained' (position j)) os os'
+keeps_then gone more name next position further lost gained lost' gained' os mid os' one two = record {
+  ops = λ j stays. two.ops (position j) (λ away. stays (inr away)) ∙ ap (option_map (retarget next)) (one.ops j (λ away. stays (inl away))) ∙ retarget_then name next (slice_get os j);
   ports = λ n. ap next (one.ports n) ∙ two.ports n;
   nothing = ap next one.nothing ∙ two.nothing;
-  results = λ j k stays. ap next (one.results j k (λ away. stays (inl away))) ∙ two.results (place j) k (λ away. stays (inr away));
+  results = λ j k stays. ap next (one.results j k (λ away. stays (inl away))) ∙ two.results (position j) k (λ away. stays (inr away));
   apart = λ j k here there same.
-      one.apart j k (λ away. here (inl away)) (λ away. there (inl away)) (two.apart (place j) (place k) (λ away. here (inr away)) (λ away. there (inr away)) same);
-  uses = λ j stays. omega (arith, one.uses j (λ away. stays (inl away)), two.uses (place j) (λ away. stays (inr away)));
+      one.apart j k (λ away. here (inl away)) (λ away. there (inl away)) (two.apart (position j) (position k) (λ away. here (inr away)) (λ away. there (inr away)) same);
+  uses = λ j stays. omega (arith, one.uses j (λ away. stays (inl away)), two.uses (position j) (λ away. stays (inr away)));
 }
 
 -- less may be known to be kept
-pub keeps_more : (gone more : ℕ → Type 0) (name : Ref → Ref) (place : ℕ → ℕ) (lost gained : ℕ → ℕ) (os os' : List Op) → ((j : ℕ) → gone j → more j)
-    → Keeps gone name place lost gained os os' → Keeps more name place lost gained os os'
-keeps_more gone more name place lost gained os os' within k = record {
+pub keeps_more : (gone more : ℕ → Type 0) (name : Ref → Ref) (position : ℕ → ℕ) (lost gained : ℕ → ℕ) (os os' : List Op) → ((j : ℕ) → gone j → more j)
+    → Keeps gone name position lost gained os os' → Keeps more name position lost gained os os'
+keeps_more gone more name position lost gained os os' within k = record {
   ops = λ j stays. k.ops j (λ away. stays (within j away));
   ports = k.ports;
   nothing = k.nothing;

@@ -36,14 +36,14 @@ pub record IsGone (os : List Op) (old : Op) (k fresh : ℕ) (es : List Edit) : T
 -- what the edits at position i keep: each operation but that one, and another one that goes
 pub record IsKept (os : List Op) (i : ℕ) (old : Op) (es : List Edit) : Type 0 where
   pub name : Ref → Ref
-  pub place : ℕ → ℕ
+  pub position : ℕ → ℕ
   pub lost : ℕ → ℕ
   pub gained : ℕ → ℕ
   pub inner : ℕ
-  pub keeps : Keeps (λ j. (j ≡ i) ⊎ (j ≡ inner)) name place lost gained os (edited_by es os)
+  pub keeps : Keeps (λ j. (j ≡ i) ⊎ (j ≡ inner)) name position lost gained os (edited_by es os)
   pub few : (j : ℕ) → ((j ≡ i) ⊎ (j ≡ inner) → ⊥) → lost j ≤ gained j + uses_among j old.operands
   pub ids : (fresh : ℕ) (ids : List ℕ) → IsFreshOf fresh (length os) ids → (j : ℕ) → ((j ≡ i) ⊎ (j ≡ inner) → ⊥)
-      → slice_get (ids_edited_by fresh es ids) (place j) ≡ slice_get ids j
+      → slice_get (ids_edited_by fresh es ids) (position j) ≡ slice_get ids j
   pub goes : (fresh : ℕ) → (inner ≡ i) ⊎ IsGone os old inner fresh es
 
 -- ---- forms
@@ -52,7 +52,7 @@ module _ (os : List Op) (i : ℕ) (old : Op) (there : slice_get os i ≡ Some ol
   kept_changed : (o : Op) → IsKept os i old (changed i o ∷ [])
   kept_changed o = record {
     name = λ r. r;
-    place = λ j. j;
+    position = λ j. j;
     lost = λ j. uses_among j old.operands;
     gained = λ j. uses_among j o.operands;
     inner = i;
@@ -66,7 +66,7 @@ module _ (os : List Op) (i : ℕ) (old : Op) (there : slice_get os i ≡ Some ol
   kept_replaced : (o : Op) → IsKept os i old (replaced i o ∷ [])
   kept_replaced o = record {
     name = λ r. r;
-    place = λ j. j;
+    position = λ j. j;
     lost = λ j. uses_among j old.operands;
     gained = λ j. uses_among j o.operands;
     inner = i;
@@ -80,7 +80,7 @@ module _ (os : List Op) (i : ℕ) (old : Op) (there : slice_get os i ≡ Some ol
   kept_erased : (x : Ref) → IsKept os i old (erased i x ∷ [])
   kept_erased x = record {
     name = without i (without i undefined x);
-    place = pulled i;
+    position = pulled i;
     lost = λ j. uses_among j old.operands;
     gained = λ j. 0;
     inner = i;
@@ -122,7 +122,7 @@ module _ (os : List Op) (i : ℕ) (old : Op) (there : slice_get os i ≡ Some ol
     kept_changed_one : IsKept os i old (changed i o ∷ erased k x ∷ [])
     kept_changed_one = record {
       name = λ r. without k (without k undefined x) r;
-      place = λ j. pulled k j;
+      position = λ j. pulled k j;
       lost = λ j. uses_among j old.operands + uses_among j taken.inner.operands;
       gained = λ j. uses_among j o.operands + 0;
       inner = k;
@@ -161,7 +161,7 @@ module _ (os : List Op) (i : ℕ) (old : Op) (there : slice_get os i ≡ Some ol
     kept_replaced_one : IsKept os i old (replaced i o ∷ erased k x ∷ [])
     kept_replaced_one = record {
       name = λ r. without k (without k undefined x) r;
-      place = λ j. pulled k j;
+      position = λ j. pulled k j;
       lost = λ j. uses_among j old.operands + uses_among j taken.inner.operands;
       gained = λ j. uses_among j o.operands + 0;
       inner = k;
@@ -209,7 +209,7 @@ module _ (os : List Op) (i : ℕ) (old : Op) (there : slice_get os i ≡ Some ol
     kept_put : IsKept os i old (put_in i c ∷ changed (suc i) p ∷ [])
     kept_put = record {
       name = λ r. up_ref i r;
-      place = λ j. up i j;
+      position = λ j. up i j;
       lost = λ j. 0 + uses_among (up i j) (map (up_ref i) old.operands);
       gained = λ j. 0 + uses_among (up i j) p.operands;
       inner = i;

@@ -7,8 +7,8 @@ use Rattle.ir_store.specs.declared.body.Body.{Body}
 use Rattle.ir_store.specs.declared.operation.OpId.{OpId}
 use Rattle.ir_store.specs.declared.operation.Value.TheVariants.{Result}
 use Rattle.ir_store.specs.Bodies.{ids_of, ops_of}
-use Rattle.ir_store.specs.declared.operation.UsePlace.{UsePlace}
-use Rattle.ir_store.specs.Uses.{uses_in, same_place, use_times}
+use Rattle.ir_store.specs.declared.operation.UsePosition.{UsePosition}
+use Rattle.ir_store.specs.Uses.{uses_in, same_position, use_times}
 use Rattle.body_edits.proofs.OnlyUses.{as_many}
 use Rattle.canonicalise.specs.Settled.{IsApart}
 
@@ -46,38 +46,38 @@ past_true (x ∷ xs) (suc i) is = omega (arith, past_true xs i is)
 
 -- ---- walks along uses
 
--- a place of another operation leaves the others to come
-pub place_passed : (p q : UsePlace) (ps qs : List UsePlace) → ps ≡ q ∷ qs → (p.op.index ≡ q.op.index → ⊥) → use_times p ps ≡ use_times p qs
-place_passed p q ps qs is other = ap (use_times p) is ∙ go (same_place q p) refl
+-- a position of another operation leaves the others to come
+pub position_passed : (p q : UsePosition) (ps qs : List UsePosition) → ps ≡ q ∷ qs → (p.op.index ≡ q.op.index → ⊥) → use_times p ps ≡ use_times p qs
+position_passed p q ps qs is other = ap (use_times p) is ∙ go (same_position q p) refl
   where
-    go : (b : Bool) → same_place q p ≡ b → cond b (suc (use_times p qs)) (use_times p qs) ≡ use_times p qs
+    go : (b : Bool) → same_position q p ≡ b → cond b (suc (use_times p qs)) (use_times p qs) ≡ use_times p qs
     go false other_one = refl
     go true one = absurd (other (sym (eqb-true q.op.index p.op.index (both_of (nat_eq q.op.index p.op.index) (nat_eq q.at p.at) one).0)))
 
--- a place among one is that of its operation
-pub only_place : (p q : UsePlace) → 1 ≤ use_times p (q ∷ []) → p.op.index ≡ q.op.index
-only_place p q some = go (same_place q p) refl some
+-- a position among one is that of its operation
+pub only_position : (p q : UsePosition) → 1 ≤ use_times p (q ∷ []) → p.op.index ≡ q.op.index
+only_position p q some = go (same_position q p) refl some
   where
-    go : (b : Bool) → same_place q p ≡ b → 1 ≤ cond b 1 0 → p.op.index ≡ q.op.index
+    go : (b : Bool) → same_position q p ≡ b → 1 ≤ cond b 1 0 → p.op.index ≡ q.op.index
     go false other_one few = absurd (omega (arith, few))
     go true one few = sym (eqb-true q.op.index p.op.index (both_of (nat_eq q.op.index p.op.index) (nat_eq q.at p.at) one).0)
 
 -- nothing is left where nothing comes next, and else something
-pub none_left : (r : Option UsePlace) (ps qs : List UsePlace) (t : Bool) → is_some r ≡ not t → t ≡ true → MatchOption r ((ps ≡ []) × (qs ≡ [])) (λ p. ps ≡ p ∷ qs) → ps ≡ []
+pub none_left : (r : Option UsePosition) (ps qs : List UsePosition) (t : Bool) → is_some r ≡ not t → t ≡ true → MatchOption r ((ps ≡ []) × (qs ≡ [])) (λ p. ps ≡ p ∷ qs) → ps ≡ []
 none_left None ps qs t is test left = left.0
 none_left (Some p) ps qs t is test left = let clash : true ≡ false = is ∙ ap not test in cc
 
-pub some_left : (r : Option UsePlace) (ps qs : List UsePlace) (t : Bool) → is_some r ≡ not t → t ≡ false → MatchOption r ((ps ≡ []) × (qs ≡ [])) (λ p. ps ≡ p ∷ qs) → 1 ≤ length ps
+pub some_left : (r : Option UsePosition) (ps qs : List UsePosition) (t : Bool) → is_some r ≡ not t → t ≡ false → MatchOption r ((ps ≡ []) × (qs ≡ [])) (λ p. ps ≡ p ∷ qs) → 1 ≤ length ps
 some_left None ps qs t is test left = let clash : false ≡ true = is ∙ ap not test in cc
 some_left (Some p) ps qs t is test left = let size : length ps ≡ suc (length qs) = ap length left in omega (arith, size)
 
 -- ---- operations apart from one that is there, by the uses of its first result
 
-module _ (b : Body) (op : OpId) (there : Contains (ids_of b) op.index) (ps : List UsePlace) (told : (q : UsePlace) → use_times q ps ≡ use_times q (uses_in (Result op 0) (ops_of b))) where
+module _ (b : Body) (op : OpId) (there : Contains (ids_of b) op.index) (ps : List UsePosition) (told : (q : UsePosition) → use_times q ps ≡ use_times q (uses_in (Result op 0) (ops_of b))) where
   as_long : length ps ≡ length (uses_in (Result op 0) (ops_of b))
   as_long = as_many ps (uses_in (Result op 0) (ops_of b)) told
 
-  pub apart_one : (p : UsePlace) (qs : List UsePlace) (id : ℕ) → ps ≡ p ∷ qs → qs ≡ [] → (id ≡ p.op.index → ⊥) → IsApart b op id
+  pub apart_one : (p : UsePosition) (qs : List UsePosition) (id : ℕ) → ps ≡ p ∷ qs → qs ≡ [] → (id ≡ p.op.index → ⊥) → IsApart b op id
   apart_one p qs id is last other =
       let one : ps ≡ p ∷ [] = is ∙ ap (λ zs. p ∷ zs) last in
       let size : length ps ≡ 1 = ap length one in
@@ -85,11 +85,11 @@ module _ (b : Body) (op : OpId) (there : Contains (ids_of b) op.index) (ps : Lis
         gone = λ away. absurd (away there);
         unused = λ none same. absurd (omega (arith, as_long, size, none));
         single = λ here count user.
-            let some : use_times user.place (p ∷ []) ≡ use_times user.place (uses_in (Result op 0) (ops_of b)) = sym (ap (use_times user.place) one) ∙ told user.place in
-            other (sym user.own ∙ only_place user.place p (let used = user.used in omega (arith, used, some)));
+            let some : use_times user.position (p ∷ []) ≡ use_times user.position (uses_in (Result op 0) (ops_of b)) = sym (ap (use_times user.position) one) ∙ told user.position in
+            other (sym user.own ∙ only_position user.position p (let used = user.used in omega (arith, used, some)));
       }
 
-  pub apart_many : (p : UsePlace) (qs : List UsePlace) (id : ℕ) → ps ≡ p ∷ qs → 1 ≤ length qs → IsApart b op id
+  pub apart_many : (p : UsePosition) (qs : List UsePosition) (id : ℕ) → ps ≡ p ∷ qs → 1 ≤ length qs → IsApart b op id
   apart_many p qs id is more =
       let size : length ps ≡ suc (length qs) = ap length is in
       record {

@@ -38,7 +38,7 @@ use Rattle.body_edits.proofs.FitOps.{fit_live, fit_no_further}
 use Rattle.body_edits.proofs.OperandEditing.{op_there, operands_seen}
 use Rattle.canonicalise.specs.Canonical.{table}
 use Rattle.canonicalise.specs.Settled.{IsUser, IsApart}
-use Rattle.canonicalise.proofs.IdUses.{at_position, contains_at, one_place, position_found, same_id, IsResultOf, result_among, operand_used, few_uses, times_few}
+use Rattle.canonicalise.proofs.IdUses.{at_position, contains_at, one_position, position_found, same_id, IsResultOf, result_among, operand_used, few_uses, times_few}
 use Rattle.canonicalise.proofs.KeptOps.{IsFreshOf, IsGone, IsKept, pattern_keeps}
 use Rattle.canonicalise.proofs.Visiting.{length-body_ops, position_is}
 
@@ -100,8 +100,8 @@ module _ (before after : Body) (op : OpId) (fit : IsOfFit before) (fit_then : Is
   Gone j = (j ≡ position_in before op) ⊎ (j ≡ kept.inner)
 
   -- where the id of an operation that stays stands afterwards
-  id_after : (j w : ℕ) → (Gone j → ⊥) → slice_get (ids_of before) j ≡ Some w → slice_get (ids_of after) (kept.place j) ≡ Some w
-  id_after j w stays at = ap (λ z. slice_get z (kept.place j)) folded.ids ∙ kept.ids folded.fresh (ids_of before) fresh j stays ∙ at
+  id_after : (j w : ℕ) → (Gone j → ⊥) → slice_get (ids_of before) j ≡ Some w → slice_get (ids_of after) (kept.position j) ≡ Some w
+  id_after j w stays at = ap (λ z. slice_get z (kept.position j)) folded.ids ∙ kept.ids folded.fresh (ids_of before) fresh j stays ∙ at
 
   -- the operands of the one that is folded, by ids
   among_own : (j n : ℕ) → In (result j n) old.operands → IsResultOf (ids_of before) own.0.operands j n
@@ -116,7 +116,7 @@ module _ (before after : Body) (op : OpId) (fit : IsOfFit before) (fit_then : Is
       let was : slice_get (ids_of before) kept.inner ≡ Some w.index = ap (slice_get (ids_of before)) (sym at) ∙ at_position (ids_of before) w.index live in
       gone.away (ids_of before) (position_of (ids_of after) w.index) w.index fresh
       (ap (λ z. slice_get z (position_of (ids_of after) w.index)) (sym folded.ids) ∙ at_position (ids_of after) w.index still) was
-      (λ j here. one_place w.index (ids_of before) (id_once before w.index) j kept.inner here was)
+      (λ j here. one_position w.index (ids_of before) (id_once before w.index) j kept.inner here was)
 
   module _ (u : ℕ) (here : Contains (ids_of before) u) (quiet : table os (position_of (ids_of before) u) ≡ None) (other : u ≡ op.index → ⊥)
       (no_user : IsUser (Result op 0) (ops_of before) u → ⊥) (apart : (w : OpId) (n : ℕ) → In (Result w n) own.0.operands → IsApart after w u) where
@@ -135,7 +135,7 @@ module _ (before after : Body) (op : OpId) (fit : IsOfFit before) (fit_then : Is
         go (inr gone) =
             let r = among_own kept.inner 0 gone.named in
             let live = own_live r.id 0 r.named in
-            (apart r.id 0 r.named).gone (is_gone gone r.id live r.place) (same_id (ids_of before) u r.id.index here live (same ∙ sym r.place))
+            (apart r.id 0 r.named).gone (is_gone gone r.id live r.position) (same_id (ids_of before) u r.id.index here live (same ∙ sym r.position))
 
     own_u : (o : BodyOp) × (op_at (ops_of before) u ≡ Some o)
     own_u = op_there (ops_of before) u here
@@ -154,7 +154,7 @@ module _ (before after : Body) (op : OpId) (fit : IsOfFit before) (fit_then : Is
         r = result_among (ids_of before) own_u.0.operands (position_in before op) n named
 
         same : r.id.index ≡ op.index
-        same = same_id (ids_of before) r.id.index op.index (operand_there before fit u own_u.0 own_u.1 r.id n r.named) there (r.place ∙ position_is before op)
+        same = same_id (ids_of before) r.id.index op.index (operand_there before fit u own_u.0 own_u.1 r.id n r.named) there (r.position ∙ position_is before op)
 
         by_number : (n : ℕ) → In (result (position_in before op) n) user.operands → In (Result r.id n) own_u.0.operands
             → HaveNoFurther (position_in before op) os → ⊥
@@ -181,11 +181,11 @@ module _ (before after : Body) (op : OpId) (fit : IsOfFit before) (fit_then : Is
             let two = used_among kept.inner 0 old.operands gone.named in
             omega (arith, both, one, two, gone.once)
 
-    place_is : position_of (ids_of after) u ≡ kept.place p
-    place_is = position_found (ids_of after) u (kept.place p) (id_once after u) (id_after p u stays (at_position (ids_of before) u here))
+    kept_at : position_of (ids_of after) u ≡ kept.position p
+    kept_at = position_found (ids_of after) u (kept.position p) (id_once after u) (id_after p u stays (at_position (ids_of before) u here))
 
     still : Contains (ids_of after) u
-    still = contains_at (ids_of after) (kept.place p) u (id_after p u stays (at_position (ids_of before) u here))
+    still = contains_at (ids_of after) (kept.position p) u (id_after p u stays (at_position (ids_of before) u here))
 
     -- what the folded one did not use loses nothing
     enough : (j : ℕ) → (Gone j → ⊥) → ((n : ℕ) → In (result j n) old.operands → ⊥) → kept.lost j ≤ kept.gained j
@@ -195,12 +195,12 @@ module _ (before after : Body) (op : OpId) (fit : IsOfFit before) (fit_then : Is
         go zero is few = omega (arith, is, few)
         go (suc k) is few = let found = among_used j old.operands (omega (arith, is)) in absurd (none found.0 found.1)
 
-    unused : use_count (kept.place p) os' ≡ 0 → kept.lost p ≤ kept.gained p
+    unused : use_count (kept.position p) os' ≡ 0 → kept.lost p ≤ kept.gained p
     unused none = enough p stays (λ n named.
         let r = among_own p n named in
-        let same : u ≡ r.id.index = same_id (ids_of before) u r.id.index here (own_live r.id n r.named) (sym r.place) in
+        let same : u ≡ r.id.index = same_id (ids_of before) u r.id.index here (own_live r.id n r.named) (sym r.position) in
         let few = few_in_body after r.id in
-        let at : use_count (position_of (ids_of after) r.id.index) os' ≡ 0 = ap (λ i. use_count (position_of (ids_of after) i) os') (sym same) ∙ ap (λ i. use_count i os') place_is ∙ none in
+        let at : use_count (position_of (ids_of after) r.id.index) os' ≡ 0 = ap (λ i. use_count (position_of (ids_of after) i) os') (sym same) ∙ ap (λ i. use_count i os') kept_at ∙ none in
         (apart r.id n r.named).unused (omega (arith, few, at)) same)
 
     -- the operation afterwards, by ids
@@ -209,42 +209,42 @@ module _ (before after : Body) (op : OpId) (fit : IsOfFit before) (fit_then : Is
 
     same_operands : map kept.name user.operands ≡ map (ref_by (position_of (ids_of after))) own_then.0.operands
     same_operands =
-        let one : slice_get os' (kept.place p) ≡ Some (retarget kept.name user) =
-        ap (λ z. slice_get z (kept.place p)) folded.ops ∙ kept.keeps.ops p stays ∙ ap (option_map (retarget kept.name)) user_there in
-        let two : slice_get os' (kept.place p) ≡ Some (op_by (position_of (ids_of after)) own_then.0) = ap (slice_get os') (sym place_is) ∙ seen_at after u own_then.0 own_then.1 in
+        let one : slice_get os' (kept.position p) ≡ Some (retarget kept.name user) =
+        ap (λ z. slice_get z (kept.position p)) folded.ops ∙ kept.keeps.ops p stays ∙ ap (option_map (retarget kept.name)) user_there in
+        let two : slice_get os' (kept.position p) ≡ Some (op_by (position_of (ids_of after)) own_then.0) = ap (slice_get os') (sym kept_at) ∙ seen_at after u own_then.0 own_then.1 in
         let both : Some (retarget kept.name user) ≡ Some (op_by (position_of (ids_of after)) own_then.0) = sym one ∙ two in
         let same : retarget kept.name user ≡ op_by (position_of (ids_of after)) own_then.0 = cc in
         ap (λ (o : Op). o.operands) same
 
     -- it still uses what it used
-    uses_still : (w : OpId) (j : ℕ) → In (result j 0) user.operands → Contains (ids_of after) w.index → position_of (ids_of after) w.index ≡ kept.place j → IsUser (Result w 0) (ops_of after) u
+    uses_still : (w : OpId) (j : ℕ) → In (result j 0) user.operands → Contains (ids_of after) w.index → position_of (ids_of after) w.index ≡ kept.position j → IsUser (Result w 0) (ops_of after) u
     uses_still w j named live at =
         let moved : In (kept.name (result j 0)) (map kept.name user.operands) = In-map kept.name (result j 0) user.operands named in
-        let here_now : In (result (kept.place j) 0) (map (ref_by (position_of (ids_of after))) own_then.0.operands) =
-        subst (In (result (kept.place j) 0)) same_operands (subst (λ r. In r (map kept.name user.operands)) (kept.keeps.results j 0 (stay j 0 named)) moved) in
-        let r = result_among (ids_of after) own_then.0.operands (kept.place j) 0 here_now in
-        let same : r.id.index ≡ w.index = same_id (ids_of after) r.id.index w.index (operand_there after fit_then u own_then.0 own_then.1 r.id 0 r.named) live (r.place ∙ sym at) in
+        let here_now : In (result (kept.position j) 0) (map (ref_by (position_of (ids_of after))) own_then.0.operands) =
+        subst (In (result (kept.position j) 0)) same_operands (subst (λ r. In r (map kept.name user.operands)) (kept.keeps.results j 0 (stay j 0 named)) moved) in
+        let r = result_among (ids_of after) own_then.0.operands (kept.position j) 0 here_now in
+        let same : r.id.index ≡ w.index = same_id (ids_of after) r.id.index w.index (operand_there after fit_then u own_then.0 own_then.1 r.id 0 r.named) live (r.position ∙ sym at) in
         operand_used (Result w 0) (ops_of after) u own_then.0 own_then.1 (subst (λ i. In (Result (op_id i) 0) own_then.0.operands) same r.named)
 
-    single : (j : ℕ) → In (result j 0) user.operands → use_count (kept.place j) os' ≡ 1 → kept.lost j ≤ kept.gained j
+    single : (j : ℕ) → In (result j 0) user.operands → use_count (kept.position j) os' ≡ 1 → kept.lost j ≤ kept.gained j
     single j used one = enough j (stay j 0 used) (λ n named.
         let r = among_own j n named in
         let live = own_live r.id n r.named in
-        let at : slice_get (ids_of before) j ≡ Some r.id.index = ap (slice_get (ids_of before)) (sym r.place) ∙ at_position (ids_of before) r.id.index live in
+        let at : slice_get (ids_of before) j ≡ Some r.id.index = ap (slice_get (ids_of before)) (sym r.position) ∙ at_position (ids_of before) r.id.index live in
         let at_then = id_after j r.id.index (stay j 0 used) at in
-        let live_then = contains_at (ids_of after) (kept.place j) r.id.index at_then in
-        let place = position_found (ids_of after) r.id.index (kept.place j) (id_once after r.id.index) at_then in
-        let again = uses_still r.id j used live_then place in
+        let live_then = contains_at (ids_of after) (kept.position j) r.id.index at_then in
+        let position = position_found (ids_of after) r.id.index (kept.position j) (id_once after r.id.index) at_then in
+        let again = uses_still r.id j used live_then position in
         let few = few_in_body after r.id in
-        let count : use_count (position_of (ids_of after) r.id.index) os' ≡ 1 = ap (λ i. use_count i os') place ∙ one in
-        let most = times_few again.place (uses_in (Result r.id 0) (ops_of after)) in
+        let count : use_count (position_of (ids_of after) r.id.index) os' ≡ 1 = ap (λ i. use_count i os') position ∙ one in
+        let most = times_few again.position (uses_in (Result r.id 0) (ops_of after)) in
         let own_use = again.used in
         (apart r.id n r.named).single live_then (omega (arith, few, count, most, own_use)) again)
 
-    sees : SeesNoMore os p os' (kept.place p)
-    sees = subst (λ z. SeesNoMore os p z (kept.place p)) (sym folded.ops)
-        (sees_no_more Gone kept.name kept.place kept.lost kept.gained os (edited_by folded.edits os) kept.keeps p user user_there stays stay
-        (λ none. unused (ap (use_count (kept.place p)) folded.ops ∙ none)) (λ j used one. single j used (ap (use_count (kept.place j)) folded.ops ∙ one)))
+    sees : SeesNoMore os p os' (kept.position p)
+    sees = subst (λ z. SeesNoMore os p z (kept.position p)) (sym folded.ops)
+        (sees_no_more Gone kept.name kept.position kept.lost kept.gained os (edited_by folded.edits os) kept.keeps p user user_there stays stay
+        (λ none. unused (ap (use_count (kept.position p)) folded.ops ∙ none)) (λ j used one. single j used (ap (use_count (kept.position j)) folded.ops ∙ one)))
 
     pub stays_settled : Contains (ids_of after) u × (table os' (position_of (ids_of after) u) ≡ None)
-    stays_settled = (still, ap (table os') place_is ∙ first_quiet patterns all_patterns_quiet os p os' (kept.place p) sees quiet)
+    stays_settled = (still, ap (table os') kept_at ∙ first_quiet patterns all_patterns_quiet os p os' (kept.position p) sees quiet)

@@ -2,7 +2,7 @@
 use Rattle.std.specs.Prelude.{◌≡◌, ℕ, ◌≤◌, true, List, length, Some, None, Contains, slice_get}
 use Rattle.ir_store.specs.declared.body.Body.{Body}
 use Rattle.ir_store.specs.declared.operation.OpId.{OpId}
-use Rattle.ir_store.specs.declared.operation.UsePlace.{UsePlace}
+use Rattle.ir_store.specs.declared.operation.UsePosition.{UsePosition}
 use Rattle.ir_store.specs.declared.operation.Value.{Value}
 use Rattle.ir_store.specs.declared.operation.Value.TheVariants.{Result}
 use Rattle.ir_store.specs.Bodies.{ids_of, ops_of}
@@ -21,11 +21,11 @@ IsSettled m id = slice_get m.settled.items id ≡ Some true
 abbrev pub AreSettled : Marks → Body → Type 0
 AreSettled m b = (id : ℕ) → IsSettled m id → Contains (ids_of b) id × (table (body_ops b) (position_of (ids_of b) id) ≡ None)
 
--- an operation uses a value at some place
+-- an operation uses a value at some position
 pub record IsUser (v : Value) (ops : List BodyOp) (id : ℕ) : Type 0 where
-  pub place : UsePlace
-  pub own : place.op.index ≡ id
-  pub used : 1 ≤ use_times place (uses_in v ops)
+  pub position : UsePosition
+  pub own : position.op.index ≡ id
+  pub used : 1 ≤ use_times position (uses_in v ops)
 
 -- an operation is not that of id w, where that is gone or its first result has no use, and it has not the only use of that
 pub record IsApart (b : Body) (w : OpId) (id : ℕ) : Type 0 where

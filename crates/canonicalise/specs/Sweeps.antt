@@ -37,7 +37,7 @@ with_edits s (Some es) = record { ops = edited_by es s.ops; position = moved_by 
 abbrev pub visit : FoldPattern → Sweep → Sweep
 visit pattern s = cond (nat_lt s.position (length s.ops)) (with_edits s (pattern s.ops s.position)) s
 
--- after so many
+-- a sweep after so many visits
 abbrev pub visits : FoldPattern → ℕ → Sweep → Sweep
 visits pattern zero s = s
 visits pattern (suc n) s = visit pattern (visits pattern n s)

@@ -39,11 +39,11 @@ impl Marks {
     pub(crate) fn settle(&mut self, op: OpId) -> Result<(), AllocError>
         ensures { OnOk result ((id : ℕ) → IsSettled self.new id → (id ≡ op.index) ⊎ IsSettled self.old id) }
     {
-        let place = op.number() as usize;
-        while self.settled.len() <= place {
+        let position = op.number() as usize;
+        while self.settled.len() <= position {
             self.settled.push(false)?;
         }
-        self.settled[place] = true;
+        self.settled[position] = true;
         Ok(())
     }
 
@@ -51,9 +51,9 @@ impl Marks {
     pub(crate) fn mark(&mut self, op: OpId)
         ensures { (id : ℕ) → IsSettled self.new id → IsSettled self.old id × (id ≡ op.index → ⊥) }
     {
-        let place = op.number() as usize;
-        if place < self.settled.len() {
-            self.settled[place] = false;
+        let position = op.number() as usize;
+        if position < self.settled.len() {
+            self.settled[position] = false;
         }
     }
 
@@ -61,8 +61,8 @@ impl Marks {
     pub(crate) fn mark_users(&mut self, body: &Body, value: Value)
         ensures { (id : ℕ) → IsSettled self.new id → IsSettled self.old id × (IsUser value (ops_of body.now) id → ⊥) }
     {
-        for place in body.uses(value) {
-            self.mark(place.op);
+        for position in body.uses(value) {
+            self.mark(position.op);
         }
     }
 
@@ -97,9 +97,9 @@ impl Marks {
     {
         let mut uses = body.uses(Value::Result(op, 0));
         match uses.next() {
-            Some(place) => {
+            Some(position) => {
                 if uses.next().is_none() {
-                    self.mark(place.op);
+                    self.mark(position.op);
                 }
             }
             None => self.mark(op),

@@ -254,19 +254,19 @@ module _ (t : Table) (table : IsTable t) where
       ne ((table.stored_clauses.each i low).apart j k lj lk (ap (λ (l : Literal). l.variable) (slot_same (literal_at (stored_clause_at t.stored_clauses.items i) j) (literal_at (stored_clause_at t.stored_clauses.items i) k) e)))
 
 -- what a read of a watch and of its stored clause gives
-pub record Reads (t : Table) (slot place k : ℕ) (w : Watch) (ordered : List Literal) (u : Literal) : Type 0 where
-  pub is_w : watch_at (list_at t.lists.items slot) place ≡ w
+pub record Reads (t : Table) (slot position k : ℕ) (w : Watch) (ordered : List Literal) (u : Literal) : Type 0 where
+  pub is_w : watch_at (list_at t.lists.items slot) position ≡ w
   pub is_stored : stored_clause_at t.stored_clauses.items w.clause ≡ ordered
   pub clause_in : w.clause < length t.stored_clauses.items
   pub inside : k < length ordered
   pub is_u : literal_at ordered k ≡ u
 
-pub reads : (t : Table) (slot place k : ℕ) (w : Watch) (xs : List Watch) (ordered again : List Literal) (u : Literal) → slot < length t.lists.items → w ≡ watch_at xs place → xs
+pub reads : (t : Table) (slot position k : ℕ) (w : Watch) (xs : List Watch) (ordered again : List Literal) (u : Literal) → slot < length t.lists.items → w ≡ watch_at xs position → xs
     ≡ get_or t.lists.items slot xs → ordered ≡ again → again ≡ get_or t.stored_clauses.items w.clause again
-    → k < length (stored_clause_at t.stored_clauses.items (watch_at (list_at t.lists.items slot) place).clause) → u ≡ get_or ordered k u → Reads t slot place k w ordered u
-reads t slot place k w xs ordered again u ls ew exs erow eagain inside eu =
+    → k < length (stored_clause_at t.stored_clauses.items (watch_at (list_at t.lists.items slot) position).clause) → u ≡ get_or ordered k u → Reads t slot position k w ordered u
+reads t slot position k w xs ordered again u ls ew exs erow eagain inside eu =
     let is_list : xs ≡ list_at t.lists.items slot = get_or_read t.lists.items slot xs ls exs [] in
-    let is_w : watch_at (list_at t.lists.items slot) place ≡ w = ap (λ (l : List Watch). watch_at l place) (sym is_list) ∙ sym ew in
+    let is_w : watch_at (list_at t.lists.items slot) position ≡ w = ap (λ (l : List Watch). watch_at l position) (sym is_list) ∙ sym ew in
     let low : k < length (stored_clause_at t.stored_clauses.items w.clause) = subst (λ (v : Watch). k < length (stored_clause_at t.stored_clauses.items v.clause)) is_w inside in
     let clause_in = stored_clause_inside t.stored_clauses.items w.clause (omega (arith, low)) in
     let is_stored : stored_clause_at t.stored_clauses.items w.clause ≡ ordered = sym (get_or_read t.stored_clauses.items w.clause again clause_in eagain []) ∙ sym erow in
@@ -361,51 +361,51 @@ same_of : (j : ℕ) (a b : Watch) → a.clause ≡ b.clause → of_clause j a �
 same_of j a b e = rw e refl
 
 -- a watch gets another literal of its clause
-module _ (stored_clauses : List (List Literal)) (lists : List (List Watch)) (slot place : ℕ) (w : Watch) (low : slot < length lists) (inside : place < length (list_at lists slot))
-    (same : w.clause ≡ (watch_at (list_at lists slot) place).clause) (blocks : holds (stored_clause_at stored_clauses w.clause) w.blocker ≡ true) where
+module _ (stored_clauses : List (List Literal)) (lists : List (List Watch)) (slot position : ℕ) (w : Watch) (low : slot < length lists) (inside : position < length (list_at lists slot))
+    (same : w.clause ≡ (watch_at (list_at lists slot) position).clause) (blocks : holds (stored_clause_at stored_clauses w.clause) w.blocker ≡ true) where
   abbrev refreshed : List Watch
-  refreshed = set (list_at lists slot) place w
+  refreshed = set (list_at lists slot) position w
 
-  pub refreshed_same : HasSameClauses (list_at lists slot) (set (list_at lists slot) place w)
+  pub refreshed_same : HasSameClauses (list_at lists slot) (set (list_at lists slot) position w)
   refreshed_same = record {
-    len = length-set (list_at lists slot) place w;
-    same = λ k. elim (cases_eq k place) as (λ _. (watch_at (set (list_at lists slot) place w) k).clause ≡ (watch_at (list_at lists slot) k).clause) [
-      | inl e ↦ ap (λ (n : ℕ). (watch_at (set (list_at lists slot) place w) n).clause) e ∙ ap (λ (x : Watch). x.clause) (get_or-set_same (list_at lists slot) place w no_watch inside) ∙ same
+    len = length-set (list_at lists slot) position w;
+    same = λ k. elim (cases_eq k position) as (λ _. (watch_at (set (list_at lists slot) position w) k).clause ≡ (watch_at (list_at lists slot) k).clause) [
+      | inl e ↦ ap (λ (n : ℕ). (watch_at (set (list_at lists slot) position w) n).clause) e ∙ ap (λ (x : Watch). x.clause) (get_or-set_same (list_at lists slot) position w no_watch inside) ∙ same
           ∙ ap (λ (n : ℕ). (watch_at (list_at lists slot) n).clause) (sym e)
-      | inr ne ↦ ap (λ (x : Watch). x.clause) (get_or-set_other (list_at lists slot) place k w no_watch ne)
+      | inr ne ↦ ap (λ (x : Watch). x.clause) (get_or-set_other (list_at lists slot) position k w no_watch ne)
     ];
   }
 
-  at_list : (m : ℕ) → m ≡ slot → list_at (set lists slot (set (list_at lists slot) place w)) m ≡ set (list_at lists slot) place w
-  at_list m e = ap (list_at (set lists slot (set (list_at lists slot) place w))) e ∙ get_or-set_same lists slot (set (list_at lists slot) place w) [] low
+  at_list : (m : ℕ) → m ≡ slot → list_at (set lists slot (set (list_at lists slot) position w)) m ≡ set (list_at lists slot) position w
+  at_list m e = ap (list_at (set lists slot (set (list_at lists slot) position w))) e ∙ get_or-set_same lists slot (set (list_at lists slot) position w) [] low
 
-  off_list : (m : ℕ) → m ≢ slot → list_at (set lists slot (set (list_at lists slot) place w)) m ≡ list_at lists m
-  off_list m ne = get_or-set_other lists slot m (set (list_at lists slot) place w) [] ne
+  off_list : (m : ℕ) → m ≢ slot → list_at (set lists slot (set (list_at lists slot) position w)) m ≡ list_at lists m
+  off_list m ne = get_or-set_other lists slot m (set (list_at lists slot) position w) [] ne
 
-  pub refreshed_watched : AreWatched stored_clauses lists → AreWatched stored_clauses (set lists slot (set (list_at lists slot) place w))
+  pub refreshed_watched : AreWatched stored_clauses lists → AreWatched stored_clauses (set lists slot (set (list_at lists slot) position w))
   refreshed_watched watched j m lm =
-      let lm0 : m < length lists = let n = length-set lists slot (set (list_at lists slot) place w) in omega (arith, n, lm) in
-      elim (cases_eq m slot) as (λ _. count_of j (list_at (set lists slot (set (list_at lists slot) place w)) m) ≡ watch_count (stored_clause_at stored_clauses j) m) [
+      let lm0 : m < length lists = let n = length-set lists slot (set (list_at lists slot) position w) in omega (arith, n, lm) in
+      elim (cases_eq m slot) as (λ _. count_of j (list_at (set lists slot (set (list_at lists slot) position w)) m) ≡ watch_count (stored_clause_at stored_clauses j) m) [
         | inl e ↦
-            let whole : count_of j (list_at (set lists slot (set (list_at lists slot) place w)) m) ≡ count_of j (set (list_at lists slot) place w) = ap (count_of j) (at_list m e) in
-            let change = sum_by-set (λ (q : Watch). cond (eqb q.clause j) 1 0) (list_at lists slot) place w no_watch inside in
-            let part = same_of j w (watch_at (list_at lists slot) place) same in
+            let whole : count_of j (list_at (set lists slot (set (list_at lists slot) position w)) m) ≡ count_of j (set (list_at lists slot) position w) = ap (count_of j) (at_list m e) in
+            let change = sum_by-set (λ (q : Watch). cond (eqb q.clause j) 1 0) (list_at lists slot) position w no_watch inside in
+            let part = same_of j w (watch_at (list_at lists slot) position) same in
             let old : count_of j (list_at lists slot) ≡ watch_count (stored_clause_at stored_clauses j) m = ap (λ (n : ℕ). count_of j (list_at lists n)) (sym e) ∙ watched j m lm0 in
             omega (arith, whole, change, part, old)
         | inr ne ↦ ap (count_of j) (off_list m ne) ∙ watched j m lm0
       ]
 
-  pub refreshed_blockers : HaveBlockers stored_clauses lists → HaveBlockers stored_clauses (set lists slot (set (list_at lists slot) place w))
+  pub refreshed_blockers : HaveBlockers stored_clauses lists → HaveBlockers stored_clauses (set lists slot (set (list_at lists slot) position w))
   refreshed_blockers blockers m n lm ln =
-      let lm0 : m < length lists = let c = length-set lists slot (set (list_at lists slot) place w) in omega (arith, c, lm) in
-      elim (cases_eq m slot) as (λ _. Blocks stored_clauses (list_at (set lists slot (set (list_at lists slot) place w)) m) n) [
+      let lm0 : m < length lists = let c = length-set lists slot (set (list_at lists slot) position w) in omega (arith, c, lm) in
+      elim (cases_eq m slot) as (λ _. Blocks stored_clauses (list_at (set lists slot (set (list_at lists slot) position w)) m) n) [
         | inl e ↦
             let ln2 = subst (λ (xs : List Watch). n < length xs) (at_list m e) ln in
-            subst (λ (xs : List Watch). Blocks stored_clauses xs n) (sym (at_list m e)) (elim (cases_eq n place) as (λ _. Blocks stored_clauses (set (list_at lists slot) place w) n) [
+            subst (λ (xs : List Watch). Blocks stored_clauses xs n) (sym (at_list m e)) (elim (cases_eq n position) as (λ _. Blocks stored_clauses (set (list_at lists slot) position w) n) [
               | inl here ↦ subst (λ (q : Watch). holds (stored_clause_at stored_clauses q.clause) q.blocker ≡ true)
-                  (sym (ap (watch_at (set (list_at lists slot) place w)) here ∙ get_or-set_same (list_at lists slot) place w no_watch inside)) blocks
-              | inr there ↦ subst (λ (q : Watch). holds (stored_clause_at stored_clauses q.clause) q.blocker ≡ true) (sym (get_or-set_other (list_at lists slot) place n w no_watch there))
-                  (blockers slot n low (let c = length-set (list_at lists slot) place w in omega (arith, c, ln2)))
+                  (sym (ap (watch_at (set (list_at lists slot) position w)) here ∙ get_or-set_same (list_at lists slot) position w no_watch inside)) blocks
+              | inr there ↦ subst (λ (q : Watch). holds (stored_clause_at stored_clauses q.clause) q.blocker ≡ true) (sym (get_or-set_other (list_at lists slot) position n w no_watch there))
+                  (blockers slot n low (let c = length-set (list_at lists slot) position w in omega (arith, c, ln2)))
             ])
         | inr ne ↦ subst (λ (xs : List Watch). Blocks stored_clauses xs n) (sym (off_list m ne)) (blockers m n lm0 (subst (λ (xs : List Watch). n < length xs) (off_list m ne) ln))
       ]

@@ -56,14 +56,14 @@ progress_reset stored_clauses permuted short short2 es head marks short_head bas
   short_true = short_still (literals (take base es)) stored_clauses permuted short short2 short_head are p.short_head_in same p.short_true;
 }
 
--- an entry from a place on is not mentioned before it
-not_before : (variables : ℕ) (es : List Entry) (m place v : ℕ) → AreApart variables es → m ≤ place → is_after es place v ≡ true → mentions (literals (take m es)) v ≡ false
-not_before variables es m place v apart low after =
-    let r = entry_of_mentions (drop place es) v after in
-    let n = length-drop place es in
-    let inside : place + r.0 < length es = omega (arith, n, r.1) in
-    let at : (entry_at es (place + r.0)).literal.variable ≡ v = ap (λ (x : Entry). x.literal.variable) (sym (get_or-drop place es r.0 no_entry)) ∙ r.2 in
-    subst (λ (w : ℕ). mentions (literals (take m es)) w ≡ false) at (free_before variables es m (place + r.0) apart (omega (arith, low)) inside)
+-- an entry from a position on is not mentioned before it
+not_before : (variables : ℕ) (es : List Entry) (m position v : ℕ) → AreApart variables es → m ≤ position → is_after es position v ≡ true → mentions (literals (take m es)) v ≡ false
+not_before variables es m position v apart low after =
+    let r = entry_of_mentions (drop position es) v after in
+    let n = length-drop position es in
+    let inside : position + r.0 < length es = omega (arith, n, r.1) in
+    let at : (entry_at es (position + r.0)).literal.variable ≡ v = ap (λ (x : Entry). x.literal.variable) (sym (get_or-drop position es r.0 no_entry)) ∙ r.2 in
+    subst (λ (w : ℕ). mentions (literals (take m es)) w ≡ false) at (free_before variables es m (position + r.0) apart (omega (arith, low)) inside)
 
 -- a clause is added, and its first literal, which was open, is put on the trail
 module _ (variables : ℕ) (stored_clauses : List (List Literal)) (permuted : List Literal) (short short2 : List ℕ) (es : List Entry) (e : Entry) (head : ℕ) (marks : List ℕ)
@@ -163,27 +163,27 @@ mentions_kept old new v kept h =
     let l = holds_from_mentions (literals old) v h in
     subst (λ (w : ℕ). mentions (literals new) w ≡ true) l.2 (mentions_from (literals new) l.0 (kept_holds old new l.0 kept l.1))
 
-pub before_or_from : (k place : ℕ) → (k < place) ⊎ (place ≤ k)
-before_or_from k place = elim (cases_le place k) as (λ _. (k < place) ⊎ (place ≤ k)) [ inl from ↦ inr from | inr before ↦ inl before ]
+pub before_or_from : (k position : ℕ) → (k < position) ⊎ (position ≤ k)
+before_or_from k position = elim (cases_le position k) as (λ _. (k < position) ⊎ (position ≤ k)) [ inl from ↦ inr from | inr before ↦ inl before ]
 
-pub mentions_before : (es : List Entry) (place k v : ℕ) → k < place → k < length es → (entry_at es k).literal.variable ≡ v → mentions (literals (take place es)) v ≡ true
-mentions_before es place k v before inside e = subst (λ (w : ℕ). mentions (literals (take place es)) w ≡ true) e (mentions_from (literals (take place es)) (entry_at es k).literal (holds_before es place k before inside))
+pub mentions_before : (es : List Entry) (position k v : ℕ) → k < position → k < length es → (entry_at es k).literal.variable ≡ v → mentions (literals (take position es)) v ≡ true
+mentions_before es position k v before inside e = subst (λ (w : ℕ). mentions (literals (take position es)) w ≡ true) e (mentions_from (literals (take position es)) (entry_at es k).literal (holds_before es position k before inside))
 
 -- after a backjump the trail has its first literals alone
-pub record IsBackjump (old new : Watching) (place : ℕ) : Type 0 where
+pub record IsBackjump (old new : Watching) (position : ℕ) : Type 0 where
   pub variables : new.variables ≡ old.variables
   pub clauses : new.clauses ≡ old.clauses
-  pub entries : new.entries ≡ take place old.entries
+  pub entries : new.entries ≡ take position old.entries
 
-pub backjump_keeps : (old inserted new : Watching) (place : ℕ) → inserted ≡ old → new ≡ record inserted { entries = take place inserted.entries } → IsBackjump old new place
-backjump_keeps old inserted new place same back =
-    let is : new ≡ record old { entries = take place old.entries } = back ∙ ap (λ (w : Watching). record w { entries = take place w.entries }) same in
+pub backjump_keeps : (old inserted new : Watching) (position : ℕ) → inserted ≡ old → new ≡ record inserted { entries = take position inserted.entries } → IsBackjump old new position
+backjump_keeps old inserted new position same back =
+    let is : new ≡ record old { entries = take position old.entries } = back ∙ ap (λ (w : Watching). record w { entries = take position w.entries }) same in
     record { variables = ap (λ (w : Watching). w.variables) is; clauses = ap (λ (w : Watching). w.clauses) is; entries = ap (λ (w : Watching). w.entries) is }
 
 -- what is learnt from the parts of a search is learnt from it
-pub search_learns : (w : Watching) (path : Path) (clauses : List (List Literal)) (step : Step) (place : ℕ) → path ≡ record { variables = w.variables; entries = w.entries } → clauses ≡ w.clauses
-    → IsLearntClause path.variables clauses path.entries step place → IsLearntClause w.variables w.clauses w.entries step place
-search_learns w path clauses step place is same l = subst (λ (p : Path). IsLearntClause p.variables w.clauses p.entries step place) is (subst (λ (cs : List (List Literal)). IsLearntClause path.variables cs path.entries step place) same l)
+pub search_learns : (w : Watching) (path : Path) (clauses : List (List Literal)) (step : Step) (position : ℕ) → path ≡ record { variables = w.variables; entries = w.entries } → clauses ≡ w.clauses
+    → IsLearntClause path.variables clauses path.entries step position → IsLearntClause w.variables w.clauses w.entries step position
+search_learns w path clauses step position is same l = subst (λ (p : Path). IsLearntClause p.variables w.clauses p.entries step position) is (subst (λ (cs : List (List Literal)). IsLearntClause path.variables cs path.entries step position) same l)
 
 -- the stored clause of a learnt clause: its last literal has come first
 pub record IsPrefixLiteral (variables : ℕ) (clause ordered : List Literal) (literal : Literal) : Type 0 where

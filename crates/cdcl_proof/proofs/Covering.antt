@@ -19,45 +19,45 @@ use Rattle.cdcl_proof.proofs.Scanning.{free_from}
 use Rattle.cdcl_proof.proofs.Resolution.{cases_le, holds_take}
 use Rattle.cdcl_proof.proofs.LearntClauses.{two_free}
 use Rattle.cdcl_proof.proofs.Sound.{is_number_at, clause_at-next}
-use Rattle.cdcl_proof.proofs.StoredClauses.{holds_at, place_of, swap_first, swap_other}
+use Rattle.cdcl_proof.proofs.StoredClauses.{holds_at, position_of, swap_first, swap_other}
 
--- two of the first places of a stored clause
-other_place : (place m : ℕ) → place < 2 → m < 2 → m ≢ place → m ≡ 1 - place
-other_place place m p l ne = omega (arith, p, l, ne)
+-- two of the first positions of a stored clause
+other_position : (position m : ℕ) → position < 2 → m < 2 → m ≢ position → m ≡ 1 - position
+other_position position m p l ne = omega (arith, p, l, ne)
 
-pub all_false : (s permuted : List Literal) (place : ℕ) → place < 2 → ((m : ℕ) → 2 ≤ m → m < length permuted → holds s (negation (literal_at permuted m)) ≡ true)
-    → holds s (negation (literal_at permuted place)) ≡ true → holds s (negation (literal_at permuted (1 - place))) ≡ true → falsifies s permuted ≡ true
-all_false s permuted place low rest one two = all_from (λ l. holds s (negation l)) permuted (λ l h. let p = place_of permuted l h in subst (λ (x : Literal). holds s (negation x) ≡ true) p.2 (at p.0 p.1))
+pub all_false : (s permuted : List Literal) (position : ℕ) → position < 2 → ((m : ℕ) → 2 ≤ m → m < length permuted → holds s (negation (literal_at permuted m)) ≡ true)
+    → holds s (negation (literal_at permuted position)) ≡ true → holds s (negation (literal_at permuted (1 - position))) ≡ true → falsifies s permuted ≡ true
+all_false s permuted position low rest one two = all_from (λ l. holds s (negation l)) permuted (λ l h. let p = position_of permuted l h in subst (λ (x : Literal). holds s (negation x) ≡ true) p.2 (at p.0 p.1))
   where
     at : (m : ℕ) → m < length permuted → holds s (negation (literal_at permuted m)) ≡ true
     at m lm =
         elim (cases_le 2 m) as (λ _. holds s (negation (literal_at permuted m)) ≡ true) [
           | inl high ↦ rest m high lm
-          | inr small ↦ elim (cases_eq m place) as (λ _. holds s (negation (literal_at permuted m)) ≡ true) [
+          | inr small ↦ elim (cases_eq m position) as (λ _. holds s (negation (literal_at permuted m)) ≡ true) [
             | inl e ↦ subst (λ (x : ℕ). holds s (negation (literal_at permuted x)) ≡ true) (sym e) one
-            | inr ne ↦ subst (λ (x : ℕ). holds s (negation (literal_at permuted x)) ≡ true) (sym (other_place place m low small ne)) two
+            | inr ne ↦ subst (λ (x : ℕ). holds s (negation (literal_at permuted x)) ≡ true) (sym (other_position position m low small ne)) two
           ]
         ]
 
-pub all_but_one : (s permuted : List Literal) (place : ℕ) → place < 2 → 2 ≤ length permuted → ((m : ℕ) → 2 ≤ m → m < length permuted → holds s (negation (literal_at permuted m)) ≡ true)
-    → holds s (negation (literal_at permuted place)) ≡ true → holds s (literal_at permuted (1 - place)) ≡ false → holds s (negation (literal_at permuted (1 - place))) ≡ false
-    → (holds permuted (literal_at permuted (1 - place)) ≡ true) × (is_free s (literal_at permuted (1 - place)) ≡ true) × (is_unit s (literal_at permuted (1 - place)) permuted ≡ true)
-all_but_one s permuted place low long rest one none not_false = (
-  holds_at permuted (1 - place) (omega (arith, long)),
-  not_from_false (mentions s (literal_at permuted (1 - place)).variable)
-      (free_from s (literal_at permuted (1 - place)) none not_false),
-  all_from (λ l. same l (literal_at permuted (1 - place)) || holds s (negation l)) permuted
-      (λ l h. let p = place_of permuted l h in subst (λ (x : Literal). (same x (literal_at permuted (1 - place)) || holds s (negation x)) ≡ true) p.2 (at p.0 p.1)),
+pub all_but_one : (s permuted : List Literal) (position : ℕ) → position < 2 → 2 ≤ length permuted → ((m : ℕ) → 2 ≤ m → m < length permuted → holds s (negation (literal_at permuted m)) ≡ true)
+    → holds s (negation (literal_at permuted position)) ≡ true → holds s (literal_at permuted (1 - position)) ≡ false → holds s (negation (literal_at permuted (1 - position))) ≡ false
+    → (holds permuted (literal_at permuted (1 - position)) ≡ true) × (is_free s (literal_at permuted (1 - position)) ≡ true) × (is_unit s (literal_at permuted (1 - position)) permuted ≡ true)
+all_but_one s permuted position low long rest one none not_false = (
+  holds_at permuted (1 - position) (omega (arith, long)),
+  not_from_false (mentions s (literal_at permuted (1 - position)).variable)
+      (free_from s (literal_at permuted (1 - position)) none not_false),
+  all_from (λ l. same l (literal_at permuted (1 - position)) || holds s (negation l)) permuted
+      (λ l h. let p = position_of permuted l h in subst (λ (x : Literal). (same x (literal_at permuted (1 - position)) || holds s (negation x)) ≡ true) p.2 (at p.0 p.1)),
 )
   where
-    at : (m : ℕ) → m < length permuted → (same (literal_at permuted m) (literal_at permuted (1 - place)) || holds s (negation (literal_at permuted m))) ≡ true
+    at : (m : ℕ) → m < length permuted → (same (literal_at permuted m) (literal_at permuted (1 - position)) || holds s (negation (literal_at permuted m))) ≡ true
     at m lm =
-        elim (cases_le 2 m) as (λ _. (same (literal_at permuted m) (literal_at permuted (1 - place)) || holds s (negation (literal_at permuted m))) ≡ true) [
-          | inl high ↦ or_right (same (literal_at permuted m) (literal_at permuted (1 - place))) (holds s (negation (literal_at permuted m))) (rest m high lm)
-          | inr small ↦ elim (cases_eq m place) as (λ _. (same (literal_at permuted m) (literal_at permuted (1 - place)) || holds s (negation (literal_at permuted m))) ≡ true) [
-            | inl e ↦ or_right (same (literal_at permuted m) (literal_at permuted (1 - place))) (holds s (negation (literal_at permuted m))) (subst (λ (x : ℕ). holds s (negation (literal_at permuted x)) ≡ true) (sym e) one)
-            | inr ne ↦ or_left (same (literal_at permuted m) (literal_at permuted (1 - place))) (holds s (negation (literal_at permuted m)))
-                (subst (λ (x : ℕ). same (literal_at permuted x) (literal_at permuted (1 - place)) ≡ true) (sym (other_place place m low small ne)) (same-refl (literal_at permuted (1 - place))))
+        elim (cases_le 2 m) as (λ _. (same (literal_at permuted m) (literal_at permuted (1 - position)) || holds s (negation (literal_at permuted m))) ≡ true) [
+          | inl high ↦ or_right (same (literal_at permuted m) (literal_at permuted (1 - position))) (holds s (negation (literal_at permuted m))) (rest m high lm)
+          | inr small ↦ elim (cases_eq m position) as (λ _. (same (literal_at permuted m) (literal_at permuted (1 - position)) || holds s (negation (literal_at permuted m))) ≡ true) [
+            | inl e ↦ or_right (same (literal_at permuted m) (literal_at permuted (1 - position))) (holds s (negation (literal_at permuted m))) (subst (λ (x : ℕ). holds s (negation (literal_at permuted x)) ≡ true) (sym e) one)
+            | inr ne ↦ or_left (same (literal_at permuted m) (literal_at permuted (1 - position))) (holds s (negation (literal_at permuted m)))
+                (subst (λ (x : ℕ). same (literal_at permuted x) (literal_at permuted (1 - position)) ≡ true) (sym (other_position position m low small ne)) (same-refl (literal_at permuted (1 - position))))
           ]
         ]
 

@@ -13,7 +13,7 @@ use Rattle.cdcl_proof.specs.Trail.{literals, entry_at, no_entry, value_of, IsTie
 use Rattle.resolution_proof.proofs.Sets.{beq-true, beq-refl, same-true, same-refl, literal_ext, mentions_from, holds_from_mentions, among_low, among_high}
 use Rattle.resolution_proof.proofs.Pigeons.{pigeonhole, distinct_from, below_from}
 
--- the variable of the entry at a place
+-- the variable of the entry at a position
 abbrev pub variable_at : List Entry → ℕ → ℕ
 variable_at es k = (entry_at es k).literal.variable
 
@@ -44,12 +44,12 @@ entry_of_mentions es v h =
     let s = entry_of_holds es r.0 r.1 in
     (s.0, s.1, ap (λ (l : Literal). l.variable) s.2 ∙ r.2)
 
--- the place is an old one or the new one
+-- the position is an old one or the new one
 pub cases_push : (es : List Entry) (e : Entry) (k : ℕ) → k < length (es ++ e ∷ []) → (k < length es) ⊎ (k ≡ length es)
 cases_push es e k h =
     let n = length_push es e in
     elim (cases_eq k (length es)) as (λ _. (k < length es) ⊎ (k ≡ length es)) [
-      | inl same_place ↦ inr same_place
+      | inl same_position ↦ inr same_position
       | inr apart ↦ inl (omega (arith, n, h, apart))
     ]
 
@@ -66,13 +66,13 @@ AreApart_from marks es tied = record {
       let at_j = tied.marked j lj in
       let at_k = tied.marked k lk in
       let one : get_or marks (variable_at es j - 1) None ≡ get_or marks (variable_at es k - 1) None = ap (λ (v : ℕ). get_or marks (v - 1) None) e in
-      let marks_one : Some (record { positive = (entry_at es j).literal.positive; place = j }) ≡ Some (record { positive = (entry_at es k).literal.positive; place = k }) = sym at_j ∙ one ∙ at_k in
-      ap place_in marks_one;
+      let marks_one : Some (record { positive = (entry_at es j).literal.positive; position = j }) ≡ Some (record { positive = (entry_at es k).literal.positive; position = k }) = sym at_j ∙ one ∙ at_k in
+      ap position_in marks_one;
 }
   where
-    place_in : Option Mark → ℕ
-    place_in None = 0
-    place_in (Some m) = m.place
+    position_in : Option Mark → ℕ
+    position_in None = 0
+    position_in (Some m) = m.position
 
 pub length_below : (variables : ℕ) (es : List Entry) → AreApart variables es → length es ≤ variables
 length_below variables es apart =
@@ -97,21 +97,21 @@ length_below variables es apart =
 
 -- the mark of a literal that the set holds
 pub mark_of_holds : (marks : List (Option Mark)) (es : List Entry) → IsTied marks es → (l : Literal) → holds (literals es) l ≡ true → (k : ℕ) × (k < length es)
-    × (get_or marks (l.variable - 1) None ≡ Some (record { positive = l.positive; place = k }))
+    × (get_or marks (l.variable - 1) None ≡ Some (record { positive = l.positive; position = k }))
 mark_of_holds marks es tied l h =
     let r = entry_of_holds es l h in
     let marked = tied.marked r.0 r.1 in
-    (r.0, r.1, subst (λ (x : Literal). get_or marks (x.variable - 1) None ≡ Some (record { positive = x.positive; place = r.0 })) r.2 marked)
+    (r.0, r.1, subst (λ (x : Literal). get_or marks (x.variable - 1) None ≡ Some (record { positive = x.positive; position = r.0 })) r.2 marked)
 
--- the literal that a mark tells is true, at the mark's place
-pub holds_of_mark : (marks : List (Option Mark)) (es : List Entry) → IsTied marks es → (v : ℕ) (m : Mark) → 1 ≤ v → get_or marks (v - 1) None ≡ Some m → (m.place < length es)
-    × ((entry_at es m.place).literal ≡ record { variable = v; positive = m.positive })
+-- the literal that a mark tells is true, at the mark's position
+pub holds_of_mark : (marks : List (Option Mark)) (es : List Entry) → IsTied marks es → (v : ℕ) (m : Mark) → 1 ≤ v → get_or marks (v - 1) None ≡ Some m → (m.position < length es)
+    × ((entry_at es m.position).literal ≡ record { variable = v; positive = m.positive })
 holds_of_mark marks es tied v m low e =
     let placed = tied.placed (v - 1) m e in
-    let var : variable_at es m.place ≡ v = placed.1 ∙ (let t : suc (v - 1) ≡ v = omega arith in t) in
-    let marked = tied.marked m.place placed.0 in
-    let one : Some (record { positive = (entry_at es m.place).literal.positive; place = m.place }) ≡ Some m = sym marked ∙ ap (λ (w : ℕ). get_or marks (w - 1) None) var ∙ e in
-    (placed.0, literal_ext (entry_at es m.place).literal (record { variable = v; positive = m.positive }) var (ap sign_in one))
+    let var : variable_at es m.position ≡ v = placed.1 ∙ (let t : suc (v - 1) ≡ v = omega arith in t) in
+    let marked = tied.marked m.position placed.0 in
+    let one : Some (record { positive = (entry_at es m.position).literal.positive; position = m.position }) ≡ Some m = sym marked ∙ ap (λ (w : ℕ). get_or marks (w - 1) None) var ∙ e in
+    (placed.0, literal_ext (entry_at es m.position).literal (record { variable = v; positive = m.positive }) var (ap sign_in one))
   where
     sign_in : Option Mark → Bool
     sign_in None = false
@@ -121,11 +121,11 @@ holds_of_mark marks es tied v m low e =
 pub value_by_mark : (marks : List (Option Mark)) (es : List Entry) → IsTied marks es → (l : Literal) (m : Mark) → 1 ≤ l.variable → get_or marks (l.variable - 1) None ≡ Some m → Some (beq m.positive l.positive) ≡ value_of (literals es) l
 value_by_mark marks es tied l m low e = go (beq m.positive l.positive) refl
   where
-    at : (m.place < length es) × ((entry_at es m.place).literal ≡ record { variable = l.variable; positive = m.positive })
+    at : (m.position < length es) × ((entry_at es m.position).literal ≡ record { variable = l.variable; positive = m.positive })
     at = holds_of_mark marks es tied l.variable m low e
 
     held : holds (literals es) (record { variable = l.variable; positive = m.positive }) ≡ true
-    held = subst (λ (x : Literal). holds (literals es) x ≡ true) at.1 (holds_entry es m.place at.0)
+    held = subst (λ (x : Literal). holds (literals es) x ≡ true) at.1 (holds_entry es m.position at.0)
 
     sign_in : Option Mark → Bool
     sign_in None = false
@@ -134,7 +134,7 @@ value_by_mark marks es tied l m low e = go (beq m.positive l.positive) refl
     not_held : beq m.positive l.positive ≡ false → holds (literals es) l ≡ true → ⊥
     not_held b h =
         let r = mark_of_holds marks es tied l h in
-        let one : Some m ≡ Some (record { positive = l.positive; place = r.0 }) = sym e ∙ r.2 in
+        let one : Some m ≡ Some (record { positive = l.positive; position = r.0 }) = sym e ∙ r.2 in
         let signs : m.positive ≡ l.positive = ap sign_in one in
         both_ways (beq m.positive l.positive) b (subst (λ (s : Bool). beq m.positive s ≡ true) signs (beq-refl m.positive))
 
@@ -166,7 +166,7 @@ free_by_mark marks es tied v e = false_from_ne_true (mentions (literals es) v) b
     bad h =
         let r = holds_from_mentions (literals es) v h in
         let s = mark_of_holds marks es tied r.0 r.1 in
-        let at : get_or marks (v - 1) None ≡ Some (record { positive = (r.0).positive; place = s.0 }) = subst (λ (w : ℕ). get_or marks (w - 1) None ≡ Some (record { positive = (r.0).positive; place = s.0 })) r.2 s.2 in
+        let at : get_or marks (v - 1) None ≡ Some (record { positive = (r.0).positive; position = s.0 }) = subst (λ (w : ℕ). get_or marks (w - 1) None ≡ Some (record { positive = (r.0).positive; position = s.0 })) r.2 s.2 in
         false≢true (ap is_mark (sym e ∙ at))
 
 pub holds_free : (s : List Literal) (l : Literal) → mentions s l.variable ≡ false → holds s l ≡ false
@@ -182,28 +182,28 @@ none_by_mark marks es tied l e =
 pub mentioned_by_mark : (marks : List (Option Mark)) (es : List Entry) → IsTied marks es → (v : ℕ) (m : Mark) → 1 ≤ v → get_or marks (v - 1) None ≡ Some m → mentions (literals es) v ≡ true
 mentioned_by_mark marks es tied v m low e =
     let at = holds_of_mark marks es tied v m low e in
-    subst (λ (x : ℕ). mentions (literals es) x ≡ true) (ap (λ (l : Literal). l.variable) at.1) (mentions_entry es m.place at.0)
+    subst (λ (x : ℕ). mentions (literals es) x ≡ true) (ap (λ (l : Literal). l.variable) at.1) (mentions_entry es m.position at.0)
 
--- a variable is mentioned from a place on where its mark is not before it
-pub after_by_mark : (marks : List (Option Mark)) (es : List Entry) → IsTied marks es → (v : ℕ) (m : Mark) (floor : ℕ) → 1 ≤ v → get_or marks (v - 1) None ≡ Some m → leb floor m.place ≡ is_after es floor v
-after_by_mark marks es tied v m floor low e = go (leb floor m.place) refl (is_after es floor v) refl
+-- a variable is mentioned from a position on where its mark is not before it
+pub after_by_mark : (marks : List (Option Mark)) (es : List Entry) → IsTied marks es → (v : ℕ) (m : Mark) (floor : ℕ) → 1 ≤ v → get_or marks (v - 1) None ≡ Some m → leb floor m.position ≡ is_after es floor v
+after_by_mark marks es tied v m floor low e = go (leb floor m.position) refl (is_after es floor v) refl
   where
-    at : (m.place < length es) × ((entry_at es m.place).literal ≡ record { variable = v; positive = m.positive })
+    at : (m.position < length es) × ((entry_at es m.position).literal ≡ record { variable = v; positive = m.positive })
     at = holds_of_mark marks es tied v m low e
 
-    variable_is : variable_at es m.place ≡ v
+    variable_is : variable_at es m.position ≡ v
     variable_is = ap (λ (l : Literal). l.variable) at.1
 
-    go : (a : Bool) → leb floor m.place ≡ a → (b : Bool) → is_after es floor v ≡ b → a ≡ b
+    go : (a : Bool) → leb floor m.position ≡ a → (b : Bool) → is_after es floor v ≡ b → a ≡ b
     go true p true q = refl
     go false p false q = refl
     go true p false q =
-        let below = leb-true floor m.place p in
+        let below = leb-true floor m.position p in
         let n = length-drop floor es in
-        let inside : m.place - floor < length (drop floor es) = omega (arith, below, n, at.0) in
-        let back : floor + (m.place - floor) ≡ m.place = omega (arith, below) in
-        let same_entry : entry_at (drop floor es) (m.place - floor) ≡ entry_at es m.place = get_or-drop floor es (m.place - floor) no_entry ∙ ap (λ (k : ℕ). entry_at es k) back in
-        let found = mentions_entry (drop floor es) (m.place - floor) inside in
+        let inside : m.position - floor < length (drop floor es) = omega (arith, below, n, at.0) in
+        let back : floor + (m.position - floor) ≡ m.position = omega (arith, below) in
+        let same_entry : entry_at (drop floor es) (m.position - floor) ≡ entry_at es m.position = get_or-drop floor es (m.position - floor) no_entry ∙ ap (λ (k : ℕ). entry_at es k) back in
+        let found = mentions_entry (drop floor es) (m.position - floor) inside in
         let found_v : mentions (literals (drop floor es)) v ≡ true = subst (λ (w : ℕ). mentions (literals (drop floor es)) w ≡ true) (ap (λ (x : Entry). x.literal.variable) same_entry ∙ variable_is) found in
         absurd (both_ways (is_after es floor v) q found_v)
     go false p true q =
@@ -211,10 +211,10 @@ after_by_mark marks es tied v m floor low e = go (leb floor m.place) refl (is_af
         let n = length-drop floor es in
         let inside : floor + r.0 < length es = omega (arith, n, r.1) in
         let same_entry : entry_at (drop floor es) r.0 ≡ entry_at es (floor + r.0) = get_or-drop floor es r.0 no_entry in
-        let one : variable_at es (floor + r.0) ≡ variable_at es m.place = sym (ap (λ (x : Entry). x.literal.variable) same_entry) ∙ r.2 ∙ sym variable_is in
-        let place : floor + r.0 ≡ m.place = (AreApart_from marks es tied).apart (floor + r.0) m.place inside at.0 one in
-        let below : floor ≤ m.place = omega (arith, place) in
-        absurd (both_ways (leb floor m.place) p (le-leb floor m.place below))
+        let one : variable_at es (floor + r.0) ≡ variable_at es m.position = sym (ap (λ (x : Entry). x.literal.variable) same_entry) ∙ r.2 ∙ sym variable_is in
+        let position : floor + r.0 ≡ m.position = (AreApart_from marks es tied).apart (floor + r.0) m.position inside at.0 one in
+        let below : floor ≤ m.position = omega (arith, position) in
+        absurd (both_ways (leb floor m.position) p (le-leb floor m.position below))
 
 -- what a read of a variable's mark gives
 pub mark_read : (marks : List (Option Mark)) (v : ℕ) (x : Option Mark) → 1 ≤ v → v ≤ length marks → x ≡ get_or marks (v - 1) x → get_or marks (v - 1) None ≡ x
@@ -239,31 +239,31 @@ not_after_by_mark marks es tied v floor e = sym (false_from_ne_true (is_after es
 
 -- the marks after an entry is added
 pub tied_push : (marks : List (Option Mark)) (es : List Entry) (e : Entry) → IsTied marks es → is_among (length marks) e.literal ≡ true → mentions (literals es) e.literal.variable ≡ false
-    → IsTied (set marks (e.literal.variable - 1) (Some (record { positive = e.literal.positive; place = length es }))) (es ++ e ∷ [])
+    → IsTied (set marks (e.literal.variable - 1) (Some (record { positive = e.literal.positive; position = length es }))) (es ++ e ∷ [])
 tied_push marks es e tied among free = record {
   among = λ k l. elim (cases_push es e k l) as (λ _. is_among (length marks') (entry_at (es ++ e ∷ []) k).literal ≡ true) [
     | inl old ↦ rw (len, entry_at-push_old es e k old) (tied.among k old)
     | inr new ↦ rw (len, entry_at-push_new es e k new) among
   ];
-  marked = λ k l. elim (cases_push es e k l) as (λ _. get_or marks' ((entry_at (es ++ e ∷ []) k).literal.variable - 1) None ≡ Some (record { positive = (entry_at (es ++ e ∷ []) k).literal.positive; place = k })) [
+  marked = λ k l. elim (cases_push es e k l) as (λ _. get_or marks' ((entry_at (es ++ e ∷ []) k).literal.variable - 1) None ≡ Some (record { positive = (entry_at (es ++ e ∷ []) k).literal.positive; position = k })) [
     | inl old ↦ rw (entry_at-push_old es e k old) (get_or-set_other marks (e.literal.variable - 1) (variable_at es k - 1) x None (others k old) ∙ tied.marked k old)
-    | inr new ↦ rw (entry_at-push_new es e k new) (get_or-set_same marks (e.literal.variable - 1) x None inside ∙ ap (λ (n : ℕ). Some (record { positive = e.literal.positive; place = n })) (sym new))
+    | inr new ↦ rw (entry_at-push_new es e k new) (get_or-set_same marks (e.literal.variable - 1) x None inside ∙ ap (λ (n : ℕ). Some (record { positive = e.literal.positive; position = n })) (sym new))
   ];
-  placed = λ v m h. elim (cases_eq v (e.literal.variable - 1)) as (λ _. (m.place < length (es ++ e ∷ [])) × ((entry_at (es ++ e ∷ []) m.place).literal.variable ≡ suc v)) [
+  placed = λ v m h. elim (cases_eq v (e.literal.variable - 1)) as (λ _. (m.position < length (es ++ e ∷ [])) × ((entry_at (es ++ e ∷ []) m.position).literal.variable ≡ suc v)) [
     | inl same_one ↦
-        let one : Some (record { positive = e.literal.positive; place = length es }) ≡ Some m = sym (get_or-set_same marks (e.literal.variable - 1) x None inside) ∙ ap (λ (w : ℕ). get_or marks' w None) (sym same_one) ∙ h in
-        let place : length es ≡ m.place = ap place_in one in
-        let at : variable_at (es ++ e ∷ []) m.place ≡ e.literal.variable = ap (λ (y : Entry). y.literal.variable) (entry_at-push_new es e m.place (sym place)) in
-        (omega (arith, length_push es e, place), at ∙ (let t : e.literal.variable ≡ suc v = omega (arith, same_one, low) in t))
+        let one : Some (record { positive = e.literal.positive; position = length es }) ≡ Some m = sym (get_or-set_same marks (e.literal.variable - 1) x None inside) ∙ ap (λ (w : ℕ). get_or marks' w None) (sym same_one) ∙ h in
+        let position : length es ≡ m.position = ap position_in one in
+        let at : variable_at (es ++ e ∷ []) m.position ≡ e.literal.variable = ap (λ (y : Entry). y.literal.variable) (entry_at-push_new es e m.position (sym position)) in
+        (omega (arith, length_push es e, position), at ∙ (let t : e.literal.variable ≡ suc v = omega (arith, same_one, low) in t))
     | inr other ↦
         let before : get_or marks v None ≡ Some m = sym (get_or-set_other marks (e.literal.variable - 1) v x None other) ∙ h in
         let placed = tied.placed v m before in
-        (omega (arith, length_push es e, placed.0), rw (entry_at-push_old es e m.place placed.0) placed.1)
+        (omega (arith, length_push es e, placed.0), rw (entry_at-push_old es e m.position placed.0) placed.1)
   ];
 }
   where
     x : Option Mark
-    x = Some (record { positive = e.literal.positive; place = length es })
+    x = Some (record { positive = e.literal.positive; position = length es })
 
     marks' : List (Option Mark)
     marks' = set marks (e.literal.variable - 1) x
@@ -280,9 +280,9 @@ tied_push marks es e tied among free = record {
     inside : e.literal.variable - 1 < length marks
     inside = omega (arith, low, high)
 
-    place_in : Option Mark → ℕ
-    place_in None = 0
-    place_in (Some m) = m.place
+    position_in : Option Mark → ℕ
+    position_in None = 0
+    position_in (Some m) = m.position
 
     others : (k : ℕ) → k < length es → (variable_at es k - 1) ≢ (e.literal.variable - 1)
     others k l t =
@@ -295,7 +295,7 @@ pub tied_pop : (marks : List (Option Mark)) (es : List Entry) (e : Entry) → Is
 tied_pop marks es e tied = record {
   among = λ k l. rw (len, sym (entry_at-push_old es e k l)) (tied.among k (longer k l));
   marked = λ k l. get_or-set_other marks (e.literal.variable - 1) (variable_at es k - 1) None None (others k l) ∙ old_mark k l;
-  placed = λ v m h. elim (cases_eq v (e.literal.variable - 1)) as (λ _. (m.place < length es) × ((entry_at es m.place).literal.variable ≡ suc v)) [
+  placed = λ v m h. elim (cases_eq v (e.literal.variable - 1)) as (λ _. (m.position < length es) × ((entry_at es m.position).literal.variable ≡ suc v)) [
     | inl same_one ↦
         let gone : get_or (set marks (e.literal.variable - 1) None) v None ≡ None = subst (λ (w : ℕ). get_or (set marks (e.literal.variable - 1) None) w None ≡ None) (sym same_one)
         (get_or-set_same marks (e.literal.variable - 1) None None inside) in
@@ -303,10 +303,10 @@ tied_pop marks es e tied = record {
     | inr other ↦
         let before : get_or marks v None ≡ Some m = sym (get_or-set_other marks (e.literal.variable - 1) v None None other) ∙ h in
         let placed = tied.placed v m before in
-        elim (cases_push es e m.place placed.0) as (λ _. (m.place < length es) × ((entry_at es m.place).literal.variable ≡ suc v)) [
-          | inl old ↦ (old, sym (ap (λ (y : Entry). y.literal.variable) (entry_at-push_old es e m.place old)) ∙ placed.1)
+        elim (cases_push es e m.position placed.0) as (λ _. (m.position < length es) × ((entry_at es m.position).literal.variable ≡ suc v)) [
+          | inl old ↦ (old, sym (ap (λ (y : Entry). y.literal.variable) (entry_at-push_old es e m.position old)) ∙ placed.1)
           | inr new ↦
-              let at : e.literal.variable ≡ suc v = sym (ap (λ (y : Entry). y.literal.variable) (entry_at-push_new es e m.place new)) ∙ placed.1 in
+              let at : e.literal.variable ≡ suc v = sym (ap (λ (y : Entry). y.literal.variable) (entry_at-push_new es e m.position new)) ∙ placed.1 in
               absurd (other (let t : v ≡ e.literal.variable - 1 = omega (arith, at) in t))
         ]
   ];
@@ -333,8 +333,8 @@ tied_pop marks es e tied = record {
     inside : e.literal.variable - 1 < length marks
     inside = let low = among_low (length marks) e.literal among_e in let high = among_high (length marks) e.literal among_e in omega (arith, low, high)
 
-    old_mark : (k : ℕ) → k < length es → get_or marks (variable_at es k - 1) None ≡ Some (record { positive = (entry_at es k).literal.positive; place = k })
-    old_mark k l = subst (λ (y : Entry). get_or marks (y.literal.variable - 1) None ≡ Some (record { positive = y.literal.positive; place = k })) (entry_at-push_old es e k l) (tied.marked k (longer k l))
+    old_mark : (k : ℕ) → k < length es → get_or marks (variable_at es k - 1) None ≡ Some (record { positive = (entry_at es k).literal.positive; position = k })
+    old_mark k l = subst (λ (y : Entry). get_or marks (y.literal.variable - 1) None ≡ Some (record { positive = y.literal.positive; position = k })) (entry_at-push_old es e k l) (tied.marked k (longer k l))
 
     others : (k : ℕ) → k < length es → (variable_at es k - 1) ≢ (e.literal.variable - 1)
     others k l t =
@@ -343,8 +343,8 @@ tied_pop marks es e tied = record {
         let low_e = among_low (length marks) e.literal among_e in
         let one : variable_at es k ≡ e.literal.variable = omega (arith, low_k, low_e, t) in
         let both : variable_at (es ++ e ∷ []) k ≡ variable_at (es ++ e ∷ []) (length es) = ap (λ (y : Entry). y.literal.variable) (entry_at-push_old es e k l) ∙ one ∙ sym (ap (λ (y : Entry). y.literal.variable) last_is) in
-        let place : k ≡ length es = (AreApart_from marks (es ++ e ∷ []) tied).apart k (length es) (longer k l) last_one both in
-        omega (arith, place, l)
+        let position : k ≡ length es = (AreApart_from marks (es ++ e ∷ []) tied).apart k (length es) (longer k l) last_one both in
+        omega (arith, position, l)
 
 -- the signs of the marks make each literal of the trail true
 pub values_agree : (marks : List (Option Mark)) (es : List Entry) → IsTied marks es → (bits : List Bool) → bits ≡ map sign_of marks → (l : Literal) → holds (literals es) l ≡ true → is_true bits l ≡ true

@@ -128,7 +128,7 @@ module _ (f : Formula) (clauses : List (List Literal)) (chains : List (List Hint
       ∙ ap (λ (xs : List (List Literal)). xs ++ drop (length f.clauses) clauses) logged.given
       ∙ ap (λ (xs : List (List Literal)). f.clauses ++ xs) (sym (learnt_clauses-steps_of chains (drop (length f.clauses) clauses) as_many))
 
-  -- the steps that are made of the clauses from a place on
+  -- the steps that are made of the clauses from a position on
   pub logged_steps : (n : ℕ) (rest : List (List Literal)) (steps : List Step) → n ≡ length f.clauses → rest ≡ drop n clauses → steps ≡ steps_of chains rest → steps ≡ steps_of chains (drop (length f.clauses) clauses)
   logged_steps n rest steps count tail are = are ∙ ap (steps_of chains) (tail ∙ ap (λ (m : ℕ). drop m clauses) count)
 

@@ -91,14 +91,14 @@ once_take (suc n) (e ∷ es) h =
     both_ways (mentions (literals es) e.literal.variable) absent (subst (λ (v : ℕ). mentions (literals es) v ≡ true) (ap (λ (x : Literal). x.variable) k.3 ∙ l.2) (mentions_entry es k.0 k.2)))))
     (once_take n es parts.1)
 
--- an entry before a place is true there
+-- an entry before a position is true there
 pub holds_before : (es : List Entry) (n k : ℕ) → k < n → k < length es → holds (literals (take n es)) (entry_at es k).literal ≡ true
 holds_before es n k below inside =
     let len = length-take n es in
     let short : k < length (take n es) = omega (arith, len, below, inside) in
     subst (λ (e : Entry). holds (literals (take n es)) e.literal ≡ true) (get_or-take n es k no_entry below) (holds_entry (take n es) k short)
 
--- an entry from a place on is free before it
+-- an entry from a position on is free before it
 pub free_before : (variables : ℕ) (es : List Entry) (n k : ℕ) → AreApart variables es → n ≤ k → k < length es → mentions (literals (take n es)) (variable_at es k) ≡ false
 free_before variables es n k apart above inside = false_from_ne_true (mentions (literals (take n es)) (variable_at es k)) (λ m.
     let l = holds_from_mentions (literals (take n es)) (variable_at es k) m in
@@ -111,10 +111,10 @@ count_zero seen es z j l h = let p = count_seen-pos seen es j l h in omega (arit
 
 -- where one entry is marked, it is the only one
 pub record OnlySeen (seen : List Bool) (es : List Entry) : Type 0 where
-  pub place : ℕ
-  pub inside : place < length es
-  pub marked : is_seen_entry seen (entry_at es place) ≡ true
-  pub only : (j : ℕ) → j < length es → is_seen_entry seen (entry_at es j) ≡ true → j ≡ place
+  pub position : ℕ
+  pub inside : position < length es
+  pub marked : is_seen_entry seen (entry_at es position) ≡ true
+  pub only : (j : ℕ) → j < length es → is_seen_entry seen (entry_at es j) ≡ true → j ≡ position
 
 only_seen : (seen : List Bool) (es : List Entry) → count_seen seen es ≡ 1 → OnlySeen seen es
 only_seen seen [] h = absurd (omega (arith, h))
@@ -123,16 +123,16 @@ only_seen seen (e ∷ es) h = go (is_seen_entry seen e) refl h (λ one. only_see
     go : (b : Bool) → is_seen_entry seen e ≡ b → cond b 1 0 + count_seen seen es ≡ 1 → (count_seen seen es ≡ 1 → OnlySeen seen es) → OnlySeen seen (e ∷ es)
     go true p c ih =
         let none : count_seen seen es ≡ 0 = omega (arith, c) in
-        record { place = zero; inside = omega arith; marked = p; only = λ j l s. first j l s none }
+        record { position = zero; inside = omega arith; marked = p; only = λ j l s. first j l s none }
       where
         first : (j : ℕ) → j < length (e ∷ es) → is_seen_entry seen (entry_at (e ∷ es) j) ≡ true → count_seen seen es ≡ 0 → j ≡ zero
         first zero l s none = refl
         first (suc j) l s none = absurd (count_zero seen es none j (omega (arith, l)) s)
     go false p c ih =
         let r = ih (omega (arith, c)) in
-        record { place = suc r.place; inside = omega (arith, r.inside); marked = r.marked; only = λ j l s. later j l s r }
+        record { position = suc r.position; inside = omega (arith, r.inside); marked = r.marked; only = λ j l s. later j l s r }
       where
-        later : (j : ℕ) → j < length (e ∷ es) → is_seen_entry seen (entry_at (e ∷ es) j) ≡ true → (r : OnlySeen seen es) → j ≡ suc r.place
+        later : (j : ℕ) → j < length (e ∷ es) → is_seen_entry seen (entry_at (e ∷ es) j) ≡ true → (r : OnlySeen seen es) → j ≡ suc r.position
         later zero l s r = absurd (both_ways (is_seen_entry seen e) p s)
         later (suc j) l s r = ap suc (r.only j (omega (arith, l)) s)
 
@@ -254,18 +254,18 @@ module _ (variables : ℕ) (known : List (List Literal)) (es : List Entry) (soun
       (all_from (λ l. holds (seen_negations seen es) l) (chain_of known hints) (λ l h. holds-seen_negations seen es l ∙ sym (resolving.marks l) ∙ h))
       (all_from (λ l. holds (chain_of known hints) l) (seen_negations seen es) (λ l h. resolving.marks l ∙ sym (holds-seen_negations seen es l) ∙ h)))
 
-  module _ (floor start place : ℕ) (one : count_seen seen (drop floor es) ≡ 1) (floor_in : floor < length es) (low : start ≤ place) (high : place ≤ floor)
+  module _ (floor start position : ℕ) (one : count_seen seen (drop floor es) ≡ 1) (floor_in : floor < length es) (low : start ≤ position) (high : position ≤ floor)
       (above : (k : ℕ) → start ≤ k → k < floor → is_seen_entry seen (entry_at es k) ≡ false) (below : 0 < start → is_seen_entry seen (entry_at es (start - 1)) ≡ true)
-      (decision : (entry_at es place).reason ≡ None) (before : NoDecision es start place) where
+      (decision : (entry_at es position).reason ≡ None) (before : NoDecision es start position) where
     top : OnlySeen seen (drop floor es)
     top = only_seen seen (drop floor es) one
 
     at_drop : (j : ℕ) → entry_at (drop floor es) j ≡ entry_at es (floor + j)
     at_drop j = get_or-drop floor es j no_entry
 
-    -- the place of the one marked entry of the newest level, and its negation
+    -- the position of the one marked entry of the newest level, and its negation
     tip : ℕ
-    tip = floor + (only_seen seen (drop floor es) one).place
+    tip = floor + (only_seen seen (drop floor es) one).position
 
     tip_in : tip < length es
     unfolding tip
@@ -273,7 +273,7 @@ module _ (variables : ℕ) (known : List (List Literal)) (es : List Entry) (soun
 
     tip_marked : is_seen_entry seen (entry_at es tip) ≡ true
     unfolding tip
-    tip_marked = subst (λ (e : Entry). is_seen_entry seen e ≡ true) (at_drop (only_seen seen (drop floor es) one).place) (only_seen seen (drop floor es) one).marked
+    tip_marked = subst (λ (e : Entry). is_seen_entry seen e ≡ true) (at_drop (only_seen seen (drop floor es) one).position) (only_seen seen (drop floor es) one).marked
 
     tip_above : floor ≤ tip
     unfolding tip
@@ -286,8 +286,8 @@ module _ (variables : ℕ) (known : List (List Literal)) (es : List Entry) (soun
         let back : floor + (k - floor) ≡ k = omega (arith, up) in
         let in_drop : k - floor < length (drop floor es) = omega (arith, n, up, inside) in
         let e : entry_at (drop floor es) (k - floor) ≡ entry_at es k = at_drop (k - floor) ∙ ap (λ (j : ℕ). entry_at es j) back in
-        let same_place = (only_seen seen (drop floor es) one).only (k - floor) in_drop (subst (λ (x : Entry). is_seen_entry seen x ≡ true) (sym e) marked) in
-        omega (arith, back, same_place)
+        let same_position = (only_seen seen (drop floor es) one).only (k - floor) in_drop (subst (λ (x : Entry). is_seen_entry seen x ≡ true) (sym e) marked) in
+        omega (arith, back, same_position)
 
     u : Literal
     u = negation (entry_at es tip).literal
@@ -301,35 +301,35 @@ module _ (variables : ℕ) (known : List (List Literal)) (es : List Entry) (soun
 
     is_fresh : IsFresh known (seen_negations seen es)
     is_fresh = record {
-      set = literals (take place es);
+      set = literals (take position es);
       literal = negation (entry_at es tip).literal;
-      once = once_take place es (apart_once variables es apart).0;
-      closed = none_of (entry_at es place).reason (is_closed (literals (take place es)) known ≡ true) (λ n. Implies known n (literals (take place es)) (entry_at es place).literal) decision (sound place (omega (arith, high, floor_in))).why;
+      once = once_take position es (apart_once variables es apart).0;
+      closed = none_of (entry_at es position).reason (is_closed (literals (take position es)) known ≡ true) (λ n. Implies known n (literals (take position es)) (entry_at es position).literal) decision (sound position (omega (arith, high, floor_in))).why;
       within = negated tip tip_in tip_marked;
-      others = all_from (λ l. same l (negation (entry_at es tip).literal) || holds (literals (take place es)) (negation l)) (seen_negations seen es) each;
-      free = not_from_false (mentions (literals (take place es)) (variable_at es tip)) (free_before variables es place tip apart (let t = tip_above in omega (arith, high, t)) tip_in);
+      others = all_from (λ l. same l (negation (entry_at es tip).literal) || holds (literals (take position es)) (negation l)) (seen_negations seen es) each;
+      free = not_from_false (mentions (literals (take position es)) (variable_at es tip)) (free_before variables es position tip apart (let t = tip_above in omega (arith, high, t)) tip_in);
     }
       where
-        each : (l : Literal) → holds (seen_negations seen es) l ≡ true → (same l (negation (entry_at es tip).literal) || holds (literals (take place es)) (negation l)) ≡ true
+        each : (l : Literal) → holds (seen_negations seen es) l ≡ true → (same l (negation (entry_at es tip).literal) || holds (literals (take position es)) (negation l)) ≡ true
         each l h =
             let parts = and_parts (is_seen seen l.variable) (holds (literals es) (negation l)) (sym (holds-seen_negations seen es l) ∙ h) in
             let k = entry_of_holds es (negation l) parts.1 in
             let marked : is_seen_entry seen (entry_at es k.0) ≡ true = subst (λ (v : ℕ). is_seen seen v ≡ true) (sym (ap (λ (x : Literal). x.variable) k.2)) parts.0 in
-            elim (cases_le floor k.0) as (λ _. (same l (negation (entry_at es tip).literal) || holds (literals (take place es)) (negation l)) ≡ true) [
+            elim (cases_le floor k.0) as (λ _. (same l (negation (entry_at es tip).literal) || holds (literals (take position es)) (negation l)) ≡ true) [
               | inl up ↦
                   let at_tip : k.0 ≡ tip = tip_only k.0 up k.1 marked in
                   let is_u : negation (entry_at es tip).literal ≡ l = ap (λ (j : ℕ). negation (entry_at es j).literal) (sym at_tip) ∙ ap negation k.2 ∙ negation-negation l in
-                  or_left (same l (negation (entry_at es tip).literal)) (holds (literals (take place es)) (negation l)) (subst (λ (x : Literal). same l x ≡ true) (sym is_u) (same-refl l))
+                  or_left (same l (negation (entry_at es tip).literal)) (holds (literals (take position es)) (negation l)) (subst (λ (x : Literal). same l x ≡ true) (sym is_u) (same-refl l))
               | inr down ↦
-                  elim (cases_le start k.0) as (λ _. (same l (negation (entry_at es tip).literal) || holds (literals (take place es)) (negation l)) ≡ true) [
+                  elim (cases_le start k.0) as (λ _. (same l (negation (entry_at es tip).literal) || holds (literals (take position es)) (negation l)) ≡ true) [
                     | inl late ↦ absurd (both_ways (is_seen_entry seen (entry_at es k.0)) (above k.0 late down) marked)
                     | inr early ↦
-                        or_right (same l (negation (entry_at es tip).literal)) (holds (literals (take place es)) (negation l))
-                        (subst (λ (x : Literal). holds (literals (take place es)) x ≡ true) k.2 (holds_before es place k.0 (omega (arith, early, low)) k.1))
+                        or_right (same l (negation (entry_at es tip).literal)) (holds (literals (take position es)) (negation l))
+                        (subst (λ (x : Literal). holds (literals (take position es)) x ≡ true) k.2 (holds_before es position k.0 (omega (arith, early, low)) k.1))
                   ]
             ]
 
-    closed_below : (k : ℕ) → k < place → (entry_at es k).reason ≡ None → is_closed_at (literals (take k es)) (seen_negations seen es) ≡ true
+    closed_below : (k : ℕ) → k < position → (entry_at es k).reason ≡ None → is_closed_at (literals (take k es)) (seen_negations seen es) ≡ true
     closed_below k k_below none =
         let early : k < start = early_one (cases_le start k) in
         let m_in : start - 1 < length es = omega (arith, early, low, high, floor_in) in
@@ -353,7 +353,7 @@ module _ (variables : ℕ) (known : List (List Literal)) (es : List Entry) (soun
     ends : LastOf (seen_negations seen es) (negation (entry_at es tip).literal)
     ends = last_seen seen es tip tip_in tip_marked (λ k low l. false_from_ne_true (is_seen_entry seen (entry_at es k)) (λ m. let t = tip_above in let one = tip_only k (omega (arith, low, t)) l m in omega (arith, one, low)))
 
-    pub learnt : IsLearntClause variables known es (record { clause = seen_negations seen es; hints = hints }) place
+    pub learnt : IsLearntClause variables known es (record { clause = seen_negations seen es; hints = hints }) position
     unfolding is_fresh
     learnt = record {
       clause = and_from (is_once (seen_negations seen es)) (is_within variables (seen_negations seen es)) (once-seen_negations seen es (apart_once variables es apart).0)
@@ -367,18 +367,18 @@ module _ (variables : ℕ) (known : List (List Literal)) (es : List Entry) (soun
       short = omega (arith, high, floor_in);
       free = rw ends.last is_fresh.free;
       others = rw ends.last is_fresh.others;
-      sound = sound_more variables known (seen_negations seen es) (take place es) (sound_take variables known es place (omega (arith, high, floor_in)) sound) closed_in;
+      sound = sound_more variables known (seen_negations seen es) (take position es) (sound_take variables known es position (omega (arith, high, floor_in)) sound) closed_in;
     }
       where
         full : (xs : List Literal) → holds xs (negation (entry_at es tip).literal) ≡ true → is_empty xs ≡ false
         full [] h = absurd (false≢true h)
         full (x ∷ xs) h = refl
 
-        closed_in : (k : ℕ) → k < length (take place es) → (entry_at (take place es) k).reason ≡ None → is_closed_at (literals (take k (take place es))) (seen_negations seen es) ≡ true
+        closed_in : (k : ℕ) → k < length (take position es) → (entry_at (take position es) k).reason ≡ None → is_closed_at (literals (take k (take position es))) (seen_negations seen es) ≡ true
         closed_in k l none =
-            let len = length-take-le place es (omega (arith, high, floor_in)) in
-            let k_below : k < place = omega (arith, len, l) in
-            let e = get_or-take place es k no_entry k_below in
+            let len = length-take-le position es (omega (arith, high, floor_in)) in
+            let k_below : k < position = omega (arith, len, l) in
+            let e = get_or-take position es k no_entry k_below in
             let at_k : (entry_at es k).reason ≡ None = ap (λ (x : Entry). x.reason) (sym e) ∙ none in
-            let prefix : take k (take place es) ≡ take k es = take-take k place es (omega (arith, k_below)) in
+            let prefix : take k (take position es) ≡ take k es = take-take k position es (omega (arith, k_below)) in
             subst (λ (xs : List Entry). is_closed_at (literals xs) (seen_negations seen es) ≡ true) (sym prefix) (closed_below k k_below at_k)

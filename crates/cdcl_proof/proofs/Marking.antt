@@ -133,26 +133,26 @@ count_seen-pos seen [] k l h = absurd (omega arith)
 count_seen-pos seen (e ∷ es) zero l h = rw h (omega arith)
 count_seen-pos seen (e ∷ es) (suc k) l h = let ih = count_seen-pos seen es k (omega (arith, l)) h in omega (arith, ih)
 
--- with no mark from a place on, no more are marked than there are places
-count_below : (seen : List Bool) (es : List Entry) (place : ℕ) → NoneSeen seen es place → count_seen seen es ≤ place
-count_below seen [] place none = omega arith
+-- with no mark from a position on, no more are marked than there are positions
+count_below : (seen : List Bool) (es : List Entry) (position : ℕ) → NoneSeen seen es position → count_seen seen es ≤ position
+count_below seen [] position none = omega arith
 count_below seen (e ∷ es) zero none =
     let first : is_seen_entry seen e ≡ false = none zero (omega arith) (omega arith) in
     let ih = count_below seen es zero (λ k low l. none (suc k) (omega arith) (omega (arith, l))) in
     rw first (omega (arith, ih))
-count_below seen (e ∷ es) (suc place) none = go (is_seen_entry seen e) (count_below seen es place (λ k low l. none (suc k) (omega (arith, low)) (omega (arith, l))))
+count_below seen (e ∷ es) (suc position) none = go (is_seen_entry seen e) (count_below seen es position (λ k low l. none (suc k) (omega (arith, low)) (omega (arith, l))))
   where
-    go : (b : Bool) → count_seen seen es ≤ place → cond b 1 0 + count_seen seen es ≤ suc place
+    go : (b : Bool) → count_seen seen es ≤ position → cond b 1 0 + count_seen seen es ≤ suc position
     go true ih = omega arith
     go false ih = omega arith
 
-pub count_between : (seen : List Bool) (es : List Entry) (floor place : ℕ) → NoneSeen seen es place → count_seen seen (drop floor es) ≤ place - floor
-count_between seen es zero place none = let h = count_below seen es place none in omega (arith, h)
-count_between seen [] (suc floor) place none = omega arith
+pub count_between : (seen : List Bool) (es : List Entry) (floor position : ℕ) → NoneSeen seen es position → count_seen seen (drop floor es) ≤ position - floor
+count_between seen es zero position none = let h = count_below seen es position none in omega (arith, h)
+count_between seen [] (suc floor) position none = omega arith
 count_between seen (e ∷ es) (suc floor) zero none =
     let h = count_between seen es floor zero (λ k low l. none (suc k) (omega arith) (omega (arith, l))) in omega (arith, h)
-count_between seen (e ∷ es) (suc floor) (suc place) none =
-    let h = count_between seen es floor place (λ k low l. none (suc k) (omega (arith, low)) (omega (arith, l))) in omega (arith, h)
+count_between seen (e ∷ es) (suc floor) (suc position) none =
+    let h = count_between seen es floor position (λ k low l. none (suc k) (omega (arith, low)) (omega (arith, l))) in omega (arith, h)
 
 -- an entry from the floor on is mentioned from there
 pub after_entry : (es : List Entry) (floor k : ℕ) → floor ≤ k → k < length es → is_after es floor (variable_at es k) ≡ true
@@ -235,15 +235,15 @@ resolves_from old new pivot c plow phigh h v low = go (eqb v pivot) refl
         h v low ∙ ap (λ (b : Bool). b || (not (eqb v pivot) && mentions c v)) other ∙ (let t : (is_seen old v || (not (eqb v pivot) && mentions c v)) ≡ (not (eqb v pivot) && (is_seen old v || mentions c v)) = rw at refl in t)
 
 -- the mark of an entry from the floor on is taken off
-pub unmark_count : (variables : ℕ) (seen : List Bool) (es : List Entry) (floor place : ℕ) → AreApart variables es → length seen ≡ variables → place < length es → floor ≤ place
-    → is_seen_entry seen (entry_at es place) ≡ true → count_seen (set seen (variable_at es place - 1) false) (drop floor es) + 1 ≡ count_seen seen (drop floor es)
-unmark_count variables seen es floor place apart len inside above marked =
+pub unmark_count : (variables : ℕ) (seen : List Bool) (es : List Entry) (floor position : ℕ) → AreApart variables es → length seen ≡ variables → position < length es → floor ≤ position
+    → is_seen_entry seen (entry_at es position) ≡ true → count_seen (set seen (variable_at es position - 1) false) (drop floor es) + 1 ≡ count_seen seen (drop floor es)
+unmark_count variables seen es floor position apart len inside above marked =
     let tidy = apart_once variables es apart in
-    let among = apart.among place inside in
-    let low = among_low variables (entry_at es place).literal among in
-    let high = among_high variables (entry_at es place).literal among in
-    let high' : variable_at es place ≤ length seen = omega (arith, high, len) in
-    count_seen-set_none variables seen (variable_at es place) (drop floor es) low high' marked (within_drop variables floor es tidy.1) (once_drop floor es tidy.0) (after_entry es floor place above inside)
+    let among = apart.among position inside in
+    let low = among_low variables (entry_at es position).literal among in
+    let high = among_high variables (entry_at es position).literal among in
+    let high' : variable_at es position ≤ length seen = omega (arith, high, len) in
+    count_seen-set_none variables seen (variable_at es position) (drop floor es) low high' marked (within_drop variables floor es tidy.1) (once_drop floor es tidy.0) (after_entry es floor position above inside)
 
 -- with no mark nothing is counted
 pub count_seen-none : (seen : List Bool) (es : List Entry) → ((v : ℕ) → is_seen seen v ≡ false) → count_seen seen es ≡ 0
@@ -273,14 +273,14 @@ resolves_off old pivot c plow phigh all = resolves_from old (set old (pivot - 1)
         rw here refl
 
 -- a mark of an earlier entry is not counted
-pub count_seen-before : (variables : ℕ) (seen : List Bool) (es : List Entry) (floor place : ℕ) → AreApart variables es → place < length es → place < floor
-    → count_seen (set seen (variable_at es place - 1) false) (drop floor es) ≡ count_seen seen (drop floor es)
-count_seen-before variables seen es floor place apart inside below =
+pub count_seen-before : (variables : ℕ) (seen : List Bool) (es : List Entry) (floor position : ℕ) → AreApart variables es → position < length es → position < floor
+    → count_seen (set seen (variable_at es position - 1) false) (drop floor es) ≡ count_seen seen (drop floor es)
+count_seen-before variables seen es floor position apart inside below =
     let tidy = apart_once variables es apart in
-    count_seen-set_off variables seen (variable_at es place) false (drop floor es) (among_low variables (entry_at es place).literal (apart.among place inside))
-    (within_drop variables floor es tidy.1) (false_from_ne_true (is_after es floor (variable_at es place)) (λ m.
-    let r = entry_of_mentions (drop floor es) (variable_at es place) m in
+    count_seen-set_off variables seen (variable_at es position) false (drop floor es) (among_low variables (entry_at es position).literal (apart.among position inside))
+    (within_drop variables floor es tidy.1) (false_from_ne_true (is_after es floor (variable_at es position)) (λ m.
+    let r = entry_of_mentions (drop floor es) (variable_at es position) m in
     let n = length-drop floor es in
     let there : floor + r.0 < length es = omega (arith, n, r.1) in
-    let one : floor + r.0 ≡ place = apart.apart (floor + r.0) place there inside (ap (λ (x : Entry). x.literal.variable) (sym (get_or-drop floor es r.0 no_entry)) ∙ r.2) in
+    let one : floor + r.0 ≡ position = apart.apart (floor + r.0) position there inside (ap (λ (x : Entry). x.literal.variable) (sym (get_or-drop floor es r.0 no_entry)) ∙ r.2) in
     omega (arith, one, below)))

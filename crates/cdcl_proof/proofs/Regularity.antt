@@ -35,30 +35,30 @@ regular_from-push known (t ∷ ts) s =
     ∙ ap (λ (k : List (List Literal)). is_regular_from (known ++ t.clause ∷ []) ts && is_regular k s.hints) (append_assoc known (t.clause ∷ []) (learnt_clauses ts)))
     ∙ sym (and-assoc (is_regular known t.hints) (is_regular_from (known ++ t.clause ∷ []) ts) (is_regular (known ++ (t.clause ∷ learnt_clauses ts)) s.hints))
 
-pub pivots_down : (es : List Entry) (place : ℕ) (hs : List Hint) → ArePivotsFrom es (place + 1) hs → ArePivotsFrom es place hs
-pivots_down es place [] p = tt
-pivots_down es place (h ∷ hs) p = ((p.0.0, omega (arith, p.0.1), p.0.2, p.0.3), pivots_down es place hs p.1)
+pub pivots_down : (es : List Entry) (position : ℕ) (hs : List Hint) → ArePivotsFrom es (position + 1) hs → ArePivotsFrom es position hs
+pivots_down es position [] p = tt
+pivots_down es position (h ∷ hs) p = ((p.0.0, omega (arith, p.0.1), p.0.2, p.0.3), pivots_down es position hs p.1)
 
-pivots_push : (es : List Entry) (place : ℕ) (hs : List Hint) (h : Hint) → ArePivotsFrom es place hs → place < length es → (entry_at es place).literal.variable ≡ h.pivot → ArePivotsFrom es place (hs ++ h ∷ [])
-pivots_push es place [] h p l e = ((place, omega arith, l, e), tt)
-pivots_push es place (g ∷ gs) h p l e = (p.0, pivots_push es place gs h p.1 l e)
+pivots_push : (es : List Entry) (position : ℕ) (hs : List Hint) (h : Hint) → ArePivotsFrom es position hs → position < length es → (entry_at es position).literal.variable ≡ h.pivot → ArePivotsFrom es position (hs ++ h ∷ [])
+pivots_push es position [] h p l e = ((position, omega arith, l, e), tt)
+pivots_push es position (g ∷ gs) h p l e = (p.0, pivots_push es position gs h p.1 l e)
 
--- a variable of an entry up to the place is none of the pivots
-pub survives_from : (variables : ℕ) (es : List Entry) (place : ℕ) (hs : List Hint) (l : Literal) (m : ℕ) → AreApart variables es → ArePivotsFrom es (place + 1) hs → m ≤ place → m < length es
+-- a variable of an entry up to the position is none of the pivots
+pub survives_from : (variables : ℕ) (es : List Entry) (position : ℕ) (hs : List Hint) (l : Literal) (m : ℕ) → AreApart variables es → ArePivotsFrom es (position + 1) hs → m ≤ position → m < length es
     → (entry_at es m).literal.variable ≡ l.variable → survives hs l ≡ true
-survives_from variables es place [] l m apart p low inside e = refl
-survives_from variables es place (h ∷ hs) l m apart p low inside e =
+survives_from variables es position [] l m apart p low inside e = refl
+survives_from variables es position (h ∷ hs) l m apart p low inside e =
     and_from (not (is_on h.pivot l)) (survives hs l)
     (not_from_false (is_on h.pivot l) (ne_eqb l.variable h.pivot (λ q. (let one : m ≡ p.0.0 = apart.apart m p.0.0 inside p.0.2 (e ∙ q ∙ sym p.0.3) in let up = p.0.1 in let bad : ⊥ = omega (arith, one, up, low) in bad))))
-    (survives_from variables es place hs l m apart p.1 low inside e)
+    (survives_from variables es position hs l m apart p.1 low inside e)
 
-pub pivots_later : (es : List Entry) (place : ℕ) (hs : List Hint) → HasPivotsFrom es (place + 1) hs → HasPivotsFrom es place hs
-pivots_later es place [] p = tt
-pivots_later es place (h ∷ hs) p = pivots_down es place hs p
+pub pivots_later : (es : List Entry) (position : ℕ) (hs : List Hint) → HasPivotsFrom es (position + 1) hs → HasPivotsFrom es position hs
+pivots_later es position [] p = tt
+pivots_later es position (h ∷ hs) p = pivots_down es position hs p
 
-pub pivots_more : (es : List Entry) (place : ℕ) (hs : List Hint) (h : Hint) → HasPivotsFrom es (place + 1) hs → place < length es → (entry_at es place).literal.variable ≡ h.pivot → HasPivotsFrom es place (hs ++ h ∷ [])
-pivots_more es place [] h p l e = tt
-pivots_more es place (g ∷ gs) h p l e = pivots_push es place gs h (pivots_down es place gs p) l e
+pub pivots_more : (es : List Entry) (position : ℕ) (hs : List Hint) (h : Hint) → HasPivotsFrom es (position + 1) hs → position < length es → (entry_at es position).literal.variable ≡ h.pivot → HasPivotsFrom es position (hs ++ h ∷ [])
+pivots_more es position [] h p l e = tt
+pivots_more es position (g ∷ gs) h p l e = pivots_push es position gs h (pivots_down es position gs p) l e
 
 pub pivots_above : (es : List Entry) (low high : ℕ) (hs : List Hint) → low ≤ high → HasPivotsFrom es high hs → HasPivotsFrom es low hs
 pivots_above es low high [] l p = tt
@@ -68,8 +68,8 @@ pivots_above es low high (h ∷ hs) l p = go hs p
     go [] p = tt
     go (g ∷ gs) p = ((p.0.0, omega (arith, l, p.0.1), p.0.2, p.0.3), go gs p.1)
 
--- the reason of an entry at the place is regular after the hints so far
-pub regular_more : (known : List (List Literal)) (es : List Entry) (place : ℕ) (hs : List Hint) (h : Hint) → is_regular known hs ≡ true → HasPivotsFrom es (place + 1) hs
-    → ((gs : List Hint) → ArePivotsFrom es (place + 1) gs → avoids gs (clause_at known h.clause) ≡ true) → is_regular known (hs ++ h ∷ []) ≡ true
-regular_more known es place [] h r p a = refl
-regular_more known es place (g ∷ gs) h r p a = regular_after-push known [] gs h ∙ and_from (is_regular_after known [] gs) (avoids gs (clause_at known h.clause)) r (a gs p)
+-- the reason of an entry at the position is regular after the hints so far
+pub regular_more : (known : List (List Literal)) (es : List Entry) (position : ℕ) (hs : List Hint) (h : Hint) → is_regular known hs ≡ true → HasPivotsFrom es (position + 1) hs
+    → ((gs : List Hint) → ArePivotsFrom es (position + 1) gs → avoids gs (clause_at known h.clause) ≡ true) → is_regular known (hs ++ h ∷ []) ≡ true
+regular_more known es position [] h r p a = refl
+regular_more known es position (g ∷ gs) h r p a = regular_after-push known [] gs h ∙ and_from (is_regular_after known [] gs) (avoids gs (clause_at known h.clause)) r (a gs p)

@@ -103,15 +103,15 @@ represented_marks s r seen rep l h = go (is_seen seen l.variable) refl
         let marked = (represented_false s r seen rep k.0 k.1).0 in
         both_ways (is_seen seen l.variable) e (subst (λ (v : ℕ). is_seen seen v ≡ true) k.2 marked)))
 
--- the marked ones of the level are all before the place
-pub place_above : (variables : ℕ) (known : List (List Literal)) (es : List Entry) (floor keep place count : ℕ) (hints : List Hint) (seen : List Bool)
-    → IsAnalysis variables known es floor keep place count hints seen → keep < count → floor + keep + 1 ≤ place
-place_above variables known es floor keep place count hints seen a more =
-    let bound = count_between seen es floor place a.none in
+-- the marked ones of the level are all before the position
+pub position_above : (variables : ℕ) (known : List (List Literal)) (es : List Entry) (floor keep position count : ℕ) (hints : List Hint) (seen : List Bool)
+    → IsAnalysis variables known es floor keep position count hints seen → keep < count → floor + keep + 1 ≤ position
+position_above variables known es floor keep position count hints seen a more =
+    let bound = count_between seen es floor position a.none in
     let counted = a.counted in
     omega (arith, bound, counted, more)
 
--- a literal before a place
+-- a literal before a position
 pub holds_take : (es : List Entry) (n : ℕ) (l : Literal) → holds (literals (take n es)) l ≡ true → (k : ℕ) × (k < n) × (k < length es) × ((entry_at es k).literal ≡ l)
 holds_take es n l h =
     let r = entry_of_holds (take n es) l h in
@@ -133,12 +133,12 @@ all_clauses_closed known t n number closed =
     let parts = and_parts (leb 1 n) (leb n (length known)) number in
     let low = leb-true 1 n parts.0 in
     let high = leb-true n (length known) parts.1 in
-    at_place known (n - 1) (omega (arith, low, high)) closed
+    at_position known (n - 1) (omega (arith, low, high)) closed
   where
-    at_place : (cs : List (List Literal)) (i : ℕ) → i < length cs → is_closed t cs ≡ true → is_closed_at t (get_or cs i []) ≡ true
-    at_place [] i l h = absurd (omega (arith, l))
-    at_place (c ∷ cs) zero l h = (and_parts (is_closed_at t c) (is_closed t cs) h).0
-    at_place (c ∷ cs) (suc i) l h = at_place cs i (omega (arith, l)) ((and_parts (is_closed_at t c) (is_closed t cs) h).1)
+    at_position : (cs : List (List Literal)) (i : ℕ) → i < length cs → is_closed t cs ≡ true → is_closed_at t (get_or cs i []) ≡ true
+    at_position [] i l h = absurd (omega (arith, l))
+    at_position (c ∷ cs) zero l h = (and_parts (is_closed_at t c) (is_closed t cs) h).0
+    at_position (c ∷ cs) (suc i) l h = at_position cs i (omega (arith, l)) ((and_parts (is_closed_at t c) (is_closed t cs) h).1)
 
 some_of : {A : Type 0} (o : Option A) (n : A) (P : Type 0) (Q : A → Type 0) → o ≡ Some n → MatchOption o P Q → Q n
 some_of {A} o n P Q e h = subst (λ (x : Option A). MatchOption x P Q) e h
@@ -147,49 +147,49 @@ module _ (variables : ℕ) (known : List (List Literal)) (es : List Entry) (soun
   trail_once : is_once (literals es) ≡ true
   trail_once = (apart_once variables es apart).0
 
-  module _ (place reason : ℕ) (inside : place < length es) (why : (entry_at es place).reason ≡ Some reason) where
-    implies : Implies known reason (literals (take place es)) (entry_at es place).literal
-    implies = some_of (entry_at es place).reason reason (is_closed (literals (take place es)) known ≡ true) (λ n. Implies known n (literals (take place es)) (entry_at es place).literal) why (sound place inside).why
+  module _ (position reason : ℕ) (inside : position < length es) (why : (entry_at es position).reason ≡ Some reason) where
+    implies : Implies known reason (literals (take position es)) (entry_at es position).literal
+    implies = some_of (entry_at es position).reason reason (is_closed (literals (take position es)) known ≡ true) (λ n. Implies known n (literals (take position es)) (entry_at es position).literal) why (sound position inside).why
 
     -- a literal of the reason is the entry's, or an earlier entry negates it
-    of_reason : (l : Literal) → holds (clause_at known reason) l ≡ true → (l ≡ (entry_at es place).literal) ⊎ ((k : ℕ) × (k < place) × (k < length es) × ((entry_at es k).literal ≡ negation l))
+    of_reason : (l : Literal) → holds (clause_at known reason) l ≡ true → (l ≡ (entry_at es position).literal) ⊎ ((k : ℕ) × (k < position) × (k < length es) × ((entry_at es k).literal ≡ negation l))
     of_reason l h =
-        let x = (entry_at es place).literal in
-        elim (or_cases (same l x) (holds (literals (take place es)) (negation l)) (all_at (λ m. same m x || holds (literals (take place es)) (negation m))
-        (clause_at known reason) l implies.others h)) as (λ _. (l ≡ x) ⊎ ((k : ℕ) × (k < place) × (k < length es) × ((entry_at es k).literal ≡ negation l))) [
+        let x = (entry_at es position).literal in
+        elim (or_cases (same l x) (holds (literals (take position es)) (negation l)) (all_at (λ m. same m x || holds (literals (take position es)) (negation m))
+        (clause_at known reason) l implies.others h)) as (λ _. (l ≡ x) ⊎ ((k : ℕ) × (k < position) × (k < length es) × ((entry_at es k).literal ≡ negation l))) [
           | inl one ↦ inl (same-true l x one)
-          | inr before ↦ inr (holds_take es place (negation l) before)
+          | inr before ↦ inr (holds_take es position (negation l) before)
         ]
 
     -- an earlier entry is of another variable
-    other_variable : (k : ℕ) → k < place → k < length es → (variable_at es k ≡ variable_at es place) → ⊥
-    other_variable k below long e = let one : k ≡ place = apart.apart k place long inside e in omega (arith, one, below)
+    other_variable : (k : ℕ) → k < position → k < length es → (variable_at es k ≡ variable_at es position) → ⊥
+    other_variable k below long e = let one : k ≡ position = apart.apart k position long inside e in omega (arith, one, below)
 
-    falsified_others : (l : Literal) → holds (clause_at known reason) l ≡ true → is_on (variable_at es place) l ≡ false → holds (literals es) (negation l) ≡ true
+    falsified_others : (l : Literal) → holds (clause_at known reason) l ≡ true → is_on (variable_at es position) l ≡ false → holds (literals es) (negation l) ≡ true
     falsified_others l h off =
         elim (of_reason l h) as (λ _. holds (literals es) (negation l) ≡ true) [
-          | inl one ↦ absurd (eqb-false l.variable (variable_at es place) off (ap (λ (m : Literal). m.variable) one))
+          | inl one ↦ absurd (eqb-false l.variable (variable_at es position) off (ap (λ (m : Literal). m.variable) one))
           | inr r ↦ subst (λ (m : Literal). holds (literals es) m ≡ true) r.3 (holds_entry es r.0 r.2)
         ]
 
-    module _ (r : List Literal) (old : List Bool) (rep : Represents old (literals es) r) (marked : is_seen_entry old (entry_at es place) ≡ true) where
-      opposed : opposes (variable_at es place) r (clause_at known reason) ≡ true
-      opposed = all_from (λ l. beq (is_on (variable_at es place) l) (holds r (negation l))) (clause_at known reason) each
+    module _ (r : List Literal) (old : List Bool) (rep : Represents old (literals es) r) (marked : is_seen_entry old (entry_at es position) ≡ true) where
+      opposed : opposes (variable_at es position) r (clause_at known reason) ≡ true
+      opposed = all_from (λ l. beq (is_on (variable_at es position) l) (holds r (negation l))) (clause_at known reason) each
         where
           x : Literal
-          x = (entry_at es place).literal
+          x = (entry_at es position).literal
 
-          each : (l : Literal) → holds (clause_at known reason) l ≡ true → beq (is_on (variable_at es place) l) (holds r (negation l)) ≡ true
+          each : (l : Literal) → holds (clause_at known reason) l ≡ true → beq (is_on (variable_at es position) l) (holds r (negation l)) ≡ true
           each l h =
-              elim (of_reason l h) as (λ _. beq (is_on (variable_at es place) l) (holds r (negation l)) ≡ true) [
+              elim (of_reason l h) as (λ _. beq (is_on (variable_at es position) l) (holds r (negation l)) ≡ true) [
                 | inl one ↦
-                    let on : is_on (variable_at es place) l ≡ true = eq-eqb l.variable (variable_at es place) (ap (λ (m : Literal). m.variable) one) in
-                    let neg : holds (literals es) (negation (negation x)) ≡ true = subst (λ (m : Literal). holds (literals es) m ≡ true) (sym (negation-negation x)) (holds_entry es place inside) in
+                    let on : is_on (variable_at es position) l ≡ true = eq-eqb l.variable (variable_at es position) (ap (λ (m : Literal). m.variable) one) in
+                    let neg : holds (literals es) (negation (negation x)) ≡ true = subst (λ (m : Literal). holds (literals es) m ≡ true) (sym (negation-negation x)) (holds_entry es position inside) in
                     let at_x : holds r (negation x) ≡ true = rep (negation x) ∙ and_from (is_seen old x.variable) (holds (literals es) (negation (negation x))) marked neg in
                     let at_l : holds r (negation l) ≡ true = subst (λ (m : Literal). holds r (negation m) ≡ true) (sym one) at_x in
                     rw (on, at_l) refl
                 | inr k ↦
-                    let off : is_on (variable_at es place) l ≡ false = ne_eqb l.variable (variable_at es place) (λ e. other_variable k.0 k.1 k.2 (ap (λ (m : Literal). m.variable) k.3 ∙ e)) in
+                    let off : is_on (variable_at es position) l ≡ false = ne_eqb l.variable (variable_at es position) (λ e. other_variable k.0 k.1 k.2 (ap (λ (m : Literal). m.variable) k.3 ∙ e)) in
                     let neg : holds (literals es) (negation l) ≡ true = subst (λ (m : Literal). holds (literals es) m ≡ true) k.3 (holds_entry es k.0 k.2) in
                     let none : holds r (negation l) ≡ false = false_from_ne_true (holds r (negation l)) (λ t.
                     let f = (represented_false (literals es) r old rep (negation l) t).1 in
@@ -197,19 +197,19 @@ module _ (variables : ℕ) (known : List (List Literal)) (es : List Entry) (soun
                     rw (off, none) refl
               ]
 
-      fitting : fits known r (record { clause = reason; pivot = variable_at es place }) ≡ true
-      fitting = and_from (is_number known reason) (is_clash (variable_at es place) r (clause_at known reason)) implies.number
-          (and_from (mentions (clause_at known reason) (variable_at es place)) (opposes (variable_at es place) r (clause_at known reason))
-          (mentions_from (clause_at known reason) (entry_at es place).literal implies.within) opposed)
+      fitting : fits known r (record { clause = reason; pivot = variable_at es position }) ≡ true
+      fitting = and_from (is_number known reason) (is_clash (variable_at es position) r (clause_at known reason)) implies.number
+          (and_from (mentions (clause_at known reason) (variable_at es position)) (opposes (variable_at es position) r (clause_at known reason))
+          (mentions_from (clause_at known reason) (entry_at es position).literal implies.within) opposed)
 
-      still_represents : (new : List Bool) → Resolves (variable_at es place) (clause_at known reason) old new → Represents new (literals es) (resolvent (variable_at es place) r (clause_at known reason))
+      still_represents : (new : List Bool) → Resolves (variable_at es position) (clause_at known reason) old new → Represents new (literals es) (resolvent (variable_at es position) r (clause_at known reason))
       still_represents new marks = represents_from (literals es) trail_once r' new fals agree
         where
           p : ℕ
-          p = variable_at es place
+          p = variable_at es position
 
           r' : List Literal
-          r' = resolvent (variable_at es place) r (clause_at known reason)
+          r' = resolvent (variable_at es position) r (clause_at known reason)
 
           fals : (l : Literal) → holds r' l ≡ true → holds (literals es) (negation l) ≡ true
           fals l h =
@@ -226,11 +226,11 @@ module _ (variables : ℕ) (known : List (List Literal)) (es : List Entry) (soun
               ∙ ap (λ (b : Bool). not (eqb l.variable p) && (b || mentions (clause_at known reason) l.variable)) (represented_marks (literals es) r old rep l h)
               ∙ sym (mentions-resolvent p r (clause_at known reason) l.variable)
 
-    none_left : (old new : List Bool) → NoneSeen old es (place + 1) → Resolves (variable_at es place) (clause_at known reason) old new → NoneSeen new es place
+    none_left : (old new : List Bool) → NoneSeen old es (position + 1) → Resolves (variable_at es position) (clause_at known reason) old new → NoneSeen new es position
     none_left old new none marks k low long = go (eqb (variable_at es k) p) refl
       where
         p : ℕ
-        p = variable_at es place
+        p = variable_at es position
 
         v_low : 1 ≤ variable_at es k
         v_low = among_low variables (entry_at es k).literal (apart.among k long)
@@ -238,57 +238,57 @@ module _ (variables : ℕ) (known : List (List Literal)) (es : List Entry) (soun
         go : (b : Bool) → eqb (variable_at es k) p ≡ b → is_seen_entry new (entry_at es k) ≡ false
         go true e = marks (variable_at es k) v_low ∙ (let t : (not (eqb (variable_at es k) p) && (is_seen old (variable_at es k) || mentions (clause_at known reason) (variable_at es k))) ≡ false = rw e refl in t)
         go false e =
-            let apart_places : k ≡ place → ⊥ = λ t. eqb-false (variable_at es k) p e (ap (variable_at es) t) in
-            let above : place + 1 ≤ k = omega (arith, low, apart_places) in
+            let apart_positions : k ≡ position → ⊥ = λ t. eqb-false (variable_at es k) p e (ap (variable_at es) t) in
+            let above : position + 1 ≤ k = omega (arith, low, apart_positions) in
             let unseen : is_seen old (variable_at es k) ≡ false = none k above long in
             let absent : mentions (clause_at known reason) (variable_at es k) ≡ false = false_from_ne_true (mentions (clause_at known reason) (variable_at es k)) (λ m.
             let l = holds_from_mentions (clause_at known reason) (variable_at es k) m in
             elim (of_reason l.0 l.1) as (λ _. ⊥) [
               | inl one ↦ eqb-false (variable_at es k) p e (sym l.2 ∙ ap (λ (x : Literal). x.variable) one)
               | inr j ↦
-                  let same_place : j.0 ≡ k = apart.apart j.0 k j.2 long (ap (λ (x : Literal). x.variable) j.3 ∙ l.2) in
-                  omega (arith, same_place, j.1, low)
+                  let same_position : j.0 ≡ k = apart.apart j.0 k j.2 long (ap (λ (x : Literal). x.variable) j.3 ∙ l.2) in
+                  omega (arith, same_position, j.1, low)
             ]) in
             marks (variable_at es k) v_low ∙ (let t : (not (eqb (variable_at es k) p) && (is_seen old (variable_at es k) || mentions (clause_at known reason) (variable_at es k))) ≡ false = rw (e, unseen, absent) refl in t)
 
-    reason_survives : (gs : List Hint) → ArePivotsFrom es (place + 1) gs → (l : Literal) → holds (clause_at known reason) l ≡ true → survives gs l ≡ true
+    reason_survives : (gs : List Hint) → ArePivotsFrom es (position + 1) gs → (l : Literal) → holds (clause_at known reason) l ≡ true → survives gs l ≡ true
     reason_survives gs p l h =
         elim (of_reason l h) as (λ _. survives gs l ≡ true) [
-          | inl one ↦ survives_from variables es place gs l place apart p (omega arith) inside (ap (λ (m : Literal). m.variable) (sym one))
-          | inr k ↦ survives_from variables es place gs l k.0 apart p (let b = k.1 in omega (arith, b)) k.2 (ap (λ (m : Literal). m.variable) k.3)
+          | inl one ↦ survives_from variables es position gs l position apart p (omega arith) inside (ap (λ (m : Literal). m.variable) (sym one))
+          | inr k ↦ survives_from variables es position gs l k.0 apart p (let b = k.1 in omega (arith, b)) k.2 (ap (λ (m : Literal). m.variable) k.3)
         ]
 
     -- one resolution more, with the reason of a marked entry
-    pub resolving_more : (hints : List Hint) (old new : List Bool) → is_seen_entry old (entry_at es place) ≡ true → IsResolving known es hints old → HasPivotsFrom es (place + 1) hints
-        → Resolves (variable_at es place) (clause_at known reason) old new → IsResolving known es (hints ++ record { clause = reason; pivot = variable_at es place } ∷ []) new
+    pub resolving_more : (hints : List Hint) (old new : List Bool) → is_seen_entry old (entry_at es position) ≡ true → IsResolving known es hints old → HasPivotsFrom es (position + 1) hints
+        → Resolves (variable_at es position) (clause_at known reason) old new → IsResolving known es (hints ++ record { clause = reason; pivot = variable_at es position } ∷ []) new
     resolving_more hints old new marked resolving pivots marks =
-        let h : Hint = record { clause = reason; pivot = variable_at es place } in
+        let h : Hint = record { clause = reason; pivot = variable_at es position } in
         record {
           chain = names_chain-push known hints h resolving.chain (fitting (chain_of known hints) old resolving.marks marked);
-          regular = regular_more known es place hints h resolving.regular pivots (λ gs p. all_from (survives gs) (clause_at known reason) (λ l held. reason_survives gs p l held));
+          regular = regular_more known es position hints h resolving.regular pivots (λ gs p. all_from (survives gs) (clause_at known reason) (λ l held. reason_survives gs p l held));
           marks = subst (λ (c : List Literal). Represents new (literals es) c) (sym (chain_of-push known hints h resolving.chain)) (still_represents (chain_of known hints) old resolving.marks marked new marks);
         }
 
     -- a reason that adds no literal
-    pub subsumed : (hints : List Hint) (old : List Bool) → length old ≡ variables → is_seen_entry old (entry_at es place) ≡ true → list_all (is_seen_literal old) (clause_at known reason) ≡ true
-        → IsResolving known es hints old → HasPivotsFrom es (place + 1) hints → IsResolving known es (hints ++ record { clause = reason; pivot = variable_at es place } ∷ [])
-        (set old (variable_at es place - 1) false)
+    pub subsumed : (hints : List Hint) (old : List Bool) → length old ≡ variables → is_seen_entry old (entry_at es position) ≡ true → list_all (is_seen_literal old) (clause_at known reason) ≡ true
+        → IsResolving known es hints old → HasPivotsFrom es (position + 1) hints → IsResolving known es (hints ++ record { clause = reason; pivot = variable_at es position } ∷ [])
+        (set old (variable_at es position - 1) false)
     subsumed hints old len marked all resolving pivots =
-        let among = apart.among place inside in
-        let high = among_high variables (entry_at es place).literal among in
-        resolving_more hints old (set old (variable_at es place - 1) false) marked resolving pivots
-        (resolves_off old (variable_at es place) (clause_at known reason) (among_low variables (entry_at es place).literal among) (omega (arith, high, len)) all)
+        let among = apart.among position inside in
+        let high = among_high variables (entry_at es position).literal among in
+        resolving_more hints old (set old (variable_at es position - 1) false) marked resolving pivots
+        (resolves_off old (variable_at es position) (clause_at known reason) (among_low variables (entry_at es position).literal among) (omega (arith, high, len)) all)
 
-    pub resolve_step : (floor keep count result : ℕ) (hints : List Hint) (old new : List Bool) → is_seen_entry old (entry_at es place) ≡ true
-        → IsAnalysis variables known es floor keep (place + 1) count hints old → keep < count → Resolves (variable_at es place) (clause_at known reason) old new → result
-        ≡ count_seen new (drop floor es) → count ≤ result + 1 → length new ≡ length old → IsAnalysis variables known es floor keep place result
-        (hints ++ record { clause = reason; pivot = variable_at es place } ∷ []) new
+    pub resolve_step : (floor keep count result : ℕ) (hints : List Hint) (old new : List Bool) → is_seen_entry old (entry_at es position) ≡ true
+        → IsAnalysis variables known es floor keep (position + 1) count hints old → keep < count → Resolves (variable_at es position) (clause_at known reason) old new → result
+        ≡ count_seen new (drop floor es) → count ≤ result + 1 → length new ≡ length old → IsAnalysis variables known es floor keep position result
+        (hints ++ record { clause = reason; pivot = variable_at es position } ∷ []) new
     resolve_step floor keep count result hints old new marked a more marks counted fewer len = record {
       resolving = resolving_more hints old new marked a.resolving a.pivots marks;
       counted = counted;
       kept = omega (arith, more, fewer);
       none = none_left old new a.none marks;
-      pivots = pivots_more es place hints (record { clause = reason; pivot = variable_at es place }) a.pivots inside refl;
+      pivots = pivots_more es position hints (record { clause = reason; pivot = variable_at es position }) a.pivots inside refl;
       short = omega (arith, inside);
       len = len ∙ a.len;
     }
@@ -357,17 +357,17 @@ module _ (variables : ℕ) (known : List (List Literal)) (es : List Entry) (soun
             omega (arith, one, counted, lv.0)
 
 -- an entry that is not marked is passed over
-pub analysis_down : (variables : ℕ) (known : List (List Literal)) (es : List Entry) (floor keep place count : ℕ) (hints : List Hint) (seen : List Bool) → place < length es
-    → is_seen_entry seen (entry_at es place) ≡ false → IsAnalysis variables known es floor keep (place + 1) count hints seen → IsAnalysis variables known es floor keep place count hints seen
-analysis_down variables known es floor keep place count hints seen inside unmarked a = record {
+pub analysis_down : (variables : ℕ) (known : List (List Literal)) (es : List Entry) (floor keep position count : ℕ) (hints : List Hint) (seen : List Bool) → position < length es
+    → is_seen_entry seen (entry_at es position) ≡ false → IsAnalysis variables known es floor keep (position + 1) count hints seen → IsAnalysis variables known es floor keep position count hints seen
+analysis_down variables known es floor keep position count hints seen inside unmarked a = record {
   resolving = a.resolving;
   counted = a.counted;
   kept = a.kept;
-  none = λ k low l. elim (cases_le (place + 1) k) as (λ _. is_seen_entry seen (entry_at es k) ≡ false) [
+  none = λ k low l. elim (cases_le (position + 1) k) as (λ _. is_seen_entry seen (entry_at es k) ≡ false) [
     | inl above ↦ a.none k above l
-    | inr below ↦ let one : k ≡ place = omega (arith, low, below) in subst (λ (n : ℕ). is_seen_entry seen (entry_at es n) ≡ false) (sym one) unmarked
+    | inr below ↦ let one : k ≡ position = omega (arith, low, below) in subst (λ (n : ℕ). is_seen_entry seen (entry_at es n) ≡ false) (sym one) unmarked
   ];
-  pivots = pivots_later es place hints a.pivots;
+  pivots = pivots_later es position hints a.pivots;
   short = omega (arith, inside);
   len = a.len;
 }

@@ -13,15 +13,15 @@ holds_at [] k l = absurd (omega (arith, l))
 holds_at (x ∷ xs) zero l = or_left (same x x) (holds xs x) (same-refl x)
 holds_at (x ∷ xs) (suc k) l = or_right (same x (literal_at xs k)) (holds xs (literal_at xs k)) (holds_at xs k (omega (arith, l)))
 
-pub place_of : (stored_clause : List Literal) (l : Literal) → holds stored_clause l ≡ true → (k : ℕ) × (k < length stored_clause) × (literal_at stored_clause k ≡ l)
-place_of [] l h = absurd (false≢true h)
-place_of (x ∷ xs) l h =
+pub position_of : (stored_clause : List Literal) (l : Literal) → holds stored_clause l ≡ true → (k : ℕ) × (k < length stored_clause) × (literal_at stored_clause k ≡ l)
+position_of [] l h = absurd (false≢true h)
+position_of (x ∷ xs) l h =
     elim (or_cases (same x l) (holds xs l) h) as (λ _. (k : ℕ) × (k < length (x ∷ xs)) × (literal_at (x ∷ xs) k ≡ l)) [
       | inl here ↦ (zero, omega arith, same-true x l here)
-      | inr there ↦ let r = place_of xs l there in (suc r.0, omega (arith, r.1), r.2)
+      | inr there ↦ let r = position_of xs l there in (suc r.0, omega (arith, r.1), r.2)
     ]
 
--- the place from which a literal comes
+-- the position from which a literal comes
 swap_source : ℕ → ℕ → ℕ → ℕ
 swap_source i j m = elim (cases_eq m j) [ inl here ↦ i | inr other ↦ elim (cases_eq m i) [ inl there ↦ j | inr apart ↦ m ] ]
 
@@ -51,7 +51,7 @@ source_other i j m ni nj = go (cases_eq m j) (cases_eq m i)
     go (inr h) (inl g) = absurd (ni g)
     go (inr h) (inr g) = refl
 
--- what became of a place
+-- what became of a position
 record SourceCases (i j m : ℕ) : Type 0 where
   back : swap_source i j (swap_source i j m) ≡ m
   inside : (n : ℕ) → i < n → j < n → m < n → swap_source i j m < n
@@ -112,14 +112,14 @@ holds-swap stored_clause i j li lj l = bool_same (holds (swap stored_clause i j)
 
     there : holds (swap stored_clause i j) l ≡ true → holds stored_clause l ≡ true
     there h =
-        let p = place_of (swap stored_clause i j) l h in
+        let p = position_of (swap stored_clause i j) l h in
         let low : p.0 < length stored_clause = omega (arith, len, p.1) in
         let m = (source_cases i j p.0).inside (length stored_clause) li lj low in
         subst (λ (x : Literal). holds stored_clause x ≡ true) (sym (at_swap stored_clause i j p.0 li lj) ∙ p.2) (holds_at stored_clause (swap_source i j p.0) m)
 
     back : holds stored_clause l ≡ true → holds (swap stored_clause i j) l ≡ true
     back h =
-        let p = place_of stored_clause l h in
+        let p = position_of stored_clause l h in
         let m : swap_source i j p.0 < length (swap stored_clause i j) = let q = (source_cases i j p.0).inside (length stored_clause) li lj p.1 in omega (arith, len, q) in
         subst (λ (x : Literal). holds (swap stored_clause i j) x ≡ true) (at_swap stored_clause i j (swap_source i j p.0) li lj
         ∙ ap (λ (k : ℕ). literal_at stored_clause k) (source_cases i j p.0).back ∙ p.2) (holds_at (swap stored_clause i j) (swap_source i j p.0) m)

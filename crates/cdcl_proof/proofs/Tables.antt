@@ -195,9 +195,9 @@ module _ (clauses stored_clauses : List (List Literal)) (i : ℕ) (new : List Li
 
 -- the lists once a watch has moved from one to another
 abbrev pub moved_lists : List (List Watch) → ℕ → Watch → ℕ → ℕ → List (List Watch)
-moved_lists lists t v s place = set (set lists t (list_at lists t ++ v ∷ [])) s (swap_remove (list_at lists s) place no_watch)
+moved_lists lists t v s position = set (set lists t (list_at lists t ++ v ∷ [])) s (swap_remove (list_at lists s) position no_watch)
 
--- the watch at a place names a literal of its clause
+-- the watch at a position names a literal of its clause
 abbrev pub Blocks : List (List Literal) → List Watch → ℕ → Type 0
 Blocks stored_clauses xs n = holds (stored_clause_at stored_clauses (watch_at xs n).clause) (watch_at xs n).blocker ≡ true
 
@@ -209,9 +209,9 @@ pub record Keeps (clauses stored_clauses : List (List Literal)) (lists : List (L
   pub are_short : AreShort stored_clauses short
 
 -- a watch that moves
-module _ (stored_clauses : List (List Literal)) (lists : List (List Watch)) (watched : AreWatched stored_clauses lists) (blockers : HaveBlockers stored_clauses lists) (s place first k : ℕ)
-    (s_in : s < length lists) (place_in : place < length (list_at lists s)) (first_in : first < 2) (k_low : 2 ≤ k) (ordered : List Literal) (w v : Watch)
-    (is_w : watch_at (list_at lists s) place ≡ w) (is_stored : stored_clause_at stored_clauses w.clause ≡ ordered) (k_in : k < length ordered) (is_slot : slot_of (literal_at ordered first) ≡ s)
+module _ (stored_clauses : List (List Literal)) (lists : List (List Watch)) (watched : AreWatched stored_clauses lists) (blockers : HaveBlockers stored_clauses lists) (s position first k : ℕ)
+    (s_in : s < length lists) (position_in : position < length (list_at lists s)) (first_in : first < 2) (k_low : 2 ≤ k) (ordered : List Literal) (w v : Watch)
+    (is_w : watch_at (list_at lists s) position ≡ w) (is_stored : stored_clause_at stored_clauses w.clause ≡ ordered) (k_in : k < length ordered) (is_slot : slot_of (literal_at ordered first) ≡ s)
     (t : ℕ) (is_target : slot_of (literal_at ordered k) ≡ t) (t_in : t < length lists) (apart : t ≢ s) (same_clause : v.clause ≡ w.clause) (blocks : holds ordered v.blocker ≡ true) where
   one_in : first < length ordered
   one_in = omega (arith, first_in, k_low, k_in)
@@ -219,11 +219,11 @@ module _ (stored_clauses : List (List Literal)) (lists : List (List Watch)) (wat
   clause_in : w.clause < length stored_clauses
   clause_in = stored_clause_inside stored_clauses w.clause (let e : length (stored_clause_at stored_clauses w.clause) ≡ length ordered = ap length is_stored in omega (arith, e, k_in))
 
-  at_from : list_at (moved_lists lists t v s place) s ≡ swap_remove (list_at lists s) place no_watch
-  at_from = get_or-set_same (set lists t (list_at lists t ++ v ∷ [])) s (swap_remove (list_at lists s) place no_watch) [] (let n = length-set lists t (list_at lists t ++ v ∷ []) in omega (arith, n, s_in))
+  at_from : list_at (moved_lists lists t v s position) s ≡ swap_remove (list_at lists s) position no_watch
+  at_from = get_or-set_same (set lists t (list_at lists t ++ v ∷ [])) s (swap_remove (list_at lists s) position no_watch) [] (let n = length-set lists t (list_at lists t ++ v ∷ []) in omega (arith, n, s_in))
 
-  at_else : (m : ℕ) → m ≢ s → list_at (moved_lists lists t v s place) m ≡ list_at (set lists t (list_at lists t ++ v ∷ [])) m
-  at_else m e = get_or-set_other (set lists t (list_at lists t ++ v ∷ [])) s m (swap_remove (list_at lists s) place no_watch) [] e
+  at_else : (m : ℕ) → m ≢ s → list_at (moved_lists lists t v s position) m ≡ list_at (set lists t (list_at lists t ++ v ∷ [])) m
+  at_else m e = get_or-set_other (set lists t (list_at lists t ++ v ∷ [])) s m (swap_remove (list_at lists s) position no_watch) [] e
 
   at_to : list_at (set lists t (list_at lists t ++ v ∷ [])) t ≡ list_at lists t ++ v ∷ []
   at_to = get_or-set_same lists t (list_at lists t ++ v ∷ []) [] t_in
@@ -237,14 +237,14 @@ module _ (stored_clauses : List (List Literal)) (lists : List (List Watch)) (wat
 
   module _ (j m : ℕ) (lm : m < length lists) where
     abbrev the_list : List Watch
-    the_list = list_at (moved_lists lists t v s place) m
+    the_list = list_at (moved_lists lists t v s position) m
 
     count_from : m ≡ s → count_of j the_list + of_clause j w ≡ count_of j (list_at lists m)
     count_from e =
-        ap (λ (q : ℕ). count_of j (list_at (moved_lists lists t v s place) q) + of_clause j w) e
+        ap (λ (q : ℕ). count_of j (list_at (moved_lists lists t v s position) q) + of_clause j w) e
         ∙ ap (λ (xs : List Watch). count_of j xs + of_clause j w) at_from
-        ∙ ap (λ (q : Watch). count_of j (swap_remove (list_at lists s) place no_watch) + of_clause j q) (sym is_w)
-        ∙ sum_by-swap_remove (λ (q : Watch). cond (eqb q.clause j) 1 0) (list_at lists s) place no_watch place_in
+        ∙ ap (λ (q : Watch). count_of j (swap_remove (list_at lists s) position no_watch) + of_clause j q) (sym is_w)
+        ∙ sum_by-swap_remove (λ (q : Watch). cond (eqb q.clause j) 1 0) (list_at lists s) position no_watch position_in
         ∙ ap (λ (q : ℕ). count_of j (list_at lists q)) (sym e)
 
     count_to : m ≢ s → m ≡ t → count_of j the_list ≡ count_of j (list_at lists m) + of_clause j v
@@ -298,21 +298,21 @@ module _ (stored_clauses : List (List Literal)) (lists : List (List Watch)) (wat
   permuted = permuted_set stored_clauses stored_clauses w.clause (swap ordered first k) clause_in (λ l. holds-swap ordered first k one_in k_in l ∙ ap (λ (r : List Literal). holds r l) (sym is_stored))
 
   -- a watch of the new lists is one of the old ones or the new one
-  blocked : (m n : ℕ) → m < length lists → n < length (list_at (moved_lists lists t v s place) m)
-      → holds (stored_clause_at stored_clauses (watch_at (list_at (moved_lists lists t v s place) m) n).clause) (watch_at (list_at (moved_lists lists t v s place) m) n).blocker ≡ true
+  blocked : (m n : ℕ) → m < length lists → n < length (list_at (moved_lists lists t v s position) m)
+      → holds (stored_clause_at stored_clauses (watch_at (list_at (moved_lists lists t v s position) m) n).clause) (watch_at (list_at (moved_lists lists t v s position) m) n).blocker ≡ true
   blocked m n lm ln =
-      elim (cases_eq m s) as (λ _. Blocks stored_clauses (list_at (moved_lists lists t v s place) m) n) [
+      elim (cases_eq m s) as (λ _. Blocks stored_clauses (list_at (moved_lists lists t v s position) m) n) [
         | inl e ↦
-            let is : list_at (moved_lists lists t v s place) m ≡ swap_remove (list_at lists s) place no_watch = ap (λ (q : ℕ). list_at (moved_lists lists t v s place) q) e ∙ at_from in
+            let is : list_at (moved_lists lists t v s position) m ≡ swap_remove (list_at lists s) position no_watch = ap (λ (q : ℕ). list_at (moved_lists lists t v s position) q) e ∙ at_from in
             subst (λ (xs : List Watch). Blocks stored_clauses xs n) (sym is)
-            (let r = swap_remove_from (list_at lists s) place n place_in (subst (λ (xs : List Watch). n < length xs) is ln) in
+            (let r = swap_remove_from (list_at lists s) position n position_in (subst (λ (xs : List Watch). n < length xs) is ln) in
             subst (λ (q : Watch). holds (stored_clause_at stored_clauses q.clause) q.blocker ≡ true) (sym r.2) (blockers s r.0 s_in r.1))
-        | inr not_s ↦ elim (cases_eq m t) as (λ _. Blocks stored_clauses (list_at (moved_lists lists t v s place) m) n) [
+        | inr not_s ↦ elim (cases_eq m t) as (λ _. Blocks stored_clauses (list_at (moved_lists lists t v s position) m) n) [
           | inl e ↦
-              let is : list_at (moved_lists lists t v s place) m ≡ list_at lists t ++ v ∷ [] = at_else m not_s ∙ ap (λ (q : ℕ). list_at (set lists t (list_at lists t ++ v ∷ [])) q) e ∙ at_to in
+              let is : list_at (moved_lists lists t v s position) m ≡ list_at lists t ++ v ∷ [] = at_else m not_s ∙ ap (λ (q : ℕ). list_at (set lists t (list_at lists t ++ v ∷ [])) q) e ∙ at_to in
               subst (λ (xs : List Watch). Blocks stored_clauses xs n) (sym is) (pushed (subst (λ (xs : List Watch). n < length xs) is ln))
           | inr not_t ↦
-              let is : list_at (moved_lists lists t v s place) m ≡ list_at lists m = at_else m not_s ∙ at_rest m not_t in
+              let is : list_at (moved_lists lists t v s position) m ≡ list_at lists m = at_else m not_s ∙ at_rest m not_t in
               subst (λ (xs : List Watch). Blocks stored_clauses xs n) (sym is) (blockers m n lm (subst (λ (xs : List Watch). n < length xs) is ln))
         ]
       ]
@@ -332,15 +332,15 @@ module _ (stored_clauses : List (List Literal)) (lists : List (List Watch)) (wat
           ]
 
   pub table_moved : (clauses : List (List Literal)) (short : List ℕ) → AreStored clauses stored_clauses → AreShort stored_clauses short
-      → Keeps clauses (set stored_clauses w.clause (swap ordered first k)) (moved_lists lists t v s place) short
+      → Keeps clauses (set stored_clauses w.clause (swap ordered first k)) (moved_lists lists t v s position) short
   table_moved clauses short are_stored are_short =
       let n = length-set lists t (list_at lists t ++ v ∷ []) in
-      let n2 = length-set (set lists t (list_at lists t ++ v ∷ [])) s (swap_remove (list_at lists s) place no_watch) in
+      let n2 = length-set (set lists t (list_at lists t ++ v ∷ [])) s (swap_remove (list_at lists s) position no_watch) in
       let here : w.clause < length clauses = let c = are_stored.count in omega (arith, c, clause_in) in
       let old : IsStored (stored_clause_at clauses w.clause) ordered = subst (λ (r : List Literal). IsStored (stored_clause_at clauses w.clause) r) is_stored (are_stored.each w.clause here) in
       record {
         are_stored = stored_clauses_set clauses stored_clauses w.clause (swap ordered first k) clause_in are_stored (stored_clause_swap (stored_clause_at clauses w.clause) ordered first k one_in k_in old);
         are_watched = λ j m lm. counts j m (omega (arith, n, n2, lm));
-        have_blockers = λ m q lm lq. permuted (watch_at (list_at (moved_lists lists t v s place) m) q).clause (watch_at (list_at (moved_lists lists t v s place) m) q).blocker ∙ blocked m q (omega (arith, n, n2, lm)) lq;
+        have_blockers = λ m q lm lq. permuted (watch_at (list_at (moved_lists lists t v s position) m) q).clause (watch_at (list_at (moved_lists lists t v s position) m) q).blocker ∙ blocked m q (omega (arith, n, n2, lm)) lq;
         are_short = short_set clauses stored_clauses w.clause (swap ordered first k) clause_in short are_short (length-swap ordered first k ∙ ap length (sym is_stored));
       }

@@ -35,14 +35,14 @@ pub record Visits (t : Table) (slot : ℕ) (w : Watch) (ordered : List Literal) 
   pub within : is_within t.variables ordered ≡ true
   pub blocks : holds ordered w.blocker ≡ true
 
-pub visits : (t : Table) → IsTable t → (slot place : ℕ) (w : Watch) (ordered again : List Literal) → slot < length t.lists.items → place < length (list_at t.lists.items slot) → w
-    ≡ watch_at (list_at t.lists.items slot) place → ordered ≡ again → again ≡ get_or t.stored_clauses.items w.clause again → Visits t slot w ordered
-visits t table slot place w ordered again ls lp ew er ea =
-    let is_wanted = subst (λ (v : Watch). 1 ≤ watch_count (stored_clause_at t.stored_clauses.items v.clause) slot) (sym ew) (watch_is_counted t.stored_clauses.items t.lists.items slot place table.watched ls lp) in
+pub visits : (t : Table) → IsTable t → (slot position : ℕ) (w : Watch) (ordered again : List Literal) → slot < length t.lists.items → position < length (list_at t.lists.items slot) → w
+    ≡ watch_at (list_at t.lists.items slot) position → ordered ≡ again → again ≡ get_or t.stored_clauses.items w.clause again → Visits t slot w ordered
+visits t table slot position w ordered again ls lp ew er ea =
+    let is_wanted = subst (λ (v : Watch). 1 ≤ watch_count (stored_clause_at t.stored_clauses.items v.clause) slot) (sym ew) (watch_is_counted t.stored_clauses.items t.lists.items slot position table.watched ls lp) in
     let long = watch_count_long (stored_clause_at t.stored_clauses.items w.clause) slot is_wanted in
     let clause_in = stored_clause_inside t.stored_clauses.items w.clause (omega (arith, long)) in
     let is_stored : stored_clause_at t.stored_clauses.items w.clause ≡ ordered = sym (er ∙ get_or_read t.stored_clauses.items w.clause again clause_in ea []) in
-    let blocks = subst (λ (v : Watch). holds (stored_clause_at t.stored_clauses.items v.clause) v.blocker ≡ true) (sym ew) (table.blockers slot place ls lp) in
+    let blocks = subst (λ (v : Watch). holds (stored_clause_at t.stored_clauses.items v.clause) v.blocker ≡ true) (sym ew) (table.blockers slot position ls lp) in
     record {
       clause_in = clause_in;
       is_stored = is_stored;
@@ -89,19 +89,19 @@ module _ (stored_clauses : List (List Literal)) (i first k : ℕ) (i_in : i < le
           (take_holds es n (negation (literal_at (stored_clause_at stored_clauses i) k)) h))
 
 -- what was read stays satisfied
-pub visited_stays : (old new : List Entry) (stored_clauses rows2 : List (List Literal)) (list list2 : List Watch) (place : ℕ) → take (length old) new ≡ old → rows2 ≡ stored_clauses
-    → HasSameClauses list list2 → AreVisited (literals old) stored_clauses list place → is_satisfied (literals new) (stored_clause_at stored_clauses (watch_at list place).clause) ≡ true
-    → AreVisited (literals new) rows2 list2 (place + 1)
-visited_stays old new stored_clauses rows2 list list2 place kept er el v here k lk =
-    rw (er, el.same k) (elim (cases_eq k place) as (λ _. is_satisfied (literals new) (stored_clause_at stored_clauses (watch_at list k).clause) ≡ true) [
+pub visited_stays : (old new : List Entry) (stored_clauses rows2 : List (List Literal)) (list list2 : List Watch) (position : ℕ) → take (length old) new ≡ old → rows2 ≡ stored_clauses
+    → HasSameClauses list list2 → AreVisited (literals old) stored_clauses list position → is_satisfied (literals new) (stored_clause_at stored_clauses (watch_at list position).clause) ≡ true
+    → AreVisited (literals new) rows2 list2 (position + 1)
+visited_stays old new stored_clauses rows2 list list2 position kept er el v here k lk =
+    rw (er, el.same k) (elim (cases_eq k position) as (λ _. is_satisfied (literals new) (stored_clause_at stored_clauses (watch_at list k).clause) ≡ true) [
       | inl e ↦ subst (λ (x : ℕ). is_satisfied (literals new) (stored_clause_at stored_clauses (watch_at list x).clause) ≡ true) (sym e) here
       | inr ne ↦ satisfied_more (literals old) (literals new) (stored_clause_at stored_clauses (watch_at list k).clause) (λ l h. kept_holds old new l kept h) (v k (omega (arith, lk, ne)))
     ])
 
-pub visited_moved : (old new : List Entry) (stored_clauses rows2 : List (List Literal)) (list list2 : List Watch) (place : ℕ) → take (length old) new ≡ old → ArePermuted stored_clauses rows2
-    → list2 ≡ swap_remove list place no_watch → place < length list → AreVisited (literals old) stored_clauses list place → AreVisited (literals new) rows2 list2 place
-visited_moved old new stored_clauses rows2 list list2 place kept permuted el inside v k lk =
-    let at : watch_at list2 k ≡ watch_at list k = ap (λ (x : List Watch). watch_at x k) el ∙ swap_remove_before list place k inside lk in
+pub visited_moved : (old new : List Entry) (stored_clauses rows2 : List (List Literal)) (list list2 : List Watch) (position : ℕ) → take (length old) new ≡ old → ArePermuted stored_clauses rows2
+    → list2 ≡ swap_remove list position no_watch → position < length list → AreVisited (literals old) stored_clauses list position → AreVisited (literals new) rows2 list2 position
+visited_moved old new stored_clauses rows2 list list2 position kept permuted el inside v k lk =
+    let at : watch_at list2 k ≡ watch_at list k = ap (λ (x : List Watch). watch_at x k) el ∙ swap_remove_before list position k inside lk in
     let more = satisfied_more (literals old) (literals new) (stored_clause_at stored_clauses (watch_at list k).clause) (λ l h. kept_holds old new l kept h) (v k lk) in
     let other = satisfied_stored_clause (literals new) (stored_clause_at stored_clauses (watch_at list k).clause) (stored_clause_at rows2 (watch_at list k).clause) (λ l h. permuted (watch_at list k).clause l ∙ h) more in
     subst (λ (x : Watch). is_satisfied (literals new) (stored_clause_at rows2 x.clause) ≡ true) (sym at) other
@@ -228,9 +228,9 @@ reading_on start mid new slot r watching clauses short short_head head variables
   at_head = still_at_head mid new slot r.watching watching variables head propagates r.at_head.more r.at_head.slot_is r.at_head.low;
 }
 
--- a place below the reach of a list is one of the list
-pub inside_reach : (w : Watcher) (slot place : ℕ) (list : List Watch) (reach : ℕ) → slot < length w.table.lists.items → list ≡ get_or w.table.lists.items slot list → reach ≤ length list
-    → place < reach → place < length (list_at w.table.lists.items slot)
-inside_reach w slot place list reach low is within less =
+-- a position below the reach of a list is one of the list
+pub inside_reach : (w : Watcher) (slot position : ℕ) (list : List Watch) (reach : ℕ) → slot < length w.table.lists.items → list ≡ get_or w.table.lists.items slot list → reach ≤ length list
+    → position < reach → position < length (list_at w.table.lists.items slot)
+inside_reach w slot position list reach low is within less =
     let len = ap length (get_or_read w.table.lists.items slot list low is []) in
     omega (arith, len, within, less)

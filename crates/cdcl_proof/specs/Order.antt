@@ -10,9 +10,9 @@ Waits heap v = (p : ℕ) × (p < length heap) × (slice_index_or heap p 0 ≡ v)
 abbrev pub KeepsWaiting : List ℕ → List ℕ → Type 0
 KeepsWaiting old new = (v : ℕ) → Waits old v → Waits new v
 
--- there is an activity and a place for each variable, and only variables wait
+-- there is an activity and a position for each variable, and only variables wait
 pub record IsOrder (variables : ℕ) (o : Order) : Type 0 where
   pub activities : length o.activities.items ≡ variables
-  pub places : length o.places.items ≡ variables
+  pub positions : length o.positions.items ≡ variables
   pub small : variables < 2 ^ 31
   pub among : (p : ℕ) → p < length o.heap.items → (1 ≤ slice_index_or o.heap.items p 0) × (slice_index_or o.heap.items p 0 ≤ variables)

@@ -28,19 +28,19 @@ abbrev pub IsLevel : List (List Literal) → List Literal → ℕ → Type 0
 IsLevel known s zero = Unit {0}
 IsLevel known s (suc n) = (n ≡ 0) × (is_closed s known ≡ true)
 
--- no entry from the place on is marked
+-- no entry from the position on is marked
 abbrev pub NoneSeen : List Bool → List Entry → ℕ → Type 0
-NoneSeen seen es place = (k : ℕ) → place ≤ k → k < length es → is_seen_entry seen (entry_at es k) ≡ false
+NoneSeen seen es position = (k : ℕ) → position ≤ k → k < length es → is_seen_entry seen (entry_at es k) ≡ false
 
--- each hint resolves on the variable of an entry from the place on
+-- each hint resolves on the variable of an entry from the position on
 abbrev pub ArePivotsFrom : List Entry → ℕ → List Hint → Type 0
-ArePivotsFrom es place [] = Unit {0}
-ArePivotsFrom es place (h ∷ hs) = ((k : ℕ) × (place ≤ k) × (k < length es) × ((entry_at es k).literal.variable ≡ h.pivot)) × ArePivotsFrom es place hs
+ArePivotsFrom es position [] = Unit {0}
+ArePivotsFrom es position (h ∷ hs) = ((k : ℕ) × (position ≤ k) × (k < length es) × ((entry_at es k).literal.variable ≡ h.pivot)) × ArePivotsFrom es position hs
 
 -- each hint but the first does
 abbrev pub HasPivotsFrom : List Entry → ℕ → List Hint → Type 0
-HasPivotsFrom es place [] = Unit {0}
-HasPivotsFrom es place (h ∷ hs) = ArePivotsFrom es place hs
+HasPivotsFrom es position [] = Unit {0}
+HasPivotsFrom es position (h ∷ hs) = ArePivotsFrom es position hs
 
 -- the hints name a chain, and the marks tell the variables of the clause that it gives
 pub record IsResolving (known : List (List Literal)) (es : List Entry) (hints : List Hint) (seen : List Bool) : Type 0 where
@@ -48,24 +48,24 @@ pub record IsResolving (known : List (List Literal)) (es : List Entry) (hints : 
   pub regular : is_regular known hints ≡ true
   pub marks : Represents seen (literals es) (chain_of known hints)
 
--- a learnt clause with its chain, and the place up to which the trail stays
-pub record IsLearntClause (variables : ℕ) (known : List (List Literal)) (es : List Entry) (step : Step) (place : ℕ) : Type 0 where
+-- a learnt clause with its chain, and the position up to which the trail stays
+pub record IsLearntClause (variables : ℕ) (known : List (List Literal)) (es : List Entry) (step : Step) (position : ℕ) : Type 0 where
   pub clause : is_clause variables step.clause ≡ true
   pub derived : derives known step.hints step.clause ≡ true
   pub regular : is_regular known step.hints ≡ true
   pub fresh : IsFresh known step.clause
   pub full : is_empty step.clause ≡ false
-  pub short : place ≤ length es
-  pub sound : IsSound variables (known ++ step.clause ∷ []) (take place es)
-  pub free : is_free (literals (take place es)) (literal_at step.clause (length step.clause - 1)) ≡ true
-  pub others : is_unit (literals (take place es)) (literal_at step.clause (length step.clause - 1)) step.clause ≡ true
+  pub short : position ≤ length es
+  pub sound : IsSound variables (known ++ step.clause ∷ []) (take position es)
+  pub free : is_free (literals (take position es)) (literal_at step.clause (length step.clause - 1)) ≡ true
+  pub others : is_unit (literals (take position es)) (literal_at step.clause (length step.clause - 1)) step.clause ≡ true
 
--- the analysis with the entries from the place on done: `count` literals from the floor on are left
-pub record IsAnalysis (variables : ℕ) (known : List (List Literal)) (es : List Entry) (floor keep place count : ℕ) (hints : List Hint) (seen : List Bool) : Type 0 where
+-- the analysis with the entries from the position on done: `count` literals from the floor on are left
+pub record IsAnalysis (variables : ℕ) (known : List (List Literal)) (es : List Entry) (floor keep position count : ℕ) (hints : List Hint) (seen : List Bool) : Type 0 where
   pub resolving : IsResolving known es hints seen
   pub counted : count ≡ count_seen seen (drop floor es)
   pub kept : keep ≤ count
-  pub none : NoneSeen seen es place
-  pub pivots : HasPivotsFrom es place hints
-  pub short : place ≤ length es
+  pub none : NoneSeen seen es position
+  pub pivots : HasPivotsFrom es position hints
+  pub short : position ≤ length es
   pub len : length seen ≡ variables

@@ -6,7 +6,7 @@ use Rattle.resolution_proof.specs.Literal.{mentions}
 use Rattle.cdcl_proof.specs.Order.{IsOrder, Waits}
 use Rattle.cdcl_proof.specs.Store.{IsLogged}
 
--- the trail stands over the known clauses, and each list has a place for each variable
+-- the trail stands over the known clauses, and each list has a position for each variable
 pub record IsSearching (s : Search) : Type 0 where
   pub variables : s.watched.variables ≡ s.cnf.now.variables
   pub logged : IsLogged s.cnf.now s.watched.clauses s.chains.items
@@ -19,9 +19,9 @@ pub record IsSearching (s : Search) : Type 0 where
 abbrev pub AllWait : Search → Type 0
 AllWait s = (v : ℕ) → 1 ≤ v → v ≤ s.watched.variables → Waits s.order.heap.items v ⊎ (mentions (literals s.watched.entries) v ≡ true)
 
--- each variable that is unassigned before the place waits
+-- each variable that is unassigned before the position waits
 abbrev pub WaitFrom : Search → ℕ → Type 0
-WaitFrom s place = (v : ℕ) → 1 ≤ v → v ≤ s.watched.variables → Waits s.order.heap.items v ⊎ (mentions (literals (take place s.watched.entries)) v ≡ true)
+WaitFrom s position = (v : ℕ) → 1 ≤ v → v ≤ s.watched.variables → Waits s.order.heap.items v ⊎ (mentions (literals (take position s.watched.entries)) v ≡ true)
 
 -- each unassigned variable but one waits
 abbrev pub OthersWait : Search → ℕ → Type 0

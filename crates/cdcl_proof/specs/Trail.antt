@@ -17,11 +17,11 @@ pub record Path : Type 0 where
 abbrev pub literals : List Entry → List Literal
 literals es = map (λ e. e.literal) es
 
--- an entry for no place
+-- an entry for no position
 abbrev pub no_entry : Entry
 no_entry = record { literal = record { variable = 0; positive = false }; reason = None }
 
--- the entry at a place
+-- the entry at a position
 abbrev pub entry_at : List Entry → ℕ → Entry
 entry_at es k = slice_index_or es k no_entry
 
@@ -52,15 +52,15 @@ IsSound variables known es = (k : ℕ) → k < length es → Stands variables kn
 
 -- the mark of the variable with this index is that of its entry
 abbrev pub Marks : List (Option Mark) → List Entry → Type 0
-Marks marks es = (k : ℕ) → k < length es → (slice_index_or marks ((entry_at es k).literal.variable - 1) None ≡ Some (record { positive = (entry_at es k).literal.positive; place = k }))
+Marks marks es = (k : ℕ) → k < length es → (slice_index_or marks ((entry_at es k).literal.variable - 1) None ≡ Some (record { positive = (entry_at es k).literal.positive; position = k }))
 
 -- the marks and the entries tell the same: an entry's mark is at its variable, and each mark names an entry
 pub record IsTied (marks : List (Option Mark)) (es : List Entry) : Type 0 where
   pub among : (k : ℕ) → k < length es → is_among (length marks) (entry_at es k).literal ≡ true
   pub marked : Marks marks es
-  pub placed : (v : ℕ) (m : Mark) → slice_index_or marks v None ≡ Some m → (m.place < length es) × ((entry_at es m.place).literal.variable ≡ suc v)
+  pub placed : (v : ℕ) (m : Mark) → slice_index_or marks v None ≡ Some m → (m.position < length es) × ((entry_at es m.position).literal.variable ≡ suc v)
 
--- no entry from one place up to another is a decision
+-- no entry from one position up to another is a decision
 abbrev pub NoDecision : List Entry → ℕ → ℕ → Type 0
 NoDecision es from to = (k : ℕ) → from ≤ k → k < to → is_some (entry_at es k).reason ≡ true
 
@@ -69,7 +69,7 @@ pub record AreApart (variables : ℕ) (es : List Entry) : Type 0 where
   pub among : (k : ℕ) → k < length es → is_among variables (entry_at es k).literal ≡ true
   pub apart : (j k : ℕ) → j < length es → k < length es → (entry_at es j).literal.variable ≡ (entry_at es k).literal.variable → j ≡ k
 
--- the entries from the place on mention the variable
+-- the entries from the position on mention the variable
 abbrev pub is_after : List Entry → ℕ → ℕ → Bool
 is_after es floor v = mentions (literals (drop floor es)) v
 

@@ -37,11 +37,11 @@ IsStoredClauseState s stored_clause (Open k) = (2 ≤ k) × (k < length stored_c
 IsStoredClauseState s stored_clause (Implied u) = (holds stored_clause u ≡ true) × (is_free s u ≡ true) × (is_unit s u stored_clause ≡ true)
 IsStoredClauseState s stored_clause False = falsifies s stored_clause ≡ true
 
--- what a visit of the watch at the place leaves
+-- what a visit of the watch at the position leaves
 abbrev pub IsVisit : Watcher → Watcher → ℕ → ℕ → Visit → Type 0
-IsVisit old new slot place Stays =
+IsVisit old new slot position Stays =
     (new.table.stored_clauses.items ≡ old.table.stored_clauses.items) × HasSameClauses (list_at old.table.lists.items slot) (list_at new.table.lists.items slot)
-    × (is_satisfied (literals new.trail.entries) (stored_clause_at old.table.stored_clauses.items (watch_at (list_at old.table.lists.items slot) place).clause) ≡ true)
-IsVisit old new slot place Moved =
-    ArePermuted old.table.stored_clauses.items new.table.stored_clauses.items × (list_at new.table.lists.items slot ≡ swap_remove (list_at old.table.lists.items slot) place no_watch)
-IsVisit old new slot place Conflict = IsConflict new.table.clauses.items (literals new.trail.entries) ((watch_at (list_at old.table.lists.items slot) place).clause + 1)
+    × (is_satisfied (literals new.trail.entries) (stored_clause_at old.table.stored_clauses.items (watch_at (list_at old.table.lists.items slot) position).clause) ≡ true)
+IsVisit old new slot position Moved =
+    ArePermuted old.table.stored_clauses.items new.table.stored_clauses.items × (list_at new.table.lists.items slot ≡ swap_remove (list_at old.table.lists.items slot) position no_watch)
+IsVisit old new slot position Conflict = IsConflict new.table.clauses.items (literals new.trail.entries) ((watch_at (list_at old.table.lists.items slot) position).clause + 1)

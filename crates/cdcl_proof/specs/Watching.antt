@@ -15,23 +15,23 @@ pub record Watching : Type 0 where
   pub clauses : List (List Literal)
   pub entries : List Entry
 
--- a literal for no place
+-- a literal for no position
 abbrev pub no_literal : Literal
 no_literal = record { variable = 0; positive = false }
 
--- a watch for no place
+-- a watch for no position
 abbrev pub no_watch : Watch
 no_watch = record { clause = 0; blocker = no_literal; is_binary = false }
 
--- the place of the literal's list among the watch lists
+-- the position of the literal's list among the watch lists
 abbrev pub slot_of : Literal → ℕ
 slot_of l = 2 * l.variable + cond l.positive 1 0
 
--- the literal of the stored clause at a place
+-- the literal of the stored clause at a position
 abbrev pub literal_at : List Literal → ℕ → Literal
 literal_at stored_clause k = slice_index_or stored_clause k no_literal
 
--- the stored clause, the list and the watch at a place
+-- the stored clause, the list and the watch at a position
 abbrev pub stored_clause_at : List (List Literal) → ℕ → List Literal
 stored_clause_at stored_clauses i = slice_index_or stored_clauses i []
 
@@ -99,7 +99,7 @@ pub record HasSameClauses (old new : List Watch) : Type 0 where
 abbrev pub ArePermuted : List (List Literal) → List (List Literal) → Type 0
 ArePermuted old new = (i : ℕ) (l : Literal) → holds (stored_clause_at new i) l ≡ holds (stored_clause_at old i) l
 
--- the places up to which propagation was complete, in order: nothing before such a place needs to be read again
+-- the positions up to which propagation was complete, in order: nothing before such a position needs to be read again
 pub record AreMarks (stored_clauses : List (List Literal)) (entries : List Entry) (head : ℕ) (marks : List ℕ) : Type 0 where
   pub sorted : (j k : ℕ) → j ≤ k → k < length marks → slice_index_or marks j 0 ≤ slice_index_or marks k 0
   pub below : (j : ℕ) → j < length marks → slice_index_or marks j 0 ≤ head
@@ -114,4 +114,4 @@ pub record Propagates (clauses : List (List Literal)) (old new : List Entry) : T
 
 -- the first watches of a list are of clauses that the set satisfies
 abbrev pub AreVisited : List Literal → List (List Literal) → List Watch → ℕ → Type 0
-AreVisited s stored_clauses list place = (k : ℕ) → k < place → is_satisfied s (stored_clause_at stored_clauses (watch_at list k).clause) ≡ true
+AreVisited s stored_clauses list position = (k : ℕ) → k < position → is_satisfied s (stored_clause_at stored_clauses (watch_at list k).clause) ≡ true

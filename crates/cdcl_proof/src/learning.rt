@@ -17,11 +17,11 @@ use resolution_proof::literal::Literal;
 use resolution_proof::log::{Hint, HintList, Step};
 use std::alloc::{AllocError, Global};
 
-/// A learnt clause, and the place of the trail to which the search goes back.
+/// A learnt clause, and the position of the trail to which the search goes back.
 #[derive(Drop)]
 pub(crate) struct LearntClause {
     pub(crate) step: Step,
-    pub(crate) place: usize,
+    pub(crate) position: usize,
 }
 
 /// The part of the trail in which literals are resolved: the entries from `floor` on, of whose literals `keep` stay.
@@ -47,7 +47,7 @@ pub(crate) fn learn(
     requires floor { floor < length trail.now.entries }
     requires decision { IsNone (entry_at trail.now.entries floor).reason }
     requires newest { NoDecision trail.now.entries (floor + 1) (length trail.now.entries) }
-    ensures learnt { IfOk result (λ l. IsLearntClause trail.now.variables clauses.now trail.now.entries l.step l.place) }
+    ensures learnt { IfOk result (λ l. IsLearntClause trail.now.variables clauses.now trail.now.entries l.step l.position) }
 {
     let mut hints = resolve_down(
         alloc,
@@ -59,14 +59,14 @@ pub(crate) fn learn(
     )?;
     minimise(clauses, trail, seen, &mut hints, floor)?;
     let literals = trail.marked_negations(alloc, seen)?;
-    let start = trail.place_after_marked(seen, floor);
-    let place = trail.decision_from(start, floor);
+    let start = trail.position_after_marked(seen, floor);
+    let position = trail.decision_from(start, floor);
     Ok(LearntClause {
         step: Step {
             clause: Clause::from_distinct(literals),
             hints: HintList::from_vec(hints),
         },
-        place,
+        position,
     })
 }
 
@@ -128,10 +128,10 @@ fn resolve_down(
         pivot: 0,
     })?;
     let mut count = mark_conflict(clauses, trail, seen, conflict, level.floor);
-    let mut place = trail.len();
+    let mut position = trail.len();
     while count > level.keep {
-        place -= 1;
-        count = resolve_entry(clauses, trail, seen, &mut hints, place, level, count)?;
+        position -= 1;
+        count = resolve_entry(clauses, trail, seen, &mut hints, position, level, count)?;
     }
     Ok(hints)
 }
@@ -156,34 +156,34 @@ fn minimise(
     ensures count { IfOk result (λ _. count_seen seen.new (drop floor trail.now.entries) ≡ count_seen seen.old (drop floor trail.now.entries)) }
     ensures len { IfOk result (λ _. length seen.new ≡ length seen.old) }
 {
-    let mut place = floor;
-    while place > 0 {
-        place -= 1;
-        subsume(clauses, trail, seen, hints, place)?;
+    let mut position = floor;
+    while position > 0 {
+        position -= 1;
+        subsume(clauses, trail, seen, hints, position)?;
     }
     Ok(())
 }
 
-/// Takes the literal of the entry at the place off the clause of the marks, if its reason adds none.
+/// Takes the literal of the entry at the position off the clause of the marks, if its reason adds none.
 fn subsume(
     clauses: &[Clause],
     trail: &Trail,
     seen: &mut [bool],
     hints: &mut Vec<Hint>,
-    place: usize,
+    position: usize,
 ) -> Result<(), AllocError>
     requires clauses { are_clauses trail.now.variables clauses.now ≡ true }
     requires seen { length seen.old ≡ trail.now.variables }
     requires sound { IsSound trail.now.variables clauses.now trail.now.entries }
-    requires place { place < length trail.now.entries }
+    requires position { position < length trail.now.entries }
     requires resolving { IsResolving clauses.now trail.now.entries hints.old.items seen.old }
-    requires pivots { HasPivotsFrom trail.now.entries (place + 1) hints.old.items }
+    requires pivots { HasPivotsFrom trail.now.entries (position + 1) hints.old.items }
     ensures resolving { IfOk result (λ _. IsResolving clauses.now trail.now.entries hints.new.items seen.new) }
-    ensures pivots { IfOk result (λ _. HasPivotsFrom trail.now.entries place hints.new.items) }
-    ensures count { IfOk result (λ _. (floor : ℕ) → place < floor → count_seen seen.new (drop floor trail.now.entries) ≡ count_seen seen.old (drop floor trail.now.entries)) }
+    ensures pivots { IfOk result (λ _. HasPivotsFrom trail.now.entries position hints.new.items) }
+    ensures count { IfOk result (λ _. (floor : ℕ) → position < floor → count_seen seen.new (drop floor trail.now.entries) ≡ count_seen seen.old (drop floor trail.now.entries)) }
     ensures len { IfOk result (λ _. length seen.new ≡ length seen.old) }
 {
-    let entry = trail.entry(place);
+    let entry = trail.entry(position);
     let pivot = entry.literal.variable;
     if !seen[pivot as usize - 1] {
         return Ok(());
@@ -248,27 +248,27 @@ fn mark_conflict(
     mark_clause(trail, seen, clause_of(clauses, conflict), 0, floor, 0)
 }
 
-/// Resolves with the reason of the entry at the place, if it is marked. The result is how many marked entries of
+/// Resolves with the reason of the entry at the position, if it is marked. The result is how many marked entries of
 /// the level are left.
 fn resolve_entry(
     clauses: &[Clause],
     trail: &Trail,
     seen: &mut [bool],
     hints: &mut Vec<Hint>,
-    place: usize,
+    position: usize,
     level: Level,
     count: usize,
 ) -> Result<usize, AllocError>
     requires clauses { are_clauses trail.now.variables clauses.now ≡ true }
     requires sound { IsSound trail.now.variables clauses.now trail.now.entries }
     requires implied { NoDecision trail.now.entries (level.floor + level.keep) (length trail.now.entries) }
-    requires place { place < length trail.now.entries }
-    requires floor { level.floor + level.keep ≤ place }
-    requires analysis { IsAnalysis trail.now.variables clauses.now trail.now.entries level.floor level.keep (place + 1) count hints.old.items seen.old }
+    requires position { position < length trail.now.entries }
+    requires floor { level.floor + level.keep ≤ position }
+    requires analysis { IsAnalysis trail.now.variables clauses.now trail.now.entries level.floor level.keep (position + 1) count hints.old.items seen.old }
     requires more { level.keep < count }
-    ensures analysis { IfOk result (λ n. IsAnalysis trail.now.variables clauses.now trail.now.entries level.floor level.keep place n hints.new.items seen.new) }
+    ensures analysis { IfOk result (λ n. IsAnalysis trail.now.variables clauses.now trail.now.entries level.floor level.keep position n hints.new.items seen.new) }
 {
-    let entry = trail.entry(place);
+    let entry = trail.entry(position);
     if !seen[entry.literal.variable as usize - 1] {
         return Ok(count);
     }
@@ -278,18 +278,18 @@ fn resolve_entry(
                 clause: reason,
                 pivot: entry.literal.variable,
             })?;
-            Ok(resolve_at(clauses, trail, seen, place, reason, level.floor, count))
+            Ok(resolve_at(clauses, trail, seen, position, reason, level.floor, count))
         }
         None => Ok(count),
     }
 }
 
-/// Marks what a resolution with the reason of the marked entry at the place gives.
+/// Marks what a resolution with the reason of the marked entry at the position gives.
 fn resolve_at(
     clauses: &[Clause],
     trail: &Trail,
     seen: &mut [bool],
-    place: usize,
+    position: usize,
     reason: u64,
     floor: usize,
     count: usize,
@@ -297,17 +297,17 @@ fn resolve_at(
     requires clauses { are_clauses trail.now.variables clauses.now ≡ true }
     requires seen { length seen.old ≡ trail.now.variables }
     requires sound { IsSound trail.now.variables clauses.now trail.now.entries }
-    requires place { place < length trail.now.entries }
-    requires floor { floor ≤ place }
-    requires reason { (entry_at trail.now.entries place).reason ≡ Some reason }
-    requires marked { is_seen_entry seen.old (entry_at trail.now.entries place) ≡ true }
+    requires position { position < length trail.now.entries }
+    requires floor { floor ≤ position }
+    requires reason { (entry_at trail.now.entries position).reason ≡ Some reason }
+    requires marked { is_seen_entry seen.old (entry_at trail.now.entries position) ≡ true }
     requires count { count ≡ count_seen seen.old (drop floor trail.now.entries) }
     ensures count { result ≡ count_seen seen.new (drop floor trail.now.entries) }
     ensures fewer { count ≤ result + 1 }
     ensures len { length seen.new ≡ length seen.old }
-    ensures marks { Resolves (entry_at trail.now.entries place).literal.variable (clause_at clauses.now reason) seen.old seen.new }
+    ensures marks { Resolves (entry_at trail.now.entries position).literal.variable (clause_at clauses.now reason) seen.old seen.new }
 {
-    let pivot = trail.entry(place).literal.variable;
+    let pivot = trail.entry(position).literal.variable;
     seen[pivot as usize - 1] = false;
     mark_clause(
         trail,

@@ -1,4 +1,4 @@
-// Places of the trail up to which propagation was complete.
+// Positions of the trail up to which propagation was complete.
 ghost use Rattle.std.specs.Prelude.{◌≡◌, ◌<◌, ◌≤◌, ◌-◌, true, length, slice_index_or};
 ghost use Rattle.resolution_proof.specs.Clause.{is_within};
 ghost use Rattle.cdcl_proof.specs.Trail.{is_after};
@@ -7,13 +7,13 @@ ghost use Rattle.cdcl_proof.specs.Watching.{literal_at};
 use crate::packed::PackedLiteral;
 use crate::trail::Trail;
 
-/// How many of the marks are at most the place.
-pub(crate) fn marks_up_to(marks: &[usize], place: usize) -> usize
+/// How many of the marks are at most the position.
+pub(crate) fn marks_up_to(marks: &[usize], position: usize) -> usize
     ensures within { result ≤ length marks.now }
-    ensures last { 0 < result → slice_index_or marks.now (result - 1) 0 ≤ place }
+    ensures last { 0 < result → slice_index_or marks.now (result - 1) 0 ≤ position }
 {
     let mut count = marks.len();
-    while count > 0 && marks[count - 1] > place {
+    while count > 0 && marks[count - 1] > position {
         count -= 1;
     }
     count

@@ -14,7 +14,7 @@ pub(crate) struct Order {
     activities: Vec<u64>,
     increment: u64,
     heap: Vec<u64>,
-    places: Vec<usize>,
+    positions: Vec<usize>,
 }
 
 /// Activities are scaled down once the increment is at this bound.
@@ -28,16 +28,16 @@ impl Order {
         ensures all { IfOk result (λ o. (v : ℕ) → 1 ≤ v → v ≤ variables → Waits o.heap.items v) }
     {
         let mut heap = Vec::new(alloc);
-        let mut places = Vec::new(alloc);
+        let mut positions = Vec::new(alloc);
         for index in 0..variables {
             heap.push(index + 1)?;
-            places.push(index as usize)?;
+            positions.push(index as usize)?;
         }
         Ok(Order {
             activities: vec![in alloc; 0u64; variables as usize]?,
             increment: 1024,
             heap,
-            places,
+            positions,
         })
     }
 
@@ -48,8 +48,8 @@ impl Order {
         requires among { variable ≤ length self.now.activities.items }
         ensures { IsTrue result → Waits self.now.heap.items variable }
     {
-        let place = self.places[variable as usize - 1];
-        place < self.heap.len() && self.heap[place] == variable
+        let position = self.positions[variable as usize - 1];
+        position < self.heap.len() && self.heap[position] == variable
     }
 
     /// Lets the variable wait.
@@ -64,10 +64,10 @@ impl Order {
         if self.is_waiting(variable) {
             return Ok(());
         }
-        let place = self.heap.len();
+        let position = self.heap.len();
         self.heap.push(variable)?;
-        self.places[variable as usize - 1] = place;
-        self.sift_up(place);
+        self.positions[variable as usize - 1] = position;
+        self.sift_up(position);
         Ok(())
     }
 
@@ -88,7 +88,7 @@ impl Order {
         Some(top)
     }
 
-    /// Lets the first variable of the heap go down to its place.
+    /// Lets the first variable of the heap go down to its position.
     fn sift_top(&mut self)
         requires { IsOrder (length self.old.activities.items) self.old }
         ensures order { IsOrder (length self.old.activities.items) self.new }
@@ -99,11 +99,11 @@ impl Order {
             return;
         }
         let first = self.heap[0];
-        self.places[first as usize - 1] = 0;
+        self.positions[first as usize - 1] = 0;
         self.sift_down();
     }
 
-    /// Exchanges two places of the heap.
+    /// Exchanges two positions of the heap.
     fn exchange(&mut self, i: usize, j: usize)
         requires order { IsOrder (length self.old.activities.items) self.old }
         requires first { i < length self.old.heap.items }
@@ -114,12 +114,12 @@ impl Order {
     {
         let first = self.heap[i];
         let second = self.heap[j];
-        self.places[first as usize - 1] = j;
-        self.places[second as usize - 1] = i;
+        self.positions[first as usize - 1] = j;
+        self.positions[second as usize - 1] = i;
         self.heap.swap(i, j);
     }
 
-    /// Whether the variable at the first place has a higher activity than that at the second.
+    /// Whether the variable at the first position has a higher activity than that at the second.
     fn is_higher(&self, i: usize, j: usize) -> bool
         requires order { IsOrder (length self.now.activities.items) self.now }
         requires first { i < length self.now.heap.items }
@@ -128,7 +128,7 @@ impl Order {
         self.activities[self.heap[j] as usize - 1] < self.activities[self.heap[i] as usize - 1]
     }
 
-    /// Lets the variable at the place go up to its place.
+    /// Lets the variable at the position go up to its position.
     fn sift_up(&mut self, start: usize)
         requires order { IsOrder (length self.old.activities.items) self.old }
         requires start { start < length self.old.heap.items }
@@ -147,7 +147,7 @@ impl Order {
         }
     }
 
-    /// The place of the higher child of the place, or the place itself where no child is higher.
+    /// The position of the higher child of the position, or the position itself where no child is higher.
     fn higher_child(&self, at: usize) -> usize
         requires order { IsOrder (length self.now.activities.items) self.now }
         requires within { at < length self.now.heap.items }
@@ -167,7 +167,7 @@ impl Order {
         if self.is_higher(child, at) { child } else { at }
     }
 
-    /// Lets the first variable go down to its place.
+    /// Lets the first variable go down to its position.
     fn sift_down(&mut self)
         requires order { IsOrder (length self.old.activities.items) self.old }
         requires some { 0 < length self.old.heap.items }
@@ -196,9 +196,9 @@ impl Order {
     {
         let index = variable as usize - 1;
         self.activities[index] = self.activities[index].saturating_add(self.increment);
-        let place = self.places[index];
-        if place < self.heap.len() {
-            self.sift_up(place);
+        let position = self.positions[index];
+        if position < self.heap.len() {
+            self.sift_up(position);
         }
     }
 

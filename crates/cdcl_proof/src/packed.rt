@@ -43,7 +43,7 @@ impl PackedLiteral {
         }
     }
 
-    /// The place of the literal's list among the watch lists.
+    /// The position of the literal's list among the watch lists.
     pub(crate) fn slot(self) -> usize
         ensures { result ≡ slot_of self }
     {

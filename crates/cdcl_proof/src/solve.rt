@@ -145,11 +145,11 @@ impl<'a> Search<'a> {
             conflict,
             floor,
         )?;
-        let LearntClause { step, place } = learnt;
+        let LearntClause { step, position } = learnt;
         let Step { clause, hints } = step;
         self.order.bump_all(hints.as_slice(), clause.as_slice());
-        self.insert_variables(place)?;
-        self.watched.back_to(place as u64);
+        self.insert_variables(position)?;
+        self.watched.back_to(position as u64);
         self.watched.learn(clause)?;
         self.chains.push(hints)?;
         Ok(())
@@ -200,18 +200,18 @@ impl<'a> Search<'a> {
         )
     }
 
-    /// Puts the variables of the trail from the place on back among those that wait, and saves their phases.
-    fn insert_variables(&mut self, place: usize) -> Result<(), AllocError>
+    /// Puts the variables of the trail from the position on back among those that wait, and saves their phases.
+    fn insert_variables(&mut self, position: usize) -> Result<(), AllocError>
         requires searching { IsSearching self.old }
         requires waiting { AllWait self.old }
-        requires place { place ≤ length self.old.watched.entries }
+        requires position { position ≤ length self.old.watched.entries }
         ensures searching { IsSearching self.new }
         ensures formula { self.new.cnf.now ≡ self.old.cnf.now }
         ensures chains { self.new.chains ≡ self.old.chains }
         ensures watched { self.new.watched ≡ self.old.watched }
-        ensures waiting { OnOk result (WaitFrom self.new place) }
+        ensures waiting { OnOk result (WaitFrom self.new position) }
     {
-        for index in place..self.watched.trail().len() {
+        for index in position..self.watched.trail().len() {
             let entry = self.watched.trail().entry(index);
             self.insert_variable(entry.literal)?;
         }

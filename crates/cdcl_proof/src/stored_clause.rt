@@ -104,11 +104,11 @@ impl WatchList {
         }
     }
 
-    pub(crate) fn at(&self, place: usize) -> Watch
-        requires { place < length self.now }
-        ensures { result ≡ slice_index_or self.now place no_watch }
+    pub(crate) fn at(&self, position: usize) -> Watch
+        requires { position < length self.now }
+        ensures { result ≡ slice_index_or self.now position no_watch }
     {
-        self.watches[place]
+        self.watches[position]
     }
 
     pub(crate) fn push(&mut self, watch: Watch) -> Result<(), AllocError>
@@ -123,12 +123,12 @@ impl WatchList {
         Ok(())
     }
 
-    /// Gives the watch at the place another literal of its clause.
-    pub(crate) fn set_blocker(&mut self, place: usize, blocker: PackedLiteral)
-        requires { place < length self.old }
-        ensures { self.new ≡ slice_set self.old place (record { clause = (slice_index_or self.old place no_watch).clause; blocker = blocker; is_binary = (slice_index_or self.old place no_watch).is_binary }) }
+    /// Gives the watch at the position another literal of its clause.
+    pub(crate) fn set_blocker(&mut self, position: usize, blocker: PackedLiteral)
+        requires { position < length self.old }
+        ensures { self.new ≡ slice_set self.old position (record { clause = (slice_index_or self.old position no_watch).clause; blocker = blocker; is_binary = (slice_index_or self.old position no_watch).is_binary }) }
     {
-        self.watches[place].blocker = blocker;
+        self.watches[position].blocker = blocker;
     }
 
     /// Takes off the newest.
@@ -139,11 +139,11 @@ impl WatchList {
         let _ = self.watches.pop();
     }
 
-    /// Takes off the one at the place; the last one comes there.
-    pub(crate) fn remove(&mut self, place: usize)
-        requires { place < length self.old }
-        ensures { self.new ≡ swap_remove self.old place no_watch }
+    /// Takes off the one at the position; the last one comes there.
+    pub(crate) fn remove(&mut self, position: usize)
+        requires { position < length self.old }
+        ensures { self.new ≡ swap_remove self.old position no_watch }
     {
-        let _ = self.watches.swap_remove(place);
+        let _ = self.watches.swap_remove(position);
     }
 }

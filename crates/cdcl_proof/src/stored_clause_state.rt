@@ -17,7 +17,7 @@ use resolution_proof::literal::Literal;
 pub(crate) enum StoredClauseState {
     /// The other watched literal is true.
     Satisfied,
-    /// The literal at this place is not false.
+    /// The literal at this position is not false.
     Open(usize),
     /// All literals but this one, which is open, are false.
     Implied(Literal),
@@ -25,8 +25,8 @@ pub(crate) enum StoredClauseState {
     False,
 }
 
-/// The place of the literal that the list of the slot watches, of the first two.
-pub(crate) fn watched_place(stored_clause: &[PackedLiteral], slot: usize) -> usize
+/// The position of the literal that the list of the slot watches, of the first two.
+pub(crate) fn watched_position(stored_clause: &[PackedLiteral], slot: usize) -> usize
     requires { 1 ≤ length stored_clause.now }
     ensures low { result < 2 }
     ensures watched { (slot_of (literal_at stored_clause.now 0) ≡ slot) ⊎ (slot_of (literal_at stored_clause.now 1) ≡ slot) → slot_of (literal_at stored_clause.now result) ≡ slot }
@@ -38,19 +38,19 @@ pub(crate) fn watched_place(stored_clause: &[PackedLiteral], slot: usize) -> usi
     }
 }
 
-/// What the stored clause is, of which the watched literal at the place is false.
+/// What the stored clause is, of which the watched literal at the position is false.
 pub(crate) fn read_stored_clause(
     trail: &Trail,
     stored_clause: &[PackedLiteral],
-    place: usize,
+    position: usize,
 ) -> StoredClauseState
     requires within { is_within trail.now.variables stored_clause.now ≡ true }
     requires long { 2 ≤ length stored_clause.now }
-    requires place { place < 2 }
-    requires watched { holds (literals trail.now.entries) (negation (literal_at stored_clause.now place)) ≡ true }
+    requires position { position < 2 }
+    requires watched { holds (literals trail.now.entries) (negation (literal_at stored_clause.now position)) ≡ true }
     ensures { IsStoredClauseState (literals trail.now.entries) stored_clause.now result }
 {
-    let other = stored_clause[1 - place].literal();
+    let other = stored_clause[1 - position].literal();
     if trail.is_true(other) {
         return StoredClauseState::Satisfied;
     }

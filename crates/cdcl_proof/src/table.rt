@@ -46,26 +46,26 @@ impl Table {
     pub(crate) fn move_watch(
         &mut self,
         slot: usize,
-        place: usize,
+        position: usize,
         first: usize,
         k: usize,
     ) -> Result<(), AllocError>
         requires table { IsTable self.old }
         requires slot { slot < length self.old.lists.items }
-        requires place { place < length (list_at self.old.lists.items slot) }
+        requires position { position < length (list_at self.old.lists.items slot) }
         requires first { first < 2 }
         requires later { 2 ≤ k }
-        requires inside { k < length (stored_clause_at self.old.stored_clauses.items (watch_at (list_at self.old.lists.items slot) place).clause) }
-        requires watched { slot_of (literal_at (stored_clause_at self.old.stored_clauses.items (watch_at (list_at self.old.lists.items slot) place).clause) first) ≡ slot }
+        requires inside { k < length (stored_clause_at self.old.stored_clauses.items (watch_at (list_at self.old.lists.items slot) position).clause) }
+        requires watched { slot_of (literal_at (stored_clause_at self.old.stored_clauses.items (watch_at (list_at self.old.lists.items slot) position).clause) first) ≡ slot }
         ensures table { IsTable self.new }
         ensures variables { self.new.variables ≡ self.old.variables }
         ensures clauses { self.new.clauses ≡ self.old.clauses }
         ensures short { self.new.short ≡ self.old.short }
-        ensures stored_clauses { OnOk result (self.new.stored_clauses.items ≡ slice_set self.old.stored_clauses.items (watch_at (list_at self.old.lists.items slot) place).clause (swap (stored_clause_at self.old.stored_clauses.items (watch_at (list_at self.old.lists.items slot) place).clause) first k)) }
-        ensures list { OnOk result (list_at self.new.lists.items slot ≡ swap_remove (list_at self.old.lists.items slot) place no_watch) }
+        ensures stored_clauses { OnOk result (self.new.stored_clauses.items ≡ slice_set self.old.stored_clauses.items (watch_at (list_at self.old.lists.items slot) position).clause (swap (stored_clause_at self.old.stored_clauses.items (watch_at (list_at self.old.lists.items slot) position).clause) first k)) }
+        ensures list { OnOk result (list_at self.new.lists.items slot ≡ swap_remove (list_at self.old.lists.items slot) position no_watch) }
         ensures err { OnErr result (self.new.stored_clauses ≡ self.old.stored_clauses) }
     {
-        let clause = self.lists[slot].at(place).clause;
+        let clause = self.lists[slot].at(position).clause;
         let stored_clause = self.stored_clauses[clause as usize].as_slice();
         let blocker = stored_clause[1 - first];
         let target = stored_clause[k].slot();
@@ -74,18 +74,18 @@ impl Table {
             blocker,
             is_binary: false,
         };
-        shift(&mut self.lists, slot, place, target, watch)?;
+        shift(&mut self.lists, slot, position, target, watch)?;
         let stored_clause = &mut self.stored_clauses[clause as usize];
         stored_clause.swap(first, k);
         Ok(())
     }
 
-    /// Gives the watch at the place of a list another literal of its clause.
-    pub(crate) fn set_blocker(&mut self, slot: usize, place: usize, blocker: PackedLiteral)
+    /// Gives the watch at the position of a list another literal of its clause.
+    pub(crate) fn set_blocker(&mut self, slot: usize, position: usize, blocker: PackedLiteral)
         requires table { IsTable self.old }
         requires slot { slot < length self.old.lists.items }
-        requires place { place < length (list_at self.old.lists.items slot) }
-        requires blocks { holds (stored_clause_at self.old.stored_clauses.items (watch_at (list_at self.old.lists.items slot) place).clause) blocker ≡ true }
+        requires position { position < length (list_at self.old.lists.items slot) }
+        requires blocks { holds (stored_clause_at self.old.stored_clauses.items (watch_at (list_at self.old.lists.items slot) position).clause) blocker ≡ true }
         ensures table { IsTable self.new }
         ensures variables { self.new.variables ≡ self.old.variables }
         ensures clauses { self.new.clauses ≡ self.old.clauses }
@@ -94,7 +94,7 @@ impl Table {
         ensures list { HasSameClauses (list_at self.old.lists.items slot) (list_at self.new.lists.items slot) }
     {
         let list = &mut self.lists[slot];
-        list.set_blocker(place, blocker);
+        list.set_blocker(position, blocker);
     }
 
     /// Adds a clause with its stored clause.
@@ -141,23 +141,23 @@ fn empty_lists(alloc: Global, count: usize) -> Result<Vec<WatchList>, AllocError
     Ok(lists)
 }
 
-/// Puts the watch into one list and takes the one at the place off another.
+/// Puts the watch into one list and takes the one at the position off another.
 fn shift(
     lists: &mut Vec<WatchList>,
     from: usize,
-    place: usize,
+    position: usize,
     to: usize,
     watch: Watch,
 ) -> Result<(), AllocError>
     requires from { from < length lists.old.items }
     requires to { to < length lists.old.items }
     requires other { to ≢ from }
-    requires place { place < length (list_at lists.old.items from) }
-    ensures ok { OnOk result (lists.new.items ≡ slice_set (slice_set lists.old.items to (list_at lists.old.items to ++ watch ∷ [])) from (swap_remove (list_at lists.old.items from) place no_watch)) }
+    requires position { position < length (list_at lists.old.items from) }
+    ensures ok { OnOk result (lists.new.items ≡ slice_set (slice_set lists.old.items to (list_at lists.old.items to ++ watch ∷ [])) from (swap_remove (list_at lists.old.items from) position no_watch)) }
     ensures err { OnErr result (lists.new.items ≡ lists.old.items) }
 {
     lists[to].push(watch)?;
-    lists[from].remove(place);
+    lists[from].remove(position);
     Ok(())
 }
 

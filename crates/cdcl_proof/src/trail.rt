@@ -21,11 +21,11 @@ pub(crate) struct Entry {
     pub(crate) reason: Option<u64>,
 }
 
-/// The value of an assigned variable and the place of its entry.
+/// The value of an assigned variable and the position of its entry.
 #[derive(Clone, Copy)]
 pub(crate) struct Mark {
     pub(crate) positive: bool,
-    pub(crate) place: usize,
+    pub(crate) position: usize,
 }
 
 /// The literals assumed or implied so far, oldest first, no variable twice.
@@ -72,13 +72,13 @@ impl Trail {
         self.marks.len() as u64
     }
 
-    /// The entry at a place.
-    pub(crate) fn entry(&self, place: usize) -> Entry
-        requires { place < length self.now.entries }
-        ensures entry { result ≡ entry_at self.now.entries place }
+    /// The entry at a position.
+    pub(crate) fn entry(&self, position: usize) -> Entry
+        requires { position < length self.now.entries }
+        ensures entry { result ≡ entry_at self.now.entries position }
         ensures apart { AreApart self.now.variables self.now.entries }
     {
-        self.entries[place]
+        self.entries[position]
     }
 
     /// The literal's value, or `None` where its variable has none.
@@ -112,16 +112,16 @@ impl Trail {
         self.marks[variable as usize - 1].is_some()
     }
 
-    /// Whether the variable's entry is at the place or after it.
-    pub(crate) fn is_at_least(&self, variable: u64, place: usize) -> bool
+    /// Whether the variable's entry is at the position or after it.
+    pub(crate) fn is_at_least(&self, variable: u64, position: usize) -> bool
         requires positive { 1 ≤ variable }
         requires among { variable ≤ self.now.variables }
-        ensures after { result ≡ is_after self.now.entries place variable }
+        ensures after { result ≡ is_after self.now.entries position variable }
         ensures small { length self.now.entries < 2 ^ 63 }
         ensures apart { AreApart self.now.variables self.now.entries }
     {
         match self.marks[variable as usize - 1] {
-            Some(mark) => place <= mark.place,
+            Some(mark) => position <= mark.position,
             None => false,
         }
     }
@@ -133,11 +133,11 @@ impl Trail {
         ensures added { self.new ≡ record self.old { entries = self.old.entries ++ entry ∷ [] } }
         ensures room { length self.new.entries ≤ self.new.variables }
     {
-        let place = self.entries.len();
+        let position = self.entries.len();
         self.entries.push_reserved(entry);
         self.marks[entry.literal.variable as usize - 1] = Some(Mark {
             positive: entry.literal.positive,
-            place,
+            position,
         });
     }
 
@@ -151,32 +151,32 @@ impl Trail {
         }
     }
 
-    /// Takes off the entries from the place on.
-    pub(crate) fn cut(&mut self, place: usize)
-        requires { place ≤ length self.old.entries }
-        ensures { self.new ≡ record self.old { entries = take place self.old.entries } }
+    /// Takes off the entries from the position on.
+    pub(crate) fn cut(&mut self, position: usize)
+        requires { position ≤ length self.old.entries }
+        ensures { self.new ≡ record self.old { entries = take position self.old.entries } }
     {
-        while self.len() > place {
+        while self.len() > position {
             self.pop();
         }
     }
 
-    /// The place of the newest decision.
+    /// The position of the newest decision.
     pub(crate) fn last_decision(&self) -> Option<usize>
         ensures decision { IfSome result (λ c. (c < length self.now.entries) × IsNone (entry_at self.now.entries c).reason × NoDecision self.now.entries (c + 1) (length self.now.entries)) }
         ensures none { IfNone result (NoDecision self.now.entries 0 (length self.now.entries)) }
     {
-        let mut place = self.entries.len();
-        while place > 0 {
-            place -= 1;
-            if self.entries[place].reason.is_none() {
-                return Some(place);
+        let mut position = self.entries.len();
+        while position > 0 {
+            position -= 1;
+            if self.entries[position].reason.is_none() {
+                return Some(position);
             }
         }
         None
     }
 
-    /// The place of the oldest decision from `start` on, up to the decision at `last`.
+    /// The position of the oldest decision from `start` on, up to the decision at `last`.
     pub(crate) fn decision_from(&self, start: usize, last: usize) -> usize
         requires start { start ≤ last }
         requires last { last < length self.now.entries }
@@ -186,28 +186,28 @@ impl Trail {
         ensures decision { IsNone (entry_at self.now.entries result).reason }
         ensures before { NoDecision self.now.entries start result }
     {
-        for place in start..last {
-            if self.entries[place].reason.is_none() {
-                return place;
+        for position in start..last {
+            if self.entries[position].reason.is_none() {
+                return position;
             }
         }
         last
     }
 
-    /// The place after the newest marked entry below `last`, or 0 where none is marked.
-    pub(crate) fn place_after_marked(&self, seen: &[bool], last: usize) -> usize
+    /// The position after the newest marked entry below `last`, or 0 where none is marked.
+    pub(crate) fn position_after_marked(&self, seen: &[bool], last: usize) -> usize
         requires last { last ≤ length self.now.entries }
         requires seen { length seen.now ≡ self.now.variables }
         ensures last { result ≤ last }
         ensures above { (k : ℕ) → result ≤ k → k < last → is_seen_entry seen.now (entry_at self.now.entries k) ≡ false }
         ensures marked { 0 < result → is_seen_entry seen.now (entry_at self.now.entries (result - 1)) ≡ true }
     {
-        let mut place = last;
-        while place > 0 {
-            if seen[self.entries[place - 1].literal.variable as usize - 1] {
-                return place;
+        let mut position = last;
+        while position > 0 {
+            if seen[self.entries[position - 1].literal.variable as usize - 1] {
+                return position;
             }
-            place -= 1;
+            position -= 1;
         }
         0
     }

@@ -14,7 +14,7 @@ use crate::packed::PackedLiteral;
 use crate::propagation::{State, state_of};
 use crate::stored_clause::{StoredClause, Watch};
 use crate::stored_clause_state::{
-    StoredClauseState, bring_last, read_stored_clause, watched_place,
+    StoredClauseState, bring_last, read_stored_clause, watched_position,
 };
 use crate::table::Table;
 use crate::trail::{Entry, Trail};
@@ -22,8 +22,8 @@ use resolution_proof::clause::Clause;
 use resolution_proof::literal::Literal;
 use std::alloc::{AllocError, Global};
 
-/// Clauses and the trail, with the lists of watches. `head` is the place of the first literal of the trail whose list
-/// is to be read yet; `marks` are places up to which propagation was complete. The first `short_head` of the clauses
+/// Clauses and the trail, with the lists of watches. `head` is the position of the first literal of the trail whose list
+/// is to be read yet; `marks` are positions up to which propagation was complete. The first `short_head` of the clauses
 /// of fewer than two literals are true by the first `base` literals of the trail.
 #[derive(Drop)]
 pub(crate) struct Watcher {
@@ -116,17 +116,17 @@ impl Watcher {
         self.trail.cut(n);
     }
 
-    /// Lets the short clauses be read again, if they are true by a literal from the place on.
-    fn reset_short(&mut self, place: usize)
+    /// Lets the short clauses be read again, if they are true by a literal from the position on.
+    fn reset_short(&mut self, position: usize)
         requires { IsWatching self.old }
         ensures watching { IsWatching self.new }
         ensures table { self.new.table ≡ self.old.table }
         ensures trail { self.new.trail ≡ self.old.trail }
         ensures marks { self.new.marks ≡ self.old.marks }
         ensures head { self.new.head ≡ self.old.head }
-        ensures base { self.new.base ≤ place }
+        ensures base { self.new.base ≤ position }
     {
-        if self.base <= place {
+        if self.base <= position {
             return;
         }
         self.short_head = 0;
@@ -266,16 +266,16 @@ impl Watcher {
         ensures conflict { IfOk result (λ o. IfSome o (IsConflict self.new.table.clauses.items (literals self.new.trail.entries))) }
         ensures visited { only_binary ≡ false → IfOk result (λ o. IfNone o (AreVisited (literals self.new.trail.entries) self.new.table.stored_clauses.items (list_at self.new.table.lists.items slot) (length (list_at self.new.table.lists.items slot)))) }
     {
-        let mut place = 0;
-        while place < self.table.lists[slot].reach(only_binary) {
-            let watch = self.table.lists[slot].at(place);
+        let mut position = 0;
+        while position < self.table.lists[slot].reach(only_binary) {
+            let watch = self.table.lists[slot].at(position);
             if only_binary && !watch.is_binary {
-                place += 1;
+                position += 1;
                 continue;
             }
             let clause = watch.clause;
-            match self.visit(slot, place, watch) {
-                Ok(Visit::Stays) => place += 1,
+            match self.visit(slot, position, watch) {
+                Ok(Visit::Stays) => position += 1,
                 Ok(Visit::Moved) => {}
                 Ok(Visit::Conflict) => return Ok(Some(u64::from(clause) + 1)),
                 Err(fail) => return Err(fail),
@@ -285,12 +285,12 @@ impl Watcher {
     }
 
     /// Visits one watch.
-    fn visit(&mut self, slot: usize, place: usize, watch: Watch) -> Result<Visit, AllocError>
+    fn visit(&mut self, slot: usize, position: usize, watch: Watch) -> Result<Visit, AllocError>
         requires watching { IsWatching self.old }
         requires head { self.old.head < length self.old.trail.entries }
         requires slot { slot ≡ slot_of (negation (entry_at self.old.trail.entries self.old.head).literal) }
-        requires place { place < length (list_at self.old.table.lists.items slot) }
-        requires watch { watch ≡ watch_at (list_at self.old.table.lists.items slot) place }
+        requires position { position < length (list_at self.old.table.lists.items slot) }
+        requires watch { watch ≡ watch_at (list_at self.old.table.lists.items slot) position }
         ensures watching { IsWatching self.new }
         ensures clauses { self.new.table.clauses ≡ self.old.table.clauses }
         ensures short { self.new.table.short ≡ self.old.table.short }
@@ -298,22 +298,22 @@ impl Watcher {
         ensures head { self.new.head ≡ self.old.head }
         ensures variables { self.new.trail.variables ≡ self.old.trail.variables }
         ensures propagates { Propagates self.new.table.clauses.items self.old.trail.entries self.new.trail.entries }
-        ensures visit { IfOk result (IsVisit self.old self.new slot place) }
+        ensures visit { IfOk result (IsVisit self.old self.new slot position) }
     {
         if self.trail.is_true(watch.blocker.literal()) {
             return Ok(Visit::Stays);
         }
         let clause = watch.clause;
         let stored_clause = self.table.stored_clauses[clause as usize].as_slice();
-        let first = watched_place(stored_clause, slot);
+        let first = watched_position(stored_clause, slot);
         let other = stored_clause[1 - first];
         match read_stored_clause(&self.trail, stored_clause, first) {
             StoredClauseState::Satisfied => {
-                self.table.set_blocker(slot, place, other);
+                self.table.set_blocker(slot, position, other);
                 Ok(Visit::Stays)
             }
             StoredClauseState::Open(k) => {
-                self.table.move_watch(slot, place, first, k)?;
+                self.table.move_watch(slot, position, first, k)?;
                 Ok(Visit::Moved)
             }
             StoredClauseState::Implied(literal) => {

@@ -234,8 +234,8 @@ fn progressions_are_avoided_below_46(rt: HostRuntime) -> Result<(), Fail> {
 /// The bits of the number as an assignment of twelve variables.
 fn bits_of(alloc: Global, number: u64) -> Result<Assignment, AllocError> {
     let mut values = Vec::new(alloc);
-    for place in 0..12 {
-        values.push(number.wrapping_shr(place) % 2 == 1)?;
+    for position in 0..12 {
+        values.push(number.wrapping_shr(position) % 2 == 1)?;
     }
     Ok(Assignment::from_vec(values))
 }

@@ -31,7 +31,7 @@ takes_named os i j o takes r here = go (takes.within r here)
     go (inl own) = record { op = takes.is.inner; there = In-slice_get takes.is.inner os j takes.is.inside; named = own }
     go (inr own) = record { op = takes.is.outer; there = In-slice_get takes.is.outer os i takes.is.there; named = own }
 
--- the position of an id that stays, once another one stands in a place
+-- the position of an id that stays, once another one stands in a position
 position_set : (ids : List ℕ) (i f x : ℕ) → (f ≡ x → ⊥) → (position_of ids x ≡ i → ⊥) → position_of (set ids i f) x ≡ position_of ids x
 position_set [] i f x other here = refl
 position_set (k ∷ ids) zero f x other here = go (nat_eq k x) here (nat_eq f x) refl

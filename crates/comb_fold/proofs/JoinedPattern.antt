@@ -45,7 +45,7 @@ pub record IsFirstTwo {A : Type 0} (test : A → Bool) (xs : List A) (two : Two)
   pub between : ℕ
   pub first : position test xs ≡ Some two.first
   pub second : position test (drop (two.first + 1) xs) ≡ Some between
-  pub place : two.second ≡ two.first + 1 + between
+  pub second_is : two.second ≡ two.first + 1 + between
 
 pub two_is : {A : Type 0} (test : A → Bool) (xs : List A) (two : Two) → Some two ≡ first_two test xs → IsFirstTwo test xs two
 two_is test xs two is = of_first (position test xs) refl is
@@ -55,7 +55,7 @@ two_is test xs two is = of_first (position test xs) refl is
     of_second i first None second is = cc
     of_second i first (Some k) second is =
         let same : record { first = i; second = i + 1 + k } ≡ two = cc in
-        subst (IsFirstTwo test xs) same (record { between = k; first = first; second = second; place = refl })
+        subst (IsFirstTwo test xs) same (record { between = k; first = first; second = second; second_is = refl })
 
     of_first : (x : Option ℕ) → position test xs ≡ x → Some two ≡ option_and_then (λ i. option_map (λ (k : ℕ). record { first = i; second = i + 1 + k }) (position test (drop (i + 1) xs))) x → IsFirstTwo test xs two
     of_first None first is = cc
@@ -119,7 +119,7 @@ module _ (os : List Op) (ref : Value → Ref) where
   two_among vs two d e x y is first second =
       first_among vs two.first d x is.first first
       ∙ ap (λ (ws : List Word). x ∷ ws) (first_among (drop (two.first + 1) vs) is.between e y is.second
-      (ap (λ v. constant_at os (ref v)) (get_or-drop (two.first + 1) vs is.between e ∙ ap (λ k. get_or vs k e) (sym is.place)) ∙ second))
+      (ap (λ v. constant_at os (ref v)) (get_or-drop (two.first + 1) vs is.between e ∙ ap (λ k. get_or vs k e) (sym is.second_is)) ∙ second))
 
   -- there are two just where their value has a number
   pub number_if : (v : Variadic) (vs : List Value) → is_some (joined_number v (constants_among os (map ref vs))) ≡ is_some (first_two (λ x. is_constant_in os (ref x)) vs)
@@ -161,21 +161,21 @@ module _ (os : List Op) (ref : Value → Ref) where
 
     pub two_as : (vs : List Value) (a m s : ℕ) → position (λ v. is_constant_in os (ref v)) vs ≡ Some a → position (λ v. is_constant_in os (ref v)) (drop (a + 1) vs) ≡ Some m → s ≡ a + 1 + m
         → with_two_as (is_constant_in os) f c (map ref vs) ≡ remove (slice_set (map f (map ref vs)) s c) a
-    two_as [] a m s is then place = cc
-    two_as (v ∷ vs) a m s is then place = go (is_constant_in os (ref v)) a s (sym (position_cons (λ v. is_constant_in os (ref v)) v vs) ∙ is) then place (λ b. two_as vs b m)
+    two_as [] a m s is then second_is = cc
+    two_as (v ∷ vs) a m s is then second_is = go (is_constant_in os (ref v)) a s (sym (position_cons (λ v. is_constant_in os (ref v)) v vs) ∙ is) then second_is (λ b. two_as vs b m)
       where
         go : (b : Bool) (a s : ℕ) → cond b (Some 0) (option_map suc (position (λ v. is_constant_in os (ref v)) vs)) ≡ Some a → position (λ v. is_constant_in os (ref v)) (drop (a + 1) (v ∷ vs)) ≡ Some m → s ≡ a + 1 + m
             → ((e s : ℕ) → position (λ v. is_constant_in os (ref v)) vs ≡ Some e → position (λ v. is_constant_in os (ref v)) (drop (e + 1) vs) ≡ Some m → s ≡ e + 1 + m
             → with_two_as (is_constant_in os) f c (map ref vs) ≡ remove (slice_set (map f (map ref vs)) s c) e)
             → cond b (with_first_as (is_constant_in os) f c (map ref vs)) (f (ref v) ∷ with_two_as (is_constant_in os) f c (map ref vs)) ≡ remove (slice_set (f (ref v) ∷ map f (map ref vs)) s c) a
-        go true zero s h then place rest =
-            let after : s ≡ suc m = omega (arith, place) in
+        go true zero s h then second_is rest =
+            let after : s ≡ suc m = omega (arith, second_is) in
             first_as vs m then ∙ ap (λ n. remove (slice_set (f (ref v) ∷ map f (map ref vs)) n c) 0) (sym after)
-        go true (suc a) s h then place rest = cc
-        go false zero s h then place rest = absurd (no_start (position (λ v. is_constant_in os (ref v)) vs) h)
-        go false (suc a) s h then place rest =
+        go true (suc a) s h then second_is rest = cc
+        go false zero s h then second_is rest = absurd (no_start (position (λ v. is_constant_in os (ref v)) vs) h)
+        go false (suc a) s h then second_is rest =
             let next : suc a + 1 ≡ suc (a + 1) = omega arith in
-            let after : s ≡ suc (a + 1 + m) = omega (arith, place) in
+            let after : s ≡ suc (a + 1 + m) = omega (arith, second_is) in
             ap (λ rs. f (ref v) ∷ rs)
             (rest a (a + 1 + m) (one_earlier a (position (λ v. is_constant_in os (ref v)) vs) h) (ap (λ n. position (λ v. is_constant_in os (ref v)) (drop n (v ∷ vs))) (sym next) ∙ then) refl)
             ∙ ap (λ n. remove (slice_set (f (ref v) ∷ map f (map ref vs)) n c) (suc a)) (sym after)
@@ -234,7 +234,7 @@ module _ (os : List Op) (ref : Value → Ref) (vs : List Value) (kind : Kind) (t
   pub second_word : (d : Value) → (w : Word) × (constant_at os (ref (get_or vs two.second d)) ≡ Some w)
   second_word d =
       let one = word_at os ref (drop (two.first + 1) vs) first_is.between d first_is.second in
-      (one.0, ap (λ v. constant_at os (ref v)) (sym (get_or-drop (two.first + 1) vs first_is.between d ∙ ap (λ k. get_or vs k d) (sym first_is.place))) ∙ one.1)
+      (one.0, ap (λ v. constant_at os (ref v)) (sym (get_or-drop (two.first + 1) vs first_is.between d ∙ ap (λ k. get_or vs k d) (sym first_is.second_is))) ∙ one.1)
 
   pub first_within : two.first < length vs
   first_within = let some = first_is.first in go vs two.first some
@@ -244,7 +244,7 @@ module _ (os : List Op) (ref : Value → Ref) (vs : List Value) (kind : Kind) (t
       go (x ∷ xs) k is = (position-Some (λ v. is_constant_in os (ref v)) (x ∷ xs) k x is).0
 
   pub ordered : two.first < two.second
-  ordered = let place = first_is.place in omega (arith, place)
+  ordered = let second_is = first_is.second_is in omega (arith, second_is)
 
   pub second_within : two.second < length vs
   second_within = let some = first_is.second in go vs first_within some
@@ -254,8 +254,8 @@ module _ (os : List Op) (ref : Value → Ref) (vs : List Value) (kind : Kind) (t
       go (x ∷ xs) first is =
           let below = (position-Some (λ v. is_constant_in os (ref v)) (drop (two.first + 1) (x ∷ xs)) first_is.between x is).0 in
           let count = length-drop (two.first + 1) (x ∷ xs) in
-          let place = first_is.place in
-          omega (arith, below, count, place)
+          let second_is = first_is.second_is in
+          omega (arith, below, count, second_is)
 
   operand_here : (k : ℕ) (d : Value) → k < length vs → In (ref (get_or vs k d)) (map ref vs)
   operand_here k d within = In-map ref (get_or vs k d) vs (In-slice_get (get_or vs k d) vs k (slice_get-get_or vs k d within))
@@ -312,7 +312,7 @@ joined_folded b b' i o ref vs two n there are found number_is has =
           has.put.ops o there
           ∙ ap₂ (λ (location : Location) (rs : List Ref). set (insert_op i (number_op n has.type location) (body_ops b)) (suc i) (record o { operands = rs })) (ap (λ (p : Op). p.location) (sym same))
           (sym (ap (with_two_as (is_constant_in (body_ops b)) (up_ref i) (result i 0)) are
-          ∙ two_as (body_ops b) ref (up_ref i) (result i 0) vs two.first is.between two.second is.first is.second is.place
+          ∙ two_as (body_ops b) ref (up_ref i) (result i 0) vs two.first is.between two.second is.first is.second is.second_is
           ∙ ap (λ rs. joined_operands i two.first two.second rs) (sym are)));
       fresh = has.put.fresh;
       is_fresh = has.put.is_fresh;

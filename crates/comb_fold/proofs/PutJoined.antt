@@ -43,9 +43,9 @@ module _ (b b1 : Body) (op id : OpId) (new : NewOp) (of : IsOfFit b) (there : Ha
       subst (λ ids. Contains ids op.index) (sym (ap ids_in added))
       (still_contained (ids_of b) (ids_in (put_before (Some op) (as_new id new) (ops_of b))) (λ v. omega (arith, times-put_before v (Some op) (as_new id new) (ops_of b))) op.index there)
 
-  place_after : position_in b1 op ≡ suc (position_in b op)
+  moved_on : position_in b1 op ≡ suc (position_in b op)
   unfolding position_in
-  place_after = ap (λ ops. position_of (ids_in ops) op.index) added ∙ position_after op (as_new id new) (ops_of b) there other
+  moved_on = ap (λ ops. position_of (ids_in ops) op.index) added ∙ position_after op (as_new id new) (ops_of b) there other
 
   new_ref : value_ref b1 (Result id 0) ≡ result (position_in b op) 0
   unfolding position_in value_ref
@@ -59,16 +59,16 @@ module _ (b b1 : Body) (op id : OpId) (new : NewOp) (of : IsOfFit b) (there : Ha
       ∙ ap (λ (vs : List Value). with_op (position_of (ids_of b) op.index) (record (plain_op (new_parts new)) { operands = map (ref_by (position_of (ids_of b))) vs }) (ops_by_position (ops_of b))) none
       ∙ put_in_same (position_of (ids_of b) op.index) (plain_op (new_parts new)) (ops_by_position (ops_of b))
 
-  place_within : position_in b op ≤ length (body_ops b)
+  op_within : position_in b op ≤ length (body_ops b)
   unfolding body_ops position_in
-  place_within =
+  op_within =
       let within = position_within (ids_of b) op.index there in
       let many = length-map (ops_of b) (op_by (position_of (ids_of b))) in
       let same = length-map (ops_of b) (λ (p : BodyOp). p.id) in
       omega (arith, within, many, same)
 
   after_seen : (o : Op) → slice_get (body_ops b) (position_in b op) ≡ Some o → slice_get (body_ops b1) (position_in b1 op) ≡ Some (retarget (up_ref (position_in b op)) o)
-  after_seen o is = ap₂ (λ os i. slice_get os i) put_seen place_after ∙ next_op (body_ops b) (position_in b op) (plain_op (new_parts new)) place_within o is
+  after_seen o is = ap₂ (λ os i. slice_get os i) put_seen moved_on ∙ next_op (body_ops b) (position_in b op) (plain_op (new_parts new)) op_within o is
 
   -- the operands stay
   pub operand_put : (k : ℕ) → HasOperand (ops_of b) op.index k → HasOperand (ops_of b1) op.index k
@@ -99,7 +99,7 @@ module _ (b b1 : Body) (op id : OpId) (new : NewOp) (of : IsOfFit b) (there : Ha
       ops = λ o is.
           then_dropped b1 b2 b3 op first (λ rs. slice_set rs second (value_ref b1 (Result id 0))) (op_stays b1 b2 op (λ xs. slice_set xs second (Result id 0)) set_one still_put) set_seen set_ids dropped
           ∙ with_operands_set (position_in b1 op) (λ rs. remove (slice_set rs second (value_ref b1 (Result id 0))) first) (body_ops b1) (retarget (up_ref (position_in b op)) o) (after_seen o is)
-          ∙ ap₂ (λ os i. set os i (record o { operands = remove (slice_set (map (up_ref (position_in b op)) o.operands) second (value_ref b1 (Result id 0))) first })) put_seen place_after
+          ∙ ap₂ (λ os i. set os i (record o { operands = remove (slice_set (map (up_ref (position_in b op)) o.operands) second (value_ref b1 (Result id 0))) first })) put_seen moved_on
           ∙ ap (λ r. set (insert_op (position_in b op) (plain_op (new_parts new)) (body_ops b)) (suc (position_in b op))
           (record o { operands = remove (slice_set (map (up_ref (position_in b op)) o.operands) second r) first })) new_ref;
       fresh = id.index;

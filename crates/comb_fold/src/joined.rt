@@ -14,7 +14,7 @@ ghost use Rattle.body_edits.specs.Views.{HasOp, body_ops, position_in, value_ref
 
 use crate::pattern::Pattern;
 use body_edits::numbers::{first_type, number_op};
-use body_edits::operands::operand_place;
+use body_edits::operands::operand_position;
 use body_edits::reading::constant_of;
 use body_edits::site::Site;
 use hw_model::families::Family;
@@ -128,8 +128,8 @@ fn join(alloc: Global, body: &mut Body, op: OpId, two: Two, number: u128) -> Res
     ensures joined { OnOk result (HasJoined body.old body.new (position_in body.old op) two number) }
     ensures kept { OnErr result (ops_of body.new ≡ ops_of body.old) }
 {
-    let first = operand_place(two.first)?;
-    let second = operand_place(two.second)?;
+    let first = operand_position(two.first)?;
+    let second = operand_position(two.second)?;
     let found = body.op(op);
     match first_type(found.results) {
         Some(ty) => {

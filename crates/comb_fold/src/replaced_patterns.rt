@@ -267,7 +267,7 @@ fn lowest_bit(kind: &OpKind) -> u32
     }
 }
 
-/// A new operation of one result in the place of another one, of which it has the dictionary, the mark `bin` and the place
+/// A new operation of one result in the place of another one, of which it has the dictionary, the mark `bin` and the position
 /// in the source.
 fn new_op(
     alloc: Global,

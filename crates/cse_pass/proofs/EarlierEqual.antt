@@ -24,7 +24,7 @@ use Rattle.body_edits.specs.Views.{HasOp, body_ops, position_in, value_ref, op_s
 use Rattle.body_edits.proofs.FitOps.{fit_readable, fit_live}
 use Rattle.body_edits.proofs.ReadBodies.{op_seen_at, op_live, maker_seen, maker_word}
 use Rattle.cse_pass.specs.declared.groups.Groups.{Groups}
-use Rattle.cse_pass.specs.EqualOps.{equal_place, equal_before}
+use Rattle.cse_pass.specs.EqualOps.{equal_position, equal_before}
 use Rattle.cse_pass.specs.Groups.{group_of, has_hash, IsGrouping}
 use Rattle.cse_pass.specs.Hashes.{hash_of}
 use Rattle.cse_pass.specs.Same.{first_type, are_same, are_same_ops, are_same_at}
@@ -36,11 +36,11 @@ use Rattle.cse_pass.proofs.SameHashes.{same_is_equal, same_hash, same_purity}
 
 before_impure : (os : List Op) (i : ℕ) (o : Op) → slice_get os i ≡ Some o → is_pure o.kind ≡ false → equal_before os i ≡ None
 before_impure os i o there other =
-    ap (λ x. option_and_then (λ (p : Op). cond (is_pure p.kind) (equal_place p (take i os)) None) x) there ∙ ap (λ b. cond b (equal_place o (take i os)) None) other
+    ap (λ x. option_and_then (λ (p : Op). cond (is_pure p.kind) (equal_position p (take i os)) None) x) there ∙ ap (λ b. cond b (equal_position o (take i os)) None) other
 
-before_pure : (os : List Op) (i : ℕ) (o : Op) → slice_get os i ≡ Some o → is_pure o.kind ≡ true → equal_before os i ≡ equal_place o (take i os)
+before_pure : (os : List Op) (i : ℕ) (o : Op) → slice_get os i ≡ Some o → is_pure o.kind ≡ true → equal_before os i ≡ equal_position o (take i os)
 before_pure os i o there pure =
-    ap (λ x. option_and_then (λ (p : Op). cond (is_pure p.kind) (equal_place p (take i os)) None) x) there ∙ ap (λ b. cond b (equal_place o (take i os)) None) pure
+    ap (λ x. option_and_then (λ (p : Op). cond (is_pure p.kind) (equal_position p (take i os)) None) x) there ∙ ap (λ b. cond b (equal_position o (take i os)) None) pure
 
 -- ---- ids
 
@@ -82,10 +82,10 @@ module _ (ops : List BodyOp) (once : AreDistinct (ids_in ops)) (live : AreLive o
   all_tested = λ k d less. tested (get_or ops k d) (found_by_id ops once k (get_or ops k d) (slice_get-get_or ops k d less)) (live k d less)
 
   pub finds : (g : Groups) (i : ℕ) → IsGrouping g (take i ops)
-      → equal_place (op_by (position_of (ids_in ops)) o) (take i (map (op_by (position_of (ids_in ops))) ops))
+      → equal_position (op_by (position_of (ids_in ops)) o) (take i (map (op_by (position_of (ids_in ops))) ops))
       ≡ option_map (λ (x : OpId). position_of (ids_in ops) x.index) (find (λ (x : OpId). are_same_at ops x id) (group_of g (hash_of o.parts o.operands)))
   finds g i grouped =
-      ap (equal_place (op_by (position_of (ids_in ops)) o)) (take-map (op_by (position_of (ids_in ops))) i ops)
+      ap (equal_position (op_by (position_of (ids_in ops)) o)) (take-map (op_by (position_of (ids_in ops))) i ops)
       ∙ finds_equal (position_of (ids_in ops)) (λ (x : OpId). are_same_at ops x id) (has_hash (hash_of o.parts o.operands)) o (drop i ops) (take i ops)
       (All-take (IsTested (position_of (ids_in ops)) (λ (x : OpId). are_same_at ops x id) (has_hash (hash_of o.parts o.operands)) o) i ops all_tested)
       ∙ ap₂ (λ xs ys. option_map (λ (x : OpId). position_of (ids_in xs) x.index) (find (λ (x : OpId). are_same_at ops x id) ys))
@@ -101,10 +101,10 @@ module _ (b : Body) (fit : IsOfFit b) (id : OpId) (o : ReadOp) (is : op_at (ops_
   pub none_impure : is_pure (kind_of o.kind.now) ≡ false → equal_before (body_ops b) i ≡ None
   none_impure other = before_impure (body_ops b) i (op_seen b o) (ap (slice_get (body_ops b)) at ∙ op_seen_at b id o is) other
 
-  pub place_found : is_pure (kind_of o.kind.now) ≡ true → (g : Groups) → IsGrouping g (take i (ops_of b)) → (r : Option OpId)
+  pub position_found : is_pure (kind_of o.kind.now) ≡ true → (g : Groups) → IsGrouping g (take i (ops_of b)) → (r : Option OpId)
       → r ≡ find (λ (x : OpId). are_same_at (ops_of b) x id) (group_of g (hash_of (read_parts o) o.operands.now)) → equal_before (body_ops b) i ≡ option_map (position_in b) r
   unfolding body_ops position_in value_ref
-  place_found pure g grouped r found =
+  position_found pure g grouped r found =
       before_pure (body_ops b) i (op_seen b o) (ap (slice_get (body_ops b)) at ∙ op_seen_at b id o is) pure
       ∙ finds (ops_of b) (ids_once b) (fit_live b fit) id (read_op id o) is (op_live b id o (fit_live b fit) is) pure g i grouped
       ∙ ap (option_map (λ (x : OpId). position_of (ids_of b) x.index)) (sym found)

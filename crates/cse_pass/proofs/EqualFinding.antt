@@ -6,7 +6,7 @@ use Rattle.ir_store.specs.declared.operation.OpId.{OpId}
 use Rattle.ir_store.specs.Bodies.{op_id}
 use Rattle.ir_store.specs.BodyOps.{BodyOp, ids_in}
 use Rattle.ir_store.specs.Numbered.{position_of, op_by}
-use Rattle.cse_pass.specs.EqualOps.{are_equal, equal_place}
+use Rattle.cse_pass.specs.EqualOps.{are_equal, equal_position}
 
 -- ---- lists
 
@@ -37,11 +37,11 @@ pub record IsTested (P : ℕ → ℕ) (test : OpId → Bool) (keep : BodyOp → 
 
 module _ (P : ℕ → ℕ) (test : OpId → Bool) (keep : BodyOp → Bool) (o : BodyOp) (rest : List BodyOp) where
   pub finds_equal : (prefix : List BodyOp) → All (IsTested P test keep o) prefix
-      → equal_place (op_by P o) (map (op_by P) prefix)
+      → equal_position (op_by P o) (map (op_by P) prefix)
       ≡ option_map (λ (id : OpId). position_of (ids_in (prefix ++ rest)) id.index) (find test (map (λ (p : BodyOp). op_id p.id) (filter keep prefix)))
   finds_equal [] all = refl
   finds_equal (p ∷ ps) all =
-      ap (λ b. cond b (Some 0) (option_map suc (equal_place (op_by P o) (map (op_by P) ps)))) (sym here.is)
+      ap (λ b. cond b (Some 0) (option_map suc (equal_position (op_by P o) (map (op_by P) ps)))) (sym here.is)
       ∙ go (test (op_id p.id)) refl (keep p) refl here.kept (finds_equal ps (All-tail (IsTested P test keep o) p ps all))
     where
       here : IsTested P test keep o p
@@ -73,8 +73,8 @@ module _ (P : ℕ → ℕ) (test : OpId → Bool) (keep : BodyOp → Bool) (o : 
       passed_by false other = refl
 
       go : (b : Bool) → test (op_id p.id) ≡ b → (k : Bool) → keep p ≡ k → (test (op_id p.id) ≡ true → keep p ≡ true)
-          → equal_place (op_by P o) (map (op_by P) ps) ≡ option_map (λ (id : OpId). position_of (ids_in (ps ++ rest)) id.index) (find test (map (λ (p : BodyOp). op_id p.id) (filter keep ps)))
-          → cond b (Some 0) (option_map suc (equal_place (op_by P o) (map (op_by P) ps)))
+          → equal_position (op_by P o) (map (op_by P) ps) ≡ option_map (λ (id : OpId). position_of (ids_in (ps ++ rest)) id.index) (find test (map (λ (p : BodyOp). op_id p.id) (filter keep ps)))
+          → cond b (Some 0) (option_map suc (equal_position (op_by P o) (map (op_by P) ps)))
           ≡ option_map (λ (id : OpId). position_of (ids_in (p ∷ ps ++ rest)) id.index) (find test (map (λ (p : BodyOp). op_id p.id) (cond k (p ∷ filter keep ps) (filter keep ps))))
       go true passes k is kept rest_is = found_first k (sym is ∙ kept passes) passes
       go false other k is kept rest_is =

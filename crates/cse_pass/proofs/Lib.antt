@@ -2,7 +2,7 @@
 pub mod ConstantTypes
 pub mod ConstantWords
 pub mod EqualParts
-pub mod EqualPlaces
+pub mod EqualPositions
 pub mod Following
 pub mod Leading
 pub mod MergedFits

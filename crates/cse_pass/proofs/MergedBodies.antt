@@ -184,10 +184,10 @@ module _ (op first : OpId) where
       go false not_own =
           ap (λ z. result_at z k) (sym (down-erase (position_of ids op.index) (position_of ids id.index)))
           ∙ some (down (position_of ids op.index) (position_of ids id.index))
-          (λ none. eqb-false id.index op.index not_own (same_place (down_none (position_of ids op.index) (position_of ids id.index) none)))
+          (λ none. eqb-false id.index op.index not_own (same_position (down_none (position_of ids op.index) (position_of ids id.index) none)))
         where
-          same_place : position_of ids id.index ≡ position_of ids op.index → id.index ≡ op.index
-          same_place same =
+          same_position : position_of ids id.index ≡ position_of ids op.index → id.index ≡ op.index
+          same_position same =
               eqb-true id.index op.index
               (both_of (nat_eq id.index op.index) (nat_eq 0 0)
               (same-ref_by ids (Result id 0) (Result op 0) live there ∙ ap (λ b. b && nat_eq 0 0) (eq-eqb (position_of ids id.index) (position_of ids op.index) same))).0
@@ -234,10 +234,10 @@ all_within b op o of is =
   where
     typed : (p : BodyOp) (v : Value) → In p (ops_of b) → In v p.operands → is_some (type_in of.owner.ports (body_ops b) (ref_by (position_of (ids_of b)) v)) ≡ true
     typed p v here named =
-        let place = position_of_In (op_by (position_of (ids_of b)) p) (body_ops b) (In-map (op_by (position_of (ids_of b))) p (ops_of b) here) in
+        let stands = position_of_In (op_by (position_of (ids_of b)) p) (body_ops b) (In-map (op_by (position_of (ids_of b))) p (ops_of b) here) in
         subst (λ os. is_some (type_in of.owner.ports os (ref_by (position_of (ids_of b)) v)) ≡ true) of.is_body
-        (operand_there of.design of.fit of.number of.owner of.there place.0 (op_by (position_of (ids_of b)) p) (ref_by (position_of (ids_of b)) v)
-        (ap (λ os. slice_get os place.0) of.is_body ∙ place.1) (In-map (ref_by (position_of (ids_of b))) v p.operands named))
+        (operand_there of.design of.fit of.number of.owner of.there stands.0 (op_by (position_of (ids_of b)) p) (ref_by (position_of (ids_of b)) v)
+        (ap (λ os. slice_get os stands.0) of.is_body ∙ stands.1) (In-map (ref_by (position_of (ids_of b))) v p.operands named))
 
     has_type : (rs : List OpResult) (k : ℕ) → is_some (option_map (λ (r : OpResult). r.type) (slice_get rs k)) ≡ true → k < length rs
     has_type rs k some = go (slice_get rs k) refl some

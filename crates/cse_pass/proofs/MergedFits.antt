@@ -36,7 +36,7 @@ use Rattle.cse_pass.specs.Merges.{merged_ref, merge_op}
 use Rattle.cse_pass.proofs.ConstantTypes.{IsNumber, number_own, constant_results, one_result, pure_value, constant_value}
 use Rattle.cse_pass.proofs.ConstantWords.{kind_word, nonzero_too}
 use Rattle.cse_pass.proofs.EqualParts.{equal_ops_parts}
-use Rattle.cse_pass.proofs.EqualPlaces.{EqualFound, equal_found}
+use Rattle.cse_pass.proofs.EqualPositions.{EqualFound, equal_found}
 use Rattle.cse_pass.proofs.Merging.{stand_at, stand_for, typed_result, Merged, merged_there, first_stays, merged_valid, merged_follows, body_is}
 
 pure_plain : (kind : Kind) → is_pure kind ≡ true → anchors_kind kind ≡ false

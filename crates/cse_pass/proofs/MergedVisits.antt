@@ -23,7 +23,7 @@ use Rattle.cse_pass.specs.Groups.{group_in, is_noted, has_hash, takes_purely, Is
 use Rattle.cse_pass.specs.Hashes.{hash_of}
 use Rattle.cse_pass.specs.Merges.{merge_op}
 use Rattle.cse_pass.specs.Sweeps.{merged_value, with_merged, IsMergedInto, IsMergedAt}
-use Rattle.cse_pass.proofs.EqualPlaces.{equal_found}
+use Rattle.cse_pass.proofs.EqualPositions.{equal_found}
 use Rattle.cse_pass.proofs.Following.{fit_after, merge_is_change, no_change}
 use Rattle.cse_pass.proofs.MergedBodies.{ids_merged, numbered_merge}
 

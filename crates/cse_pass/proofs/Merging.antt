@@ -98,8 +98,8 @@ module _ (md : Module) (i j : ℕ) (o p : Op) (merge : Merged md i j o p) where
           let of_first : h (result j k) ≡ suc (greatest (map h p.operands)) = local.made j k p t merge.first merge.first_plain (merge.types k ∙ typed) in
           let of_own : h (result i k) ≡ suc (greatest (map h o.operands)) = local.made i k o t merge.there merge.plain typed in
           let same : greatest (map h p.operands) ≡ greatest (map h o.operands) = ap (λ rs. greatest (map h rs)) merge.operands in
-          let place : h (result (up i j) k) ≡ h (result j k) = ap (λ m. h (result m k)) (up_below i j merge.before) in
-          omega (arith, of_first, of_own, same, place)
+          let stands : h (result (up i j) k) ≡ h (result j k) = ap (λ m. h (result m k)) (up_below i j merge.before) in
+          omega (arith, of_first, of_own, same, stands)
 
       go : (z : Option ℕ) → down i n ≡ z → h (up_ref i (stand_at z o j k)) ≤ h (result n k)
       go None here =
@@ -118,7 +118,7 @@ module _ (md : Module) (i j : ℕ) (o p : Op) (merge : Merged md i j o p) where
         port_is = λ n. refl;
         undefined_is = refl;
         anchors_are = anchors-retarget (stand_for i j o) (remove md.body i) ∙ ap (map (retarget (stand_for i j o))) (anchors-remove md.body i o merge.there merge.plain);
-        place = down i;
+        position = down i;
         kept = λ n n' is. record {
           op = merged_there n n' is;
           before = ap anchors (take_map (retarget (stand_for i j o)) n' (remove md.body i)) ∙ anchors-retarget (stand_for i j o) (take n' (remove md.body i))
@@ -144,7 +144,7 @@ module _ (md : Module) (i j : ℕ) (o p : Op) (merge : Merged md i j o p) where
   unfolding merged_valid
   merged_same = record {
     valid = merged_valid;
-    words = λ τ holds wide n k gone. at_place τ holds n k (down_none i n gone) gone;
+    words = λ τ holds wide n k gone. at_position τ holds n k (down_none i n gone) gone;
   }
     where
       first_word : (τ : Ref → Word) → Holds (map (retarget (stand_for i j o)) (remove md.body i)) τ → (k : ℕ) (t : HwType) → result_type o k ≡ Some t
@@ -161,9 +161,9 @@ module _ (md : Module) (i j : ℕ) (o p : Op) (merge : Merged md i j o p) where
       by_type τ holds k None typed = sym holds.undefined_is
       by_type τ holds k (Some t) typed = merge.words (λ r. τ (stand_for i j o r)) k t typed ∙ first_word τ holds k t typed
 
-      at_place : (τ : Ref → Word) → Holds (map (retarget (stand_for i j o)) (remove md.body i)) τ → (n k : ℕ) → n ≡ i → down i n ≡ None
+      at_position : (τ : Ref → Word) → Holds (map (retarget (stand_for i j o)) (remove md.body i)) τ → (n k : ℕ) → n ≡ i → down i n ≡ None
           → word_of (λ r. τ (stand_for i j o r)) k (slice_get md.body n) ≡ Some (τ (stand_at (down i n) o j k))
-      at_place τ holds n k here gone =
+      at_position τ holds n k here gone =
           ap (λ m. word_of (λ r. τ (stand_for i j o r)) k (slice_get md.body m)) here
           ∙ ap (word_of (λ r. τ (stand_for i j o r)) k) merge.there
           ∙ plain_word (λ r. τ (stand_for i j o r)) k o merge.plain
@@ -178,8 +178,8 @@ module _ (md : Module) (i j : ℕ) (o p : Op) (merge : Merged md i j o p) where
   body_is defined =
       map_same (retarget (stand_for i j o)) (retarget (merged_ref i j)) (remove md.body i)
       (λ z here.
-      let place = position_of_In z md.body (from_In-remove md.body i z here) in
-      ap (λ rs. record z { operands = rs }) (map_same (stand_for i j o) (merged_ref i j) z.operands (λ r named. same_ref r (defined place.0 z r place.1 named))))
+      let stands = position_of_In z md.body (from_In-remove md.body i z here) in
+      ap (λ rs. record z { operands = rs }) (map_same (stand_for i j o) (merged_ref i j) z.operands (λ r named. same_ref r (defined stands.0 z r stands.1 named))))
     where
       of_result : (k : ℕ) (x : Option HwType) → is_some x ≡ true → typed_result x j k ≡ result j k
       of_result k None h = cc

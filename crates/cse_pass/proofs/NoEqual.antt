@@ -20,7 +20,7 @@ use Rattle.cse_pass.specs.Merges.{HasNoEqual}
 use Rattle.cse_pass.specs.Trims.{trim_at, trim_sweep, trims}
 use Rattle.cse_pass.specs.Cse.{IsCseOf}
 use Rattle.cse_pass.proofs.EqualParts.{equal_ops_parts, equal_ops_from_parts}
-use Rattle.cse_pass.proofs.EqualPlaces.{none_before, has_no_equal}
+use Rattle.cse_pass.proofs.EqualPositions.{none_before, has_no_equal}
 use Rattle.cse_pass.proofs.UnusedOps.{unused_found, unused_operands}
 
 -- positions keep their order where one is put in

@@ -15,7 +15,7 @@ use Rattle.body_edits.specs.FitBodies.{IsOfFit}
 use Rattle.body_edits.specs.Views.{body_ops}
 use Rattle.cse_pass.specs.declared.groups.Groups.{Groups}
 use Rattle.cse_pass.specs.Cse.{Changes}
-use Rattle.cse_pass.specs.EqualOps.{equal_place, equal_before}
+use Rattle.cse_pass.specs.EqualOps.{equal_position, equal_before}
 use Rattle.cse_pass.specs.Groups.{IsGrouping}
 use Rattle.cse_pass.specs.Merges.{merged_ref, merge_op, merge_at, merge_sweep, merges, IsMerged}
 use Rattle.cse_pass.specs.Sweeps.{IsMergedAt, IsPassedAt, IsMergeSweep}
@@ -65,7 +65,7 @@ step_passed os i less none =
 pub record Sweeping (first body : Body) (groups : Groups) (position : ℕ) (at : Option OpId) (merged : Bool) : Type 0 where
   pub fit : IsOfFit body
   pub within : position ≤ length (ids_of body)
-  pub place : at ≡ first_id (map op_id (drop position (ids_of body)))
+  pub stands : at ≡ first_id (map op_id (drop position (ids_of body)))
   pub grouped : IsGrouping groups (take position (ops_of body))
   pub left : merge_sweep (length (body_ops body) - position) position (body_ops body) ≡ merge_sweep (length (body_ops first)) 0 (body_ops first)
   pub changes : Changes (body_ops first) (body_ops body)
@@ -74,10 +74,10 @@ pub record Sweeping (first body : Body) (groups : Groups) (position : ℕ) (at :
   pub none : merged ≡ false → (k : ℕ) → k < position → equal_before (body_ops body) k ≡ None
 
 pub begin_sweep : (b : Body) (groups : Groups) (at : Option OpId) → IsOfFit b → at ≡ first_id (map op_id (ids_of b)) → IsGrouping groups [] → Sweeping b b groups 0 at false
-begin_sweep b groups at fit place grouped = record {
+begin_sweep b groups at fit stands grouped = record {
   fit = fit;
   within = omega arith;
-  place = place;
+  stands = stands;
   grouped = grouped;
   left = ap (λ n. merge_sweep n 0 (body_ops b)) (omega arith);
   changes = no_change (body_ops b);
@@ -95,7 +95,7 @@ module _ (first body after : Body) (g groups : Groups) (i : ℕ) (op : Option Op
   sweep_merged v = record {
     fit = fit;
     within = omega (arith, shorter, less);
-    place = next_is ∙ ap (λ ids. first_id (map op_id ids)) (sym (drop_remove (ids_of body) i) ∙ ap (drop i) (sym v.ids));
+    stands = next_is ∙ ap (λ ids. first_id (map op_id ids)) (sym (drop_remove (ids_of body) i) ∙ ap (drop i) (sym v.ids));
     grouped = v.grouped;
     left = sym (step_merged (body_ops body) (body_ops after) i v.earlier (omega (arith, less, size)) v.equal v.ops) ∙ s.left;
     changes = changes_then (body_ops first) (body_ops body) (body_ops after) s.changes changes;
@@ -111,7 +111,7 @@ module _ (first body after : Body) (g groups : Groups) (i : ℕ) (op : Option Op
   sweep_passed v = record {
     fit = fit;
     within = subst (λ ids. suc i ≤ length ids) (sym ids) (omega (arith, less));
-    place = next_is ∙ ap (λ xs. first_id (map op_id (drop (suc i) xs))) (sym ids);
+    stands = next_is ∙ ap (λ xs. first_id (map op_id (drop (suc i) xs))) (sym ids);
     grouped = v.grouped;
     left = ap (λ os. merge_sweep (length os - suc i) (suc i) os) ops ∙ sym (step_passed (body_ops body) i (omega (arith, less, size)) v.none) ∙ s.left;
     changes = changes_then (body_ops first) (body_ops body) (body_ops after) s.changes changes;
@@ -147,7 +147,7 @@ swept first body g i at merged s passed = record {
     go : merged ≡ false → (k : ℕ) (b : Bool) → nat_lt k i ≡ b → equal_before (body_ops body) k ≡ None
     go is k true less = s.none is k (ltb-true k i less)
     go is k false past =
-        ap (λ x. option_and_then (λ (o : Op). cond (is_pure o.kind) (equal_place o (take k (body_ops body))) None) x)
+        ap (λ x. option_and_then (λ (o : Op). cond (is_pure o.kind) (equal_position o (take k (body_ops body))) None) x)
         (slice_get_past (body_ops body) k (omega (arith, ltb-false k i past, passed, length-body_ops body)))
 
 -- ---- sweeps

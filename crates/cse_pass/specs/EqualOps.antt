@@ -44,10 +44,10 @@ are_equal o p =
     && (pointwise same_ref o.operands p.operands && (pointwise same_type o.types p.types && pointwise same_type (result_types o) (result_types p)))
 
 -- the first position of an operation that is equal
-abbrev pub equal_place : Op → List Op → Option ℕ
-equal_place o [] = None
-equal_place o (p ∷ os) = cond (are_equal p o) (Some 0) (option_map suc (equal_place o os))
+abbrev pub equal_position : Op → List Op → Option ℕ
+equal_position o [] = None
+equal_position o (p ∷ os) = cond (are_equal p o) (Some 0) (option_map suc (equal_position o os))
 
 -- that before the pure operation at a position
 abbrev pub equal_before : List Op → ℕ → Option ℕ
-equal_before os i = option_and_then (λ (o : Op). cond (is_pure o.kind) (equal_place o (take i os)) None) (slice_get os i)
+equal_before os i = option_and_then (λ (o : Op). cond (is_pure o.kind) (equal_position o (take i os)) None) (slice_get os i)

@@ -35,6 +35,6 @@ abbrev pub attribute_number : Kind → Option HwType → ℕ
 attribute_number (extract low) t = low
 attribute_number kind t = word_number (constant_word kind t)
 
--- that of an operation
+-- the hash of an operation that has these operands
 unfoldable pub hash_of : OpParts → List Value → ℕ
 hash_of p vs = with_values (attribute_number p.kind (first_type p)) vs

@@ -32,7 +32,7 @@ abbrev pub merge_sweep : ℕ → ℕ → List Op → List Op
 merge_sweep zero i os = os
 merge_sweep (suc n) i os = merge_at (λ k xs. merge_sweep n k xs) i os (equal_before os i)
 
--- after so many sweeps over the whole body
+-- the operations after so many sweeps over the whole body, in which equal ones are merged
 abbrev pub merges : ℕ → List Op → List Op
 merges zero os = os
 merges (suc n) os = merges n (merge_sweep (length os) 0 os)

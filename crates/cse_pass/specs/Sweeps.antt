@@ -39,7 +39,7 @@ pub record IsMergedAt (before after : Body) (groups : Groups) (i : ℕ) : Type 0
   pub ids : ids_of after ≡ remove (ids_of before) i
   pub grouped : IsGrouping groups (take i (ops_of after))
 
--- or none is equal to it, and it stands in the groups too
+-- no earlier operation is equal to the one at position i, and it is put into the groups
 pub record IsPassedAt (before after : Body) (groups : Groups) (i : ℕ) : Type 0 where
   pub none : equal_before (body_ops before) i ≡ None
   pub ops : ops_of after ≡ ops_of before

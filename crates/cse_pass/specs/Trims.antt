@@ -14,7 +14,7 @@ abbrev pub trim_sweep : ℕ → List Op → List Op
 trim_sweep zero os = os
 trim_sweep (suc n) os = trim_sweep n (trim_at n os)
 
--- after so many sweeps over the whole body
+-- the operations after so many sweeps over the whole body, in which unused ones go
 abbrev pub trims : ℕ → List Op → List Op
 trims zero os = os
 trims (suc n) os = trims n (trim_sweep (length os) os)

@@ -8,7 +8,7 @@ use Rattle.graphs.proofs.Lists.{written_back}
 use Rattle.graphs.proofs.Marking.{lists_at, length-lists, none_marked, edges_within}
 use Rattle.design_cycles.specs.Graphs.{AreCalled}
 
--- what the nodes before a place need has its mark
+-- what the nodes before a position need has its mark
 pub record HasCalled (graph : List NodeList) (i : ℕ) (marks : List Bool) : Type 0 where
   pub count : length marks ≡ length graph
   pub sound : (v : ℕ) → has_mark marks v ≡ true → (k : ℕ) × In v (edges (lists_of graph) k)

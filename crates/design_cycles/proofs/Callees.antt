@@ -12,7 +12,7 @@ use Rattle.hw_model.specs.Kinds.{Instance}
 use Rattle.hw_model.specs.Design.{Op, Module, Design, same_name, find_module, instance_in}
 use Rattle.hw_model.specs.Sound.{body_of}
 use Rattle.hw_model.specs.Hierarchy.{callee_symbols, called_by, calls, HasNoRecursion}
-use Rattle.ir_store.specs.Symbols.{symbol_place}
+use Rattle.ir_store.specs.Symbols.{symbol_position}
 use Rattle.ir_store.specs.Numbered.{ops_by_position}
 use Rattle.ir_store.specs.Designs.{StoredModule, numbered_module}
 use Rattle.design_cycles.specs.Asked.{HasDistinctSymbols}
@@ -28,12 +28,12 @@ called-append (o ∷ xs) ys = ap (λ zs. called_by (instance_in o.kind) ++ zs) (
 numbers-append : (symbols : List Name) (xs ys : List Name) → numbers_of symbols (xs ++ ys) ≡ numbers_of symbols xs ++ numbers_of symbols ys
 numbers-append symbols [] ys = refl
 numbers-append symbols (s ∷ xs) ys =
-    ap (λ zs. option_to_list (symbol_place s symbols) ++ zs) (numbers-append symbols xs ys)
-    ∙ sym (append_assoc (option_to_list (symbol_place s symbols)) (numbers_of symbols xs) (numbers_of symbols ys))
+    ap (λ zs. option_to_list (symbol_position s symbols) ++ zs) (numbers-append symbols xs ys)
+    ∙ sym (append_assoc (option_to_list (symbol_position s symbols)) (numbers_of symbols xs) (numbers_of symbols ys))
 
 numbers_called : (symbols : List Name) (x : Option Instance) → numbers_of symbols (called_by x) ≡ option_to_list (callee_number symbols x)
 numbers_called symbols None = refl
-numbers_called symbols (Some i) = append-nil (option_to_list (symbol_place i.symbol symbols))
+numbers_called symbols (Some i) = append-nil (option_to_list (symbol_position i.symbol symbols))
 
 -- one more operation
 pub calls_more : (symbols : List Name) (os : List Op) (j : ℕ) (number : Option ℕ) → IsCalleeAt symbols os j number
@@ -81,9 +81,9 @@ stored_all modules k lists all are =
 
 -- ---- numbers and symbols
 
-pub place_found : (d : Design) (s : Name) (i : ℕ) → symbol_place s (symbols_in d) ≡ Some i → (m : Module) × (slice_get d i ≡ Some m) × (m.symbol ≡ s) × (find_module d s ≡ Some m)
-place_found [] s i is = cc
-place_found (m ∷ d) s i is = go (same_name s m.symbol) refl is (place_found d s)
+pub position_found : (d : Design) (s : Name) (i : ℕ) → symbol_position s (symbols_in d) ≡ Some i → (m : Module) × (slice_get d i ≡ Some m) × (m.symbol ≡ s) × (find_module d s ≡ Some m)
+position_found [] s i is = cc
+position_found (m ∷ d) s i is = go (same_name s m.symbol) refl is (position_found d s)
   where
     symmetric : (a b : Name) (t : Bool) → same_name a b ≡ t → same_name b a ≡ t
     symmetric a b true is = let e : a ≡ b = same_text a b (sym is) in ap₂ same_name (sym e) e ∙ is
@@ -93,15 +93,15 @@ place_found (m ∷ d) s i is = go (same_name s m.symbol) refl is (place_found d 
         by_test true yes_is = absurd (other_text a b (sym is) (sym (same_text b a (sym yes_is))))
         by_test false no_is = no_is
 
-    go : (t : Bool) → same_name s m.symbol ≡ t → cond t (Some 0) (option_map suc (symbol_place s (symbols_in d))) ≡ Some i
-        → ((j : ℕ) → symbol_place s (symbols_in d) ≡ Some j → (n : Module) × (slice_get d j ≡ Some n) × (n.symbol ≡ s) × (find_module d s ≡ Some n))
+    go : (t : Bool) → same_name s m.symbol ≡ t → cond t (Some 0) (option_map suc (symbol_position s (symbols_in d))) ≡ Some i
+        → ((j : ℕ) → symbol_position s (symbols_in d) ≡ Some j → (n : Module) × (slice_get d j ≡ Some n) × (n.symbol ≡ s) × (find_module d s ≡ Some n))
         → (n : Module) × (slice_get (m ∷ d) i ≡ Some n) × (n.symbol ≡ s) × (find_module (m ∷ d) s ≡ Some n)
     go true same at rest =
         let first : i ≡ 0 = cc in
         (m, ap (slice_get (m ∷ d)) first, sym (same_text s m.symbol (sym same)), ap (λ t. cond t (Some m) (find_module d s)) (symmetric s m.symbol true same))
-    go false same at rest = later (symbol_place s (symbols_in d)) refl at
+    go false same at rest = later (symbol_position s (symbols_in d)) refl at
       where
-        later : (x : Option ℕ) → symbol_place s (symbols_in d) ≡ x → option_map suc x ≡ Some i
+        later : (x : Option ℕ) → symbol_position s (symbols_in d) ≡ x → option_map suc x ≡ Some i
             → (n : Module) × (slice_get (m ∷ d) i ≡ Some n) × (n.symbol ≡ s) × (find_module (m ∷ d) s ≡ Some n)
         later None none at = cc
         later (Some j) some at =
@@ -110,44 +110,44 @@ place_found (m ∷ d) s i is = go (same_name s m.symbol) refl is (place_found d 
             (found.0, ap (slice_get (m ∷ d)) next ∙ found.1, found.2, ap (λ t. cond t (Some m) (find_module d s)) (symmetric s m.symbol false same) ∙ found.3)
 
 -- a symbol that is found has a number
-pub number_found : (d : Design) (s : Name) (m : Module) → find_module d s ≡ Some m → (i : ℕ) × (symbol_place s (symbols_in d) ≡ Some i)
+pub number_found : (d : Design) (s : Name) (m : Module) → find_module d s ≡ Some m → (i : ℕ) × (symbol_position s (symbols_in d) ≡ Some i)
 number_found [] s m is = cc
 number_found (x ∷ d) s m is = go (same_name s x.symbol) refl (number_found d s m)
   where
-    go : (t : Bool) → same_name s x.symbol ≡ t → (find_module d s ≡ Some m → (i : ℕ) × (symbol_place s (symbols_in d) ≡ Some i))
-        → (i : ℕ) × (cond t (Some 0) (option_map suc (symbol_place s (symbols_in d))) ≡ Some i)
+    go : (t : Bool) → same_name s x.symbol ≡ t → (find_module d s ≡ Some m → (i : ℕ) × (symbol_position s (symbols_in d) ≡ Some i))
+        → (i : ℕ) × (cond t (Some 0) (option_map suc (symbol_position s (symbols_in d))) ≡ Some i)
     go true same rest = (0, refl)
     go false same rest = again (same_name x.symbol s) refl is
       where
-        again : (t : Bool) → same_name x.symbol s ≡ t → cond t (Some x) (find_module d s) ≡ Some m → (i : ℕ) × (option_map suc (symbol_place s (symbols_in d)) ≡ Some i)
+        again : (t : Bool) → same_name x.symbol s ≡ t → cond t (Some x) (find_module d s) ≡ Some m → (i : ℕ) × (option_map suc (symbol_position s (symbols_in d)) ≡ Some i)
         again true back found = absurd (other_text s x.symbol (sym same) (sym (same_text x.symbol s (sym back))))
         again false back found = let at = rest found in (suc at.0, ap (option_map suc) at.1)
 
-pub In-numbers : (symbols : List Name) (s : Name) (i : ℕ) (ss : List Name) → In s ss → symbol_place s symbols ≡ Some i → In i (numbers_of symbols ss)
+pub In-numbers : (symbols : List Name) (s : Name) (i : ℕ) (ss : List Name) → In s ss → symbol_position s symbols ≡ Some i → In i (numbers_of symbols ss)
 In-numbers symbols s i [] here at = absurd here
 In-numbers symbols s i (t ∷ ts) (inl same) at =
-    In-append_left i (option_to_list (symbol_place t symbols)) (numbers_of symbols ts)
-    (subst (λ x. In i (option_to_list x)) (sym (ap (λ z. symbol_place z symbols) (sym same) ∙ at)) (inl refl))
+    In-append_left i (option_to_list (symbol_position t symbols)) (numbers_of symbols ts)
+    (subst (λ x. In i (option_to_list x)) (sym (ap (λ z. symbol_position z symbols) (sym same) ∙ at)) (inl refl))
 In-numbers symbols s i (t ∷ ts) (inr here) at =
-    In-append_right i (option_to_list (symbol_place t symbols)) (numbers_of symbols ts) (In-numbers symbols s i ts here at)
+    In-append_right i (option_to_list (symbol_position t symbols)) (numbers_of symbols ts) (In-numbers symbols s i ts here at)
 
-pub from_In-numbers : (symbols : List Name) (i : ℕ) (ss : List Name) → In i (numbers_of symbols ss) → (s : Name) × In s ss × (symbol_place s symbols ≡ Some i)
+pub from_In-numbers : (symbols : List Name) (i : ℕ) (ss : List Name) → In i (numbers_of symbols ss) → (s : Name) × In s ss × (symbol_position s symbols ≡ Some i)
 from_In-numbers symbols i [] here = absurd here
-from_In-numbers symbols i (t ∷ ts) here = go (In-append_cases i (option_to_list (symbol_place t symbols)) (numbers_of symbols ts) here) (from_In-numbers symbols i ts)
+from_In-numbers symbols i (t ∷ ts) here = go (In-append_cases i (option_to_list (symbol_position t symbols)) (numbers_of symbols ts) here) (from_In-numbers symbols i ts)
   where
-    first : (x : Option ℕ) → symbol_place t symbols ≡ x → In i (option_to_list x) → (s : Name) × In s (t ∷ ts) × (symbol_place s symbols ≡ Some i)
+    first : (x : Option ℕ) → symbol_position t symbols ≡ x → In i (option_to_list x) → (s : Name) × In s (t ∷ ts) × (symbol_position s symbols ≡ Some i)
     first None is never = absurd never
     first (Some k) is (inl same) = (t, inl refl, is ∙ ap Some (sym same))
     first (Some k) is (inr never) = absurd never
 
-    go : In i (option_to_list (symbol_place t symbols)) ⊎ In i (numbers_of symbols ts) → (In i (numbers_of symbols ts) → (s : Name) × In s ts × (symbol_place s symbols ≡ Some i))
-        → (s : Name) × In s (t ∷ ts) × (symbol_place s symbols ≡ Some i)
-    go (inl here) rest = first (symbol_place t symbols) refl here
+    go : In i (option_to_list (symbol_position t symbols)) ⊎ In i (numbers_of symbols ts) → (In i (numbers_of symbols ts) → (s : Name) × In s ts × (symbol_position s symbols ≡ Some i))
+        → (s : Name) × In s (t ∷ ts) × (symbol_position s symbols ≡ Some i)
+    go (inl here) rest = first (symbol_position t symbols) refl here
     go (inr here) rest = let found = rest here in (found.0, inr found.1, found.2)
 
 module _ (d : Design) where
   abbrev pub number : Name → Option ℕ
-  number s = symbol_place s (symbols_in d)
+  number s = symbol_position s (symbols_in d)
 
   pub call_edges : (i : ℕ) (m : Module) → slice_get d i ≡ Some m → edges (call_lists d) i ≡ numbers_of (symbols_in d) (callee_symbols m.body)
   call_edges i m at =
@@ -158,7 +158,7 @@ module _ (d : Design) where
   pub chain_numbers : (k : ℕ) (s t : Name) (i j : ℕ) → Chain (calls d) k s t → number s ≡ Some i → number t ≡ Some j → Chain (edges (call_lists d)) k i j
   chain_numbers zero s t i j same at to = let e : Some i ≡ Some j = sym at ∙ ap number same ∙ to in cc
   chain_numbers (suc k) s t i j (c, need, chain) at to =
-      let here = place_found d s i at in
+      let here = position_found d s i at in
       let named : In c (callee_symbols here.0.body) = subst (λ o. In c (callee_symbols (body_of o))) here.3 need in
       let is = numbered_name k c chain in
       (is.0, subst (In is.0) (sym (call_edges i here.0 here.1)) (In-numbers (symbols_in d) c is.0 (callee_symbols here.0.body) named is.1), chain_numbers k c t is.0 j chain is.1 to)
@@ -182,12 +182,12 @@ module _ (d : Design) where
         go : (x : Option ℕ) → number m.symbol ≡ x → (number m.symbol ≡ Some i) × (find_module d m.symbol ≡ Some m)
         go None none = absurd (missing d i at none)
           where
-            missing : (e : Design) (k : ℕ) → slice_get e k ≡ Some m → symbol_place m.symbol (symbols_in e) ≡ None → ⊥
+            missing : (e : Design) (k : ℕ) → slice_get e k ≡ Some m → symbol_position m.symbol (symbols_in e) ≡ None → ⊥
             missing [] k is none = cc
             missing (x ∷ e) zero is none =
                 let same : x ≡ m = cc in
                 let test : same_name m.symbol x.symbol ≡ true = ap (λ (y : Module). same_name m.symbol y.symbol) same ∙ same_self m.symbol in
-                let found : Some 0 ≡ None = ap (λ t. cond t (Some 0) (option_map suc (symbol_place m.symbol (symbols_in e)))) (sym test) ∙ none in
+                let found : Some 0 ≡ None = ap (λ t. cond t (Some 0) (option_map suc (symbol_position m.symbol (symbols_in e)))) (sym test) ∙ none in
                 cc
               where
                 same_self : (n : Name) → same_name n n ≡ true
@@ -198,15 +198,15 @@ module _ (d : Design) where
                     by_test false is = absurd (other_text n n (sym is) refl)
             missing (x ∷ e) (suc k) is none = later (same_name m.symbol x.symbol) none (missing e k is)
               where
-                later : (t : Bool) → cond t (Some 0) (option_map suc (symbol_place m.symbol (symbols_in e))) ≡ None → (symbol_place m.symbol (symbols_in e) ≡ None → ⊥) → ⊥
+                later : (t : Bool) → cond t (Some 0) (option_map suc (symbol_position m.symbol (symbols_in e))) ≡ None → (symbol_position m.symbol (symbols_in e) ≡ None → ⊥) → ⊥
                 later true none rest = cc
-                later false none rest = rest (by_place (symbol_place m.symbol (symbols_in e)) none)
+                later false none rest = rest (by_position (symbol_position m.symbol (symbols_in e)) none)
                   where
-                    by_place : (x : Option ℕ) → option_map suc x ≡ None → x ≡ None
-                    by_place None is = refl
-                    by_place (Some n) is = cc
+                    by_position : (x : Option ℕ) → option_map suc x ≡ None → x ≡ None
+                    by_position None is = refl
+                    by_position (Some n) is = cc
         go (Some j) some =
-            let there = place_found d m.symbol j some in
+            let there = position_found d m.symbol j some in
             let same : j ≡ i = distinct j i there.0 m there.1 at there.2 in
             let both : Some there.0 ≡ Some m = sym there.1 ∙ ap (slice_get d) same ∙ at in
             (some ∙ ap Some same, there.3 ∙ both)
@@ -216,7 +216,7 @@ module _ (d : Design) where
     chain_symbols zero i j m n at to same = let e : Some m ≡ Some n = sym at ∙ ap (slice_get d) same ∙ to in let f : m ≡ n = cc in ap (λ (x : Module). x.symbol) f
     chain_symbols (suc k) i j m n at to (c, need, chain) =
         let named = from_In-numbers (symbols_in d) c (callee_symbols m.body) (subst (In c) (call_edges i m at) need) in
-        let there = place_found d named.0 c named.2 in
+        let there = position_found d named.0 c named.2 in
         let found = found_at i m at in
         let call : In named.0 (calls d m.symbol) = subst (λ o. In named.0 (callee_symbols (body_of o))) (sym found.1) named.1 in
         let rest : Chain (calls d) k there.0.symbol n.symbol = chain_symbols k c j there.0 n there.1 to chain in

@@ -85,7 +85,7 @@ bits_step_open bit_set first count old new more adds is now = bits_open bit_set 
 
 -- ---- one list after another
 
--- the numbers of bits are in the lists before a place, and those from there on are as they were
+-- the numbers of bits are in the lists before a position, and those from there on are as they were
 pub record HasAdded (bit_sets : List ℕ) (nodes : List (Option ℕ)) (first count k : ℕ) (old new : List (List ℕ)) : Type 0 where
   pub size : length new ≡ length old
   pub added : (j : ℕ) (from : Option ℕ) → j < k → slice_get nodes j ≡ Some from → AddsBits (bit_set_of bit_sets from) first count (edges old j) (edges new j)
@@ -155,15 +155,15 @@ added_step bit_sets nodes first count k bit_set node old mid x y has below at th
 module _ (lists : List (List ℕ)) (done part bit_sets : List ℕ) (are : AreBitSets lists part bit_sets) (from : Option ℕ) (first : ℕ) (counted : first ≡ length done) (old new : List ℕ)
     (inputs : AreInputs lists done from old) (adds : AddsBits (bit_set_of bit_sets from) first (length part) old new) where
   of_bit : (node : Option ℕ) → from ≡ node → (x y : ℕ) → y ≡ first + x → IsSet (bit_set_of bit_sets node) x → (v : ℕ) × (slice_get (done ++ part) y ≡ Some v) × LeadsTo lists from v
-  of_bit None is x y place set = let e : bit_at 0 x ≡ 0 = bit_at-zero x in let f : bit_at 0 x ≡ 1 = set.is_one in cc
-  of_bit (Some a) is x y place set =
+  of_bit None is x y position set = let e : bit_at 0 x ≡ 0 = bit_at-zero x in let f : bit_at 0 x ≡ 1 = set.is_one in cc
+  of_bit (Some a) is x y position set =
       let leads = are.sound a x set in
       let spot : y ≡ length done + x = omega arith in
       (leads.0, ap (slice_get (done ++ part)) spot ∙ slice_get-append_right done part x ∙ leads.1, (a, is, leads.2))
 
   sound : (y : ℕ) → In y old ⊎ ((x : ℕ) × (y ≡ first + x) × (x < length part) × IsSet (bit_set_of bit_sets from) x) → (v : ℕ) × (slice_get (done ++ part) y ≡ Some v) × LeadsTo lists from v
   sound y (inl had) = let found = inputs.sound y had in (found.0, slice_get-append_some done part y found.0 found.1, found.2)
-  sound y (inr (x, place, below, set)) = of_bit from refl x y place set
+  sound y (inr (x, position, below, set)) = of_bit from refl x y position set
 
   complete : (y v : ℕ) → slice_get (done ++ part) y ≡ Some v → v < length lists → LeadsTo lists from v → (y < length done) ⊎ (length done ≤ y) → In y new
   complete y v at below leads (inl before) = adds.kept y (inputs.complete y v (sym (slice_get-append_left done part y before) ∙ at) below leads)

@@ -23,11 +23,11 @@ use Rattle.design_cycles.specs.Asked.{HasDistinctSymbols, IsCyclicAt}
 use Rattle.graphs.specs.Graphs.{lists_of, edges, has_mark, AreReached}
 use Rattle.design_cycles.specs.Graphs.{ReturnsWithin}
 use Rattle.design_cycles.specs.Nodes.{bit_sets_by, sizes_in, AreSpans, body_lists, IsLayout}
-use Rattle.design_cycles.specs.Places.{symbol_at}
+use Rattle.design_cycles.specs.Positions.{symbol_at}
 use Rattle.design_cycles.specs.Summing.{KnowsCallees}
 use Rattle.graphs.proofs.Marking.{lists_at, length-lists, edges_within}
 use Rattle.ir_store.proofs.StoredModules.{stored_at}
-use Rattle.design_cycles.proofs.Callees.{number_found, place_found, found_at}
+use Rattle.design_cycles.proofs.Callees.{number_found, position_found, found_at}
 use Rattle.design_cycles.proofs.Known.{found, known_inner, lists_found}
 use Rattle.design_cycles.proofs.Summed.{returning_depends, depending_returns}
 use Rattle.design_cycles.proofs.Inside.{no_cycle_anywhere}
@@ -180,7 +180,7 @@ none_cyclic d finite none = no_cycle_anywhere d nowhere finite
         go None is = let e : None ≡ Some has.0 = ap (λ x. slice_get (body_of x) j) (sym is) ∙ has.1 in cc
         go (Some m) is =
             let at = number_found d s m is in
-            let there = place_found d s at.0 at.1 in
+            let there = position_found d s at.0 at.1 in
             none at.0 j (record {
               module_there = there.0;
               number = k;

@@ -84,8 +84,8 @@ module _ (inputs : List ℕ) (v : ℕ) (old mid : List ℕ) (gives : GivesBits i
       from : (w x : ℕ) → IsSet (bit_set_at mid w) x ⊎ ((w ≡ v) × IsSet bit x) → IsSet (bit_set_at old w) x ⊎ (slice_get (inputs ++ v ∷ []) x ≡ Some w)
       from w x (inl had) = earlier w x (gives.from w x had)
       from w x (inr own) =
-          let place : x ≡ number = bit_cases x own.1 in
-          inr (ap (slice_get (inputs ++ v ∷ [])) place ∙ slice_get-append_at inputs v [] ∙ ap Some (sym own.0))
+          let position : x ≡ number = bit_cases x own.1 in
+          inr (ap (slice_get (inputs ++ v ∷ [])) position ∙ slice_get-append_at inputs v [] ∙ ap Some (sym own.0))
 
       own_bit : IsSet bit number
       own_bit = record { is_one = sym (bit_at_clean number) ∙ bit_at_set_same w64 0 number few }

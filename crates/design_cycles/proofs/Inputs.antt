@@ -85,16 +85,16 @@ from_input p (q ∷ qs) x v at = go q.is_output refl (λ y is. from_input (suc p
         → slice_get (cond b (inputs_from (suc p) qs) (p ∷ inputs_from (suc p) qs)) x ≡ Some v → (j : ℕ) × (v ≡ p + j) × IsInput (q ∷ qs) j x
     go true out rest x at =
         let found = rest x at in
-        let place : v ≡ p + suc found.0 = omega (arith, found.1) in
-        (suc found.0, place, later found.0 x found.2 x (ap (λ b. cond b x (suc x)) out))
+        let position : v ≡ p + suc found.0 = omega (arith, found.1) in
+        (suc found.0, position, later found.0 x found.2 x (ap (λ b. cond b x (suc x)) out))
     go false plain rest zero at =
         let same : p ≡ v = cc in
-        let place : v ≡ p + 0 = omega arith in
-        (0, place, record { port_there = q; has_port = refl; is_in = plain; number = refl })
+        let position : v ≡ p + 0 = omega arith in
+        (0, position, record { port_there = q; has_port = refl; is_in = plain; number = refl })
     go false plain rest (suc y) at =
         let found = rest y at in
-        let place : v ≡ p + suc found.0 = omega (arith, found.1) in
-        (suc found.0, place, later found.0 y found.2 (suc y) (ap (λ b. cond b y (suc y)) plain))
+        let position : v ≡ p + suc found.0 = omega (arith, found.1) in
+        (suc found.0, position, later found.0 y found.2 (suc y) (ap (λ b. cond b y (suc y)) plain))
 
 pub to_input : (p : ℕ) (qs : List Port) (j x : ℕ) → IsInput qs j x → slice_get (inputs_from p qs) x ≡ Some (p + j)
 to_input p [] j x input = let e : None ≡ Some input.port_there = input.has_port in cc
@@ -102,20 +102,20 @@ to_input p (q ∷ qs) zero x input =
     let same : q ≡ input.port_there = let e : Some q ≡ Some input.port_there = input.has_port in cc in
     let plain : q.is_output ≡ false = ap (λ (y : Port). y.is_output) same ∙ input.is_in in
     let first : x ≡ 0 = sym input.number in
-    let place : p ≡ p + 0 = omega arith in
-    ap (slice_get (inputs_from p (q ∷ qs))) first ∙ ap (λ b. slice_get (cond b (inputs_from (suc p) qs) (p ∷ inputs_from (suc p) qs)) 0) plain ∙ ap Some place
+    let position : p ≡ p + 0 = omega arith in
+    ap (slice_get (inputs_from p (q ∷ qs))) first ∙ ap (λ b. slice_get (cond b (inputs_from (suc p) qs) (p ∷ inputs_from (suc p) qs)) 0) plain ∙ ap Some position
 to_input p (q ∷ qs) (suc j) x input = go q.is_output (λ y i. to_input (suc p) qs j y i) input.number
   where
-    place : suc p + j ≡ p + suc j
-    place = omega arith
+    position : suc p + j ≡ p + suc j
+    position = omega arith
 
     go : (b : Bool) → ((y : ℕ) → IsInput qs j y → slice_get (inputs_from (suc p) qs) y ≡ Some (suc p + j))
         → cond b (input_count (take j qs)) (suc (input_count (take j qs))) ≡ x
         → slice_get (cond b (inputs_from (suc p) qs) (p ∷ inputs_from (suc p) qs)) x ≡ Some (p + suc j)
-    go true rest is = rest x (record { port_there = input.port_there; has_port = input.has_port; is_in = input.is_in; number = is }) ∙ ap Some place
+    go true rest is = rest x (record { port_there = input.port_there; has_port = input.has_port; is_in = input.is_in; number = is }) ∙ ap Some position
     go false rest is =
         ap (slice_get (p ∷ inputs_from (suc p) qs)) (sym is)
-        ∙ rest (input_count (take j qs)) (record { port_there = input.port_there; has_port = input.has_port; is_in = input.is_in; number = refl }) ∙ ap Some place
+        ∙ rest (input_count (take j qs)) (record { port_there = input.port_there; has_port = input.has_port; is_in = input.is_in; number = refl }) ∙ ap Some position
 
 -- ---- numbers of marked nodes
 
@@ -157,7 +157,7 @@ from_numbers marks n (v ∷ vs) x here = go (has_mark marks v) refl here (from_n
   where
     later : ((i w : ℕ) × (x ≡ suc n + i) × (slice_get vs i ≡ Some w) × (has_mark marks w ≡ true))
         → (i w : ℕ) × (x ≡ n + i) × (slice_get (v ∷ vs) i ≡ Some w) × (has_mark marks w ≡ true)
-    later (i, w, place, at, is) = let e : x ≡ n + suc i = omega arith in (suc i, w, e, at, is)
+    later (i, w, position, at, is) = let e : x ≡ n + suc i = omega arith in (suc i, w, e, at, is)
 
     go : (b : Bool) → has_mark marks v ≡ b → In x (cond b (n ∷ reached_numbers marks (suc n) vs) (reached_numbers marks (suc n) vs))
         → (In x (reached_numbers marks (suc n) vs) → (i w : ℕ) × (x ≡ suc n + i) × (slice_get vs i ≡ Some w) × (has_mark marks w ≡ true))
@@ -197,7 +197,7 @@ inputs_reached lists inputs a marks marks' numbers reached same are = record {
 
     sound : (x : ℕ) → ((i v : ℕ) × (x ≡ 0 + i) × (slice_get inputs i ≡ Some v) × (has_mark marks v ≡ true))
         → (v : ℕ) × (slice_get inputs x ≡ Some v) × LeadsTo lists (Some a) v
-    sound x (i, v, place, at, is) = let e : x ≡ i = omega arith in (v, ap (slice_get inputs) e ∙ at, from v (reached.sound v is))
+    sound x (i, v, position, at, is) = let e : x ≡ i = omega arith in (v, ap (slice_get inputs) e ∙ at, from v (reached.sound v is))
 
     complete : (x v : ℕ) → slice_get inputs x ≡ Some v → v < length lists → LeadsTo lists (Some a) v → In x numbers
     complete x v at below leads =
@@ -222,20 +222,20 @@ outputs-push : (lists : List (List ℕ)) (inputs : List ℕ) (nodes : List (Opti
     → AreInputs lists inputs node numbers → AreOutputs lists inputs (nodes ++ node ∷ []) (outputs ++ numbers ∷ [])
 outputs-push lists inputs nodes outputs node numbers are one = record {
   count = length-append outputs (numbers ∷ []) ∙ ap (λ n. n + 1) are.count ∙ sym (length-append nodes (node ∷ []));
-  each = λ k from at. by_place k from at (grind arith);
+  each = λ k from at. by_position k from at (grind arith);
 }
   where
     same_count : length outputs ≡ length nodes
     same_count = are.count
 
-    by_place : (k : ℕ) (from : Option ℕ) → slice_get (nodes ++ node ∷ []) k ≡ Some from → (k < length nodes) ⊎ (length nodes ≤ k)
+    by_position : (k : ℕ) (from : Option ℕ) → slice_get (nodes ++ node ∷ []) k ≡ Some from → (k < length nodes) ⊎ (length nodes ≤ k)
         → AreInputs lists inputs from (edges (outputs ++ numbers ∷ []) k)
-    by_place k from at (inl before) =
+    by_position k from at (inl before) =
         let was : slice_get nodes k ≡ Some from = sym (slice_get-append_left nodes (node ∷ []) k before) ∙ at in
         let kept : edges (outputs ++ numbers ∷ []) k ≡ edges outputs k =
         get_or_from_slice_get (outputs ++ numbers ∷ []) k (edges outputs k) [] (slice_get-append_left outputs (numbers ∷ []) k (omega arith) ∙ slice_get-get_or outputs k [] (omega arith)) in
         subst (AreInputs lists inputs from) (sym kept) (are.each k from was)
-    by_place k from at (inr past) =
+    by_position k from at (inr past) =
         let bound : k < length (nodes ++ node ∷ []) = slice_get_within (nodes ++ node ∷ []) k from at in
         let size : length (nodes ++ node ∷ []) ≡ length nodes + 1 = length-append nodes (node ∷ []) in
         let last : k ≡ length nodes = omega arith in

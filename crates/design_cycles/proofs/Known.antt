@@ -11,7 +11,7 @@ use Rattle.hw_model.specs.Sound.{body_of, ports_of}
 use Rattle.hw_model.specs.Hierarchy.{callee_symbols, calls}
 use Rattle.ir_store.specs.declared.design.Module.{Module as CodeModule}
 use Rattle.ir_store.specs.declared.operation.Value.{Value}
-use Rattle.ir_store.specs.Symbols.{symbol_place}
+use Rattle.ir_store.specs.Symbols.{symbol_position}
 use Rattle.ir_store.specs.Bodies.{ids_of, ops_of}
 use Rattle.ir_store.specs.Numbered.{position_of, ref_by, ops_by_position}
 use Rattle.ir_store.specs.Designs.{StoredModule, module_of, numbered_module, port_of}
@@ -23,10 +23,10 @@ use Rattle.graphs.specs.Graphs.{edges, has_mark}
 use Rattle.design_cycles.specs.Graphs.{AreCalled}
 use Rattle.design_cycles.specs.Local.{IsSummary}
 use Rattle.design_cycles.specs.Nodes.{bit_sets_of, bit_sets_at, bit_sets_by, sizes_in, body_lists, node_ref, value_node, table_by, IsLayout}
-use Rattle.design_cycles.specs.Places.{symbol_of, symbol_at}
+use Rattle.design_cycles.specs.Positions.{symbol_of, symbol_at}
 use Rattle.design_cycles.specs.Summing.{inputs_from, AreOutputs, IsSummed, KnowsCallees}
 use Rattle.design_cycles.specs.Weighing.{IsWhole}
-use Rattle.design_cycles.proofs.Callees.{call_edges, place_found, number_found, In-numbers, found_at}
+use Rattle.design_cycles.proofs.Callees.{call_edges, position_found, number_found, In-numbers, found_at}
 use Rattle.design_cycles.proofs.NodeValues.{value_is}
 use Rattle.design_cycles.proofs.Pushing.{sizes_count}
 use Rattle.ir_store.proofs.StoredModules.{stored_at}
@@ -47,7 +47,7 @@ module _ (d : Design) (summaries : List Summary) where
       none_some : {r : Ref} → None ≡ Some r → ⊥
       none_some e = cc
 
-  find_absent : (s : Name) → symbol_place s (symbols_in d) ≡ None → find_module d s ≡ None
+  find_absent : (s : Name) → symbol_position s (symbols_in d) ≡ None → find_module d s ≡ None
   find_absent s none = go (find_module d s) refl
     where
       go : (o : Option Module) → find_module d s ≡ o → find_module d s ≡ None
@@ -55,34 +55,34 @@ module _ (d : Design) (summaries : List Summary) where
       go (Some m) is = let has = number_found d s m is in let never : Some has.0 ≡ None = sym has.1 ∙ none in cc
 
   pub known_by : (top : Name)
-      → ((s : Name) (t : ℕ) → In s (calls d top) → symbol_place s (symbols_in d) ≡ Some t → IsSummed d (bit_sets_of (slice_get summaries t)) t)
+      → ((s : Name) (t : ℕ) → In s (calls d top) → symbol_position s (symbols_in d) ≡ Some t → IsSummed d (bit_sets_of (slice_get summaries t)) t)
       → KnowsCallees d (bit_sets_by (symbols_in d) summaries) top
-  known_by top each s named = go (symbol_place s (symbols_in d)) refl
+  known_by top each s named = go (symbol_position s (symbols_in d)) refl
     where
-      shown : IsSummary d (λ _ k. edges (bit_sets_at summaries (symbol_place s (symbols_in d))) k) s → IsSummary d (table_by (bit_sets_by (symbols_in d) summaries)) s
+      shown : IsSummary d (λ _ k. edges (bit_sets_at summaries (symbol_position s (symbols_in d))) k) s → IsSummary d (table_by (bit_sets_by (symbols_in d) summaries)) s
       shown is = record { sound = λ k x here. is.sound k x here; complete = λ k x feeds. is.complete k x feeds }
 
-      go : (o : Option ℕ) → symbol_place s (symbols_in d) ≡ o → IsSummary d (table_by (bit_sets_by (symbols_in d) summaries)) s
+      go : (o : Option ℕ) → symbol_position s (symbols_in d) ≡ o → IsSummary d (table_by (bit_sets_by (symbols_in d) summaries)) s
       go None none = shown (subst (λ o. IsSummary d (λ _ k. edges (bit_sets_at summaries o) k) s) (sym none) (absent_summed s (find_absent s none)))
-      go (Some t) place =
-          let there = place_found d s t place in
-          let summed : IsSummary d (λ _ k. edges (bit_sets_at summaries (Some t)) k) there.0.symbol = each s t named place there.0 there.1 in
-          shown (subst (λ o. IsSummary d (λ _ k. edges (bit_sets_at summaries o) k) s) (sym place) (subst (IsSummary d (λ _ k. edges (bit_sets_at summaries (Some t)) k)) there.2 summed))
+      go (Some t) position =
+          let there = position_found d s t position in
+          let summed : IsSummary d (λ _ k. edges (bit_sets_at summaries (Some t)) k) there.0.symbol = each s t named position there.0 there.1 in
+          shown (subst (λ o. IsSummary d (λ _ k. edges (bit_sets_at summaries o) k) s) (sym position) (subst (IsSummary d (λ _ k. edges (bit_sets_at summaries (Some t)) k)) there.2 summed))
 
 -- a module that is instanced, by number, and one that instances it
-pub called_edge : (d : Design) (top s : Name) (t : ℕ) → In s (calls d top) → symbol_place s (symbols_in d) ≡ Some t
-    → (i : ℕ) × (symbol_place top (symbols_in d) ≡ Some i) × In t (edges (call_lists d) i)
-called_edge d top s t named place = go (find_module d top) refl named
+pub called_edge : (d : Design) (top s : Name) (t : ℕ) → In s (calls d top) → symbol_position s (symbols_in d) ≡ Some t
+    → (i : ℕ) × (symbol_position top (symbols_in d) ≡ Some i) × In t (edges (call_lists d) i)
+called_edge d top s t named position = go (find_module d top) refl named
   where
     go : (o : Option Module) → find_module d top ≡ o → In s (callee_symbols (body_of o))
-        → (i : ℕ) × (symbol_place top (symbols_in d) ≡ Some i) × In t (edges (call_lists d) i)
+        → (i : ℕ) × (symbol_position top (symbols_in d) ≡ Some i) × In t (edges (call_lists d) i)
     go None is never = absurd never
     go (Some m) is here =
         let at = number_found d top m is in
-        let there = place_found d top at.0 at.1 in
+        let there = position_found d top at.0 at.1 in
         let same : Some there.0 ≡ Some m = sym there.3 ∙ is in
         let module_is : there.0 ≡ m = cc in
-        (at.0, at.1, subst (In t) (sym (call_edges d at.0 m (there.1 ∙ ap Some module_is))) (In-numbers (symbols_in d) s t (callee_symbols m.body) here place))
+        (at.0, at.1, subst (In t) (sym (call_edges d at.0 m (there.1 ∙ ap Some module_is))) (In-numbers (symbols_in d) s t (callee_symbols m.body) here position))
 
 module _ (modules : List StoredModule) (distinct : HasDistinctSymbols (map numbered_module modules)) where
   abbrev design : Design
@@ -91,18 +91,18 @@ module _ (modules : List StoredModule) (distinct : HasDistinctSymbols (map numbe
   abbrev symbols : List Name
   symbols = map (λ (m : StoredModule). m.symbol) modules
 
-  number_there : (s : Name) (t : ℕ) → symbol_place s (symbols_in design) ≡ Some t → t < length (call_lists design)
-  number_there s t place =
-      let there = place_found design s t place in
+  number_there : (s : Name) (t : ℕ) → symbol_position s (symbols_in design) ≡ Some t → t < length (call_lists design)
+  number_there s t position =
+      let there = position_found design s t position in
       let bound : t < length design = slice_get_within design t there.0 there.1 in
       let size : length design ≡ length modules = length-map modules numbered_module in
       let count : length (call_lists design) ≡ length modules = count_modules modules 0 in
       omega arith
 
-  symbol_number : (i : ℕ) → i < length modules → symbol_place (symbol_at modules i) (symbols_in design) ≡ Some i
+  symbol_number : (i : ℕ) → i < length modules → symbol_position (symbol_at modules i) (symbols_in design) ≡ Some i
   symbol_number i below = go (slice_get modules i) refl
     where
-      go : (o : Option StoredModule) → slice_get modules i ≡ o → symbol_place (symbol_of (slice_get modules i)) (symbols_in design) ≡ Some i
+      go : (o : Option StoredModule) → slice_get modules i ≡ o → symbol_position (symbol_of (slice_get modules i)) (symbols_in design) ≡ Some i
       go None none = absurd (nothing modules i below none)
         where
           nothing : (ms : List StoredModule) (k : ℕ) → k < length ms → slice_get ms k ≡ None → ⊥
@@ -110,7 +110,7 @@ module _ (modules : List StoredModule) (distinct : HasDistinctSymbols (map numbe
           nothing (m ∷ ms) zero inside is = cc
           nothing (m ∷ ms) (suc k) inside is = nothing ms k (omega arith) is
       go (Some m) at =
-          ap (λ o. symbol_place (symbol_of o) (symbols_in design)) at ∙ (found_at design distinct i (numbered_module m) (stored_at modules i m (sym at))).0
+          ap (λ o. symbol_position (symbol_of o) (symbols_in design)) at ∙ (found_at design distinct i (numbered_module m) (stored_at modules i m (sym at))).0
 
   -- ---- the modules in order
 
@@ -129,13 +129,13 @@ module _ (modules : List StoredModule) (distinct : HasDistinctSymbols (map numbe
         (subst (λ ss. KnowsCallees design (bit_sets_by (symbols_in design) ss) (symbol_at modules (get_or order k 0))) (sym same)
         (known_by design summaries (symbol_at modules (get_or order k 0)) each))
       where
-        each : (s : Name) (t : ℕ) → In s (calls design (symbol_at modules (get_or order k 0))) → symbol_place s (symbols_in design) ≡ Some t
+        each : (s : Name) (t : ℕ) → In s (calls design (symbol_at modules (get_or order k 0))) → symbol_position s (symbols_in design) ≡ Some t
             → IsSummed design (bit_sets_of (slice_get summaries t)) t
-        each s t named place =
-            let edge = called_edge design (symbol_at modules (get_or order k 0)) s t named place in
+        each s t named position =
+            let edge = called_edge design (symbol_at modules (get_or order k 0)) s t named position in
             let one : Some edge.0 ≡ Some (get_or order k 0) = sym edge.1 ∙ symbol_number (get_or order k 0) within in
             let number_is : edge.0 ≡ get_or order k 0 = cc in
-            let there : t < length (call_lists design) = number_there s t place in
+            let there : t < length (call_lists design) = number_there s t position in
             let need : In t (edges (call_lists design) (get_or order k 0)) = subst (λ i. In t (edges (call_lists design) i)) number_is edge.2 in
             before t (whole.following k (get_or order k 0) t (slice_get-get_or order k 0 below) need there) (are.all (get_or order k 0) t need there)
 
@@ -145,11 +145,11 @@ module _ (modules : List StoredModule) (distinct : HasDistinctSymbols (map numbe
     all_known summaries k all before top =
         subst (λ ss. KnowsCallees design (bit_sets_by ss summaries) top) (sym (symbols_stored modules)) (known_by design summaries top each)
       where
-        each : (s : Name) (t : ℕ) → In s (calls design top) → symbol_place s (symbols_in design) ≡ Some t
+        each : (s : Name) (t : ℕ) → In s (calls design top) → symbol_position s (symbols_in design) ≡ Some t
             → IsSummed design (bit_sets_of (slice_get summaries t)) t
-        each s t named place =
-            let edge = called_edge design top s t named place in
-            let there : t < length (call_lists design) = number_there s t place in
+        each s t named position =
+            let edge = called_edge design top s t named position in
+            let there : t < length (call_lists design) = number_there s t position in
             before t (subst (In t) (sym (take_all k order all)) (whole.all t there)) (are.all edge.0 t edge.2 there)
 
     -- one more module
@@ -200,7 +200,7 @@ module _ (modules : List StoredModule) (distinct : HasDistinctSymbols (map numbe
 
           go : (v : ℕ) (b : Bool) → eqb v (get_or order k 0) ≡ b → (v ≡ get_or order k 0) ⊎ In v (take k order) → has_mark marks v ≡ true
               → IsSummed design (bit_sets_of (slice_get (set summaries (get_or order k 0) one) v)) v
-          go v true same place mark =
+          go v true same position mark =
               let e : v ≡ get_or order k 0 = eqb-true v (get_or order k 0) same in
               subst (λ i. IsSummed design (bit_sets_of (slice_get (set summaries (get_or order k 0) one) i)) i) (sym e)
               (subst (λ o. IsSummed design (bit_sets_of o) (get_or order k 0)) (sym (get_same summaries (get_or order k 0) inside)) summed)

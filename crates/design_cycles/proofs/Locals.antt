@@ -71,8 +71,8 @@ module _ (d : Design) (top : Name) where
   abbrev os : List Op
   os = body_of (find_module d top)
 
-  abbrev place : ℕ → ℕ
-  place j = length (instances (take j os))
+  abbrev position : ℕ → ℕ
+  position j = length (instances (take j os))
 
   -- ---- an instance in the body
 
@@ -80,29 +80,29 @@ module _ (d : Design) (top : Name) where
     callee_is : callee d o ≡ find_module d i.symbol
     callee_is = ap (λ y. option_and_then (λ (z : Instance). find_module d z.symbol) y) inst
 
-    stands : module_at d top (place j ∷ []) ≡ find_module d i.symbol
+    stands : module_at d top (position j ∷ []) ≡ find_module d i.symbol
     stands =
-        module_inside d (place j) (find_module d top) ∙ ap (λ y. option_and_then (callee d) y) (instance_found os j o i there inst) ∙ callee_is
+        module_inside d (position j) (find_module d top) ∙ ap (λ y. option_and_then (callee d) y) (instance_found os j o i there inst) ∙ callee_is
 
-    joined_is : (q : ℕ) → option_and_then (joined_at d (place j) q) (module_at d top []) ≡ port_ref (ports_of (find_module d i.symbol)) o.operands q
+    joined_is : (q : ℕ) → option_and_then (joined_at d (position j) q) (module_at d top []) ≡ port_ref (ports_of (find_module d i.symbol)) o.operands q
     joined_is q =
-        joined_body d (place j) q (find_module d top) ∙ ap (λ y. option_and_then (joined_ref d q) y) (instance_found os j o i there inst)
+        joined_body d (position j) q (find_module d top) ∙ ap (λ y. option_and_then (joined_ref d q) y) (instance_found os j o i there inst)
         ∙ ap (λ m. option_and_then (λ (c : Module). port_ref c.ports o.operands q) m) callee_is ∙ port_of (find_module d i.symbol) o.operands q
 
     given_is : (k : ℕ) → given_ref d k o ≡ slice_get (output_refs (body_of (find_module d i.symbol))) k
     given_is k = ap (λ m. option_and_then (λ (c : Module). slice_get (output_refs c.body) k) m) callee_is ∙ output_of (find_module d i.symbol) k
 
-    port_needs : (q : ℕ) (b : Net) → In b (needs d top (net (place j ∷ []) (port q)))
+    port_needs : (q : ℕ) (b : Net) → In b (needs d top (net (position j ∷ []) (port q)))
         → (r : Ref) × (x : ℕ) × IsInput (ports_of (find_module d i.symbol)) q x × (slice_get o.operands x ≡ Some r) × (b ≡ net [] r)
     port_needs q b here =
-        let out = copied [] (option_and_then (joined_at d (place j) q) (module_at d top [])) b here in
+        let out = copied [] (option_and_then (joined_at d (position j) q) (module_at d top [])) b here in
         let from = port_ref_from (ports_of (find_module d i.symbol)) o.operands q out.0 (sym (joined_is q) ∙ out.1) in
         (out.0, from.0, from.1, from.2, out.2)
 
     port_joined : (q x : ℕ) (r : Ref) → IsInput (ports_of (find_module d i.symbol)) q x → slice_get o.operands x ≡ Some r
-        → In (net [] r) (needs d top (net (place j ∷ []) (port q)))
+        → In (net [] r) (needs d top (net (position j ∷ []) (port q)))
     port_joined q x r input is =
-        let joins : option_and_then (joined_at d (place j) q) (module_at d top []) ≡ Some r =
+        let joins : option_and_then (joined_at d (position j) q) (module_at d top []) ≡ Some r =
         joined_is q ∙ port_ref_is (ports_of (find_module d i.symbol)) o.operands q x input ∙ is in
         subst (λ y. In (net [] r) (needs_of (copy_of [] y))) (sym joins) (inl refl)
 
@@ -123,7 +123,7 @@ module _ (d : Design) (top : Name) where
     data Next (j k : ℕ) (c : Net) : Type 0 where
       plain : (r : Ref) → c ≡ net [] r → In r (local (result j k)) → Next j k c
       enters : (o : Op) (i : Instance) → slice_get os j ≡ Some o → is_register o ≡ false → instance_in o.kind ≡ Some i → (r : Ref)
-          → slice_get (output_refs (body_of (find_module d i.symbol))) k ≡ Some r → c ≡ net (place j ∷ []) r → Next j k c
+          → slice_get (output_refs (body_of (find_module d i.symbol))) k ≡ Some r → c ≡ net (position j ∷ []) r → Next j k c
 
     next : (j k : ℕ) (c : Net) → In c (needs d top (net [] (result j k))) → Next j k c
     next j k c need = by_op (slice_get os j) refl (subst (λ s. In c (needs_of s)) (result_here d top [] j k) need)
@@ -148,8 +148,8 @@ module _ (d : Design) (top : Name) where
         by_sort o there (a_register f r n x) here = by_held (base d top [] + body_state (state d) (take j os)) (result_type o k) (simp r at here)
         by_sort o there (an_instance i r n x) here =
             let plainly : is_register o ≡ false = simp r in
-            let here' : In c (needs_of (copy_of (place j ∷ []) (given_ref d k o))) = simp (r, n) (simp (r, n) at here) in
-            let into = copied (place j ∷ []) (given_ref d k o) c here' in
+            let here' : In c (needs_of (copy_of (position j ∷ []) (given_ref d k o))) = simp (r, n) (simp (r, n) at here) in
+            let into = copied (position j ∷ []) (given_ref d k o) c here' in
             enters o i there plainly n into.0 (sym (given_is j o i there n k) ∙ into.1) into.2
         by_sort o there (an_output r n x) here = absurd (simp (r, n, x) at here)
         by_sort o there (a_made r n x) here =
@@ -175,12 +175,12 @@ module _ (d : Design) (top : Name) where
         by_leaving : ((m : ℕ) (x y : Ref) → m ≤ bound → Chain (needs d top) m (net [] x) (net [] y) → Along m x y)
             → (j k : ℕ) (o : Op) (i : Instance) (there : slice_get os j ≡ Some o) → is_register o ≡ false → (inst : instance_in o.kind ≡ Some i) → (r : Ref)
             → slice_get (output_refs (body_of (find_module d i.symbol))) k ≡ Some r
-            → Leaves d top (place j) i.symbol (stands j o i there inst) n (net [] r) (net [] b) → Along (suc n) (result j k) b
-        by_leaving later j k o i there unregistered inst r given (stays x same inner) = absurd (lift_away (place j) x b same)
+            → Leaves d top (position j) i.symbol (stands j o i there inst) n (net [] r) (net [] b) → Along (suc n) (result j k) b
+        by_leaving later j k o i there unregistered inst r given (stays x same inner) = absurd (lift_away (position j) x b same)
         by_leaving later j k o i there unregistered inst r given (leaves q m e s inner out outer size) =
             let joins = port_needs j o i there inst q (net [] s) out in
             let feeds : Feeds d i.symbol k joins.1 =
-            record { given = r; place = q; steps = m; gives = given; takes = joins.2; chain = inner } in
+            record { given = r; position = q; steps = m; gives = given; takes = joins.2; chain = inner } in
             let named : In i.symbol (calls d top) = called_In os o i (In-slice_get o os j there) inst in
             let listed : In joins.1 (table i.symbol k) = (summary i.symbol named).complete k joins.1 feeds in
             let wire : In joins.0 (local (result j k)) =
@@ -193,7 +193,7 @@ module _ (d : Design) (top : Name) where
             first_wire n j k r b wire (later n r b (omega arith) (subst (λ z. Chain (needs d top) n z (net [] b)) is chain))
         by_next later j k (enters o i there unregistered inst r given is) =
             by_leaving later j k o i there unregistered inst r given
-            (chain_leaves d top (place j) i.symbol (stands j o i there inst) n (net [] r) (net [] b) (subst (λ z. Chain (needs d top) n z (net [] b)) is chain))
+            (chain_leaves d top (position j) i.symbol (stands j o i there inst) n (net [] r) (net [] b) (subst (λ z. Chain (needs d top) n z (net [] b)) is chain))
 
         by_ref : ((m : ℕ) (x y : Ref) → m ≤ bound → Chain (needs d top) m (net [] x) (net [] y) → Along m x y) → (a : Ref) → In c (needs d top (net [] a)) → Along (suc n) a b
         by_ref later (port j) here = absurd (subst (In c) (no_needs_port d top j) here)
@@ -221,22 +221,22 @@ module _ (d : Design) (top : Name) where
             let named : In i.symbol (calls d top) = called_In os o i (In-slice_get o os j there) inst in
             let feeds : Feeds d i.symbol k found.0 = (summary i.symbol named).sound k found.0 found.1 in
             let given : given_ref d k o ≡ Some feeds.given = given_is j o i there inst k ∙ feeds.gives in
-            let source : needs d top (net [] (result j k)) ≡ needs_of (copy_of (place j ∷ []) (given_ref d k o)) =
+            let source : needs d top (net [] (result j k)) ≡ needs_of (copy_of (position j ∷ []) (given_ref d k o)) =
             ap needs_of (result_here d top [] j k) ∙ ap (λ z. needs_of (result_in d top [] os j k z)) there ∙ by_sort o i r inst in
-            let enter : In (net (place j ∷ []) feeds.given) (needs d top (net [] (result j k))) =
-            subst (In (net (place j ∷ []) feeds.given)) (sym (source ∙ ap (λ z. needs_of (copy_of (place j ∷ []) z)) given)) (inl refl) in
-            let through = chain_lifts d top (place j) i.symbol (stands j o i there inst) feeds.steps (net [] feeds.given) (net [] (port feeds.place)) feeds.chain in
-            let out : In (net [] b) (needs d top (net (place j ∷ []) (port feeds.place))) = port_joined j o i there inst feeds.place found.0 b feeds.takes found.2 in (
+            let enter : In (net (position j ∷ []) feeds.given) (needs d top (net [] (result j k))) =
+            subst (In (net (position j ∷ []) feeds.given)) (sym (source ∙ ap (λ z. needs_of (copy_of (position j ∷ []) z)) given)) (inl refl) in
+            let through = chain_lifts d top (position j) i.symbol (stands j o i there inst) feeds.steps (net [] feeds.given) (net [] (port feeds.position)) feeds.chain in
+            let out : In (net [] b) (needs d top (net (position j ∷ []) (port feeds.position))) = port_joined j o i there inst feeds.position found.0 b feeds.takes found.2 in (
               feeds.steps + 1,
               (
-                net (place j ∷ []) feeds.given,
+                net (position j ∷ []) feeds.given,
                 enter,
-                Chain-append (needs d top) feeds.steps 1 (net (place j ∷ []) feeds.given) (net (place j ∷ []) (port feeds.place)) (net [] b) through (net [] b, out, refl),
+                Chain-append (needs d top) feeds.steps 1 (net (position j ∷ []) feeds.given) (net (position j ∷ []) (port feeds.position)) (net [] b) through (net [] b, out, refl),
               ),
             )
           where
             by_sort : (o : Op) (i : Instance) → is_register o ≡ false → instance_in o.kind ≡ Some i
-                → needs_of (op_in d top [] os j k o) ≡ needs_of (copy_of (place j ∷ []) (given_ref d k o))
+                → needs_of (op_in d top [] os j k o) ≡ needs_of (copy_of (position j ∷ []) (given_ref d k o))
             by_sort o i r inst = simp (r, inst) refl
 
         by_sort : (o : Op) → slice_get os j ≡ Some o → Sort o.kind → In b (cond (is_register o) [] (op_wires table o k (instance_in o.kind)))
@@ -294,10 +294,10 @@ module _ (d : Design) (top : Name) where
     feeds_from_local k x f = go (from_wires f.steps f.given (port f.at) f.chain)
       where
         go : Reached f.steps f.given (port f.at) → Feeds d top k x
-        go (reached m rest long) = record { given = f.given; place = f.at; steps = m; gives = f.gives; takes = f.takes; chain = rest }
+        go (reached m rest long) = record { given = f.given; position = f.at; steps = m; gives = f.gives; takes = f.takes; chain = rest }
 
     pub feeds_to_local : (k x : ℕ) → Feeds d top k x → FeedsLocally k x
-    feeds_to_local k x f = go (to_wires f.steps f.steps f.given (port f.place) (omega arith) f.chain)
+    feeds_to_local k x f = go (to_wires f.steps f.steps f.given (port f.position) (omega arith) f.chain)
       where
-        go : Along f.steps f.given (port f.place) → FeedsLocally k x
-        go (along m wires long) = record { given = f.given; at = f.place; steps = m; gives = f.gives; takes = f.takes; chain = wires }
+        go : Along f.steps f.given (port f.position) → FeedsLocally k x
+        go (along m wires long) = record { given = f.given; at = f.position; steps = m; gives = f.gives; takes = f.takes; chain = wires }

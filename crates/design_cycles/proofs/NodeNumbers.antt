@@ -57,11 +57,11 @@ result_at_node start i (n ∷ ns) zero k v is = go (nat_lt k n) refl is
     go true test at =
         let e : start + k ≡ v = cc in
         let below : k < n = below_of k n test in
-        let place : v - start ≡ k = omega arith in
+        let offset : v - start ≡ k = omega arith in
         let size : length (op_refs i 0 n) ≡ n = length-op_refs i 0 n in
         let number : 0 + k ≡ k = omega arith in
         let position : i ≡ i + 0 = omega arith in
-        ap (slice_get (op_refs i 0 n ++ result_refs (suc i) ns)) place
+        ap (slice_get (op_refs i 0 n ++ result_refs (suc i) ns)) offset
         ∙ slice_get-append_left (op_refs i 0 n) (result_refs (suc i) ns) k (omega arith)
         ∙ op_at_node i 0 n k below ∙ ap (λ m. Some (result i m)) number ∙ ap (λ m. Some (result m k)) position
     go false test at = cc
@@ -69,10 +69,10 @@ result_at_node start i (n ∷ ns) (suc j) k v is =
     let rest : slice_get (result_refs (suc i) ns) (v - (start + n)) ≡ Some (result (suc i + j) k) = result_at_node (start + n) (suc i) ns j k v is in
     let bound : start + n ≤ v = node_from (start + n) ns j k v is in
     let size : length (op_refs i 0 n) ≡ n = length-op_refs i 0 n in
-    let place : v - start - length (op_refs i 0 n) ≡ v - (start + n) = omega arith in
+    let offset : v - start - length (op_refs i 0 n) ≡ v - (start + n) = omega arith in
     let position : suc i + j ≡ i + suc j = omega arith in
     slice_get-append_past (op_refs i 0 n) (result_refs (suc i) ns) (v - start) (omega arith)
-    ∙ ap (slice_get (result_refs (suc i) ns)) place ∙ rest ∙ ap (λ m. Some (result m k)) position
+    ∙ ap (slice_get (result_refs (suc i) ns)) offset ∙ rest ∙ ap (λ m. Some (result m k)) position
 
 pub ref_at_node : (ports : ℕ) (sizes : List ℕ) (r : Ref) (v : ℕ) → node_ref ports sizes r ≡ Some v → slice_get (body_refs ports sizes) v ≡ Some r
 ref_at_node ports sizes (port p) v is = go (nat_lt p ports) refl is
@@ -89,10 +89,10 @@ ref_at_node ports sizes (port p) v is = go (nat_lt p ports) refl is
 ref_at_node ports sizes (result j k) v is =
     let bound : ports ≤ v = node_from ports sizes j k v is in
     let size : length (port_refs 0 ports) ≡ ports = length-port_refs 0 ports in
-    let place : v - length (port_refs 0 ports) ≡ v - ports = omega arith in
+    let offset : v - length (port_refs 0 ports) ≡ v - ports = omega arith in
     let position : 0 + j ≡ j = omega arith in
     slice_get-append_past (port_refs 0 ports) (result_refs 0 sizes) v (omega arith)
-    ∙ ap (slice_get (result_refs 0 sizes)) place ∙ result_at_node ports 0 sizes j k v is ∙ ap (λ m. Some (result m k)) position
+    ∙ ap (slice_get (result_refs 0 sizes)) offset ∙ result_at_node ports 0 sizes j k v is ∙ ap (λ m. Some (result m k)) position
 ref_at_node ports sizes undefined v is = cc
 
 -- ---- nodes of values

@@ -29,7 +29,7 @@ use Rattle.design_cycles.specs.Asked.{HasDistinctSymbols, IsCyclicAt}
 use Rattle.design_cycles.specs.InOrder.{StandsBefore, StandsAfter, IsInOrder, is_numbered, is_at_its_number, is_before, IsLate}
 use Rattle.design_cycles.specs.Local.{where_typed, op_wires, result_wires, wires}
 use Rattle.design_cycles.specs.Nodes.{bit_sets_by, table_by}
-use Rattle.design_cycles.specs.Places.{symbol_at}
+use Rattle.design_cycles.specs.Positions.{symbol_at}
 use Rattle.design_cycles.specs.declared.ops.Sort.{Sort}
 use Rattle.design_cycles.specs.declared.ops.Sort.TheVariants.{Register, Calls, Gives, Made}
 use Rattle.design_cycles.specs.Sorts.{holds}

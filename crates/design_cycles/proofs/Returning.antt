@@ -13,20 +13,20 @@ use Rattle.hw_model.specs.Design.{Op, Module, Design, find_module, instance_in}
 use Rattle.hw_model.specs.Sound.{body_of}
 use Rattle.hw_model.specs.Hierarchy.{callee_symbols, called_by, calls, HasNoRecursion}
 use Rattle.hw_model.proofs.Gone.{called_In}
-use Rattle.ir_store.specs.Symbols.{symbol_place}
+use Rattle.ir_store.specs.Symbols.{symbol_position}
 use Rattle.ir_store.specs.declared.operation.OpId.{OpId}
 use Rattle.ir_store.specs.BodyOps.{ids_in}
 use Rattle.ir_store.specs.Bodies.{op_id}
 use Rattle.ir_store.specs.Numbered.{ops_by_position}
 use Rattle.ir_store.specs.Designs.{StoredModule, numbered_module}
 use Rattle.ir_store.proofs.StoredModules.{stored_at}
-use Rattle.design_cycles.specs.Places.{IsFirstOp, IsFirst, ids_at, ids_of_module}
+use Rattle.design_cycles.specs.Positions.{IsFirstOp, IsFirst, ids_at, ids_of_module}
 use Rattle.design_cycles.specs.Asked.{HasDistinctSymbols, Returns, IsRecursiveAt}
 use Rattle.design_cycles.specs.Calls.{symbols_in, call_lists, callee_number, IsCalleeAt, IsFoundAt}
 use Rattle.graphs.specs.Graphs.{edges, has_mark, AreReached}
 use Rattle.design_cycles.specs.Graphs.{LeadsTo}
 use Rattle.graphs.specs.Orders.{IsOrder}
-use Rattle.design_cycles.proofs.Callees.{number, call_edges, place_found, number_found, In-numbers, chain_numbers, found_at, chain_symbols}
+use Rattle.design_cycles.proofs.Callees.{number, call_edges, position_found, number_found, In-numbers, chain_numbers, found_at, chain_symbols}
 use Rattle.graphs.proofs.Placing.{placed_no_cycle}
 
 -- an instance whose module is called
@@ -79,7 +79,7 @@ module _ (d : Design) (distinct : HasDistinctSymbols d) where
       by_chain zero same = (i, ap (number d) same ∙ (found_at d distinct i m at).0)
       by_chain (suc k) (c, need, chain) = found_number c need
 
-  -- a recursive instance, as one knows its place
+  -- a recursive instance, as one knows its position
   recursive_back : (i j : ℕ) (r : IsRecursiveAt d i j) → Back i r.instance_there.symbol
   recursive_back i j r = back_of i r.module_there r.instance_there.symbol r.has_module r.returns
 
@@ -94,9 +94,9 @@ module _ (d : Design) (distinct : HasDistinctSymbols d) where
   pub leads_recursive : (i j : ℕ) (m : Module) (n : Option ℕ) → slice_get d i ≡ Some m → IsCalleeAt (symbols_in d) m.body j n → LeadsTo (call_lists d) n i → IsRecursiveAt d i j
   leads_recursive i j m n at callee leads = by_instance (instance_in callee.op_there.kind) refl (sym callee.number_is ∙ leads.1)
     where
-      from : (x : Instance) → instance_in callee.op_there.kind ≡ Some x → symbol_place x.symbol (symbols_in d) ≡ Some leads.0 → (k : ℕ) → Chain (edges (call_lists d)) k leads.0 i → IsRecursiveAt d i j
-      from x inst place k chain =
-          let there = place_found d x.symbol leads.0 place in
+      from : (x : Instance) → instance_in callee.op_there.kind ≡ Some x → symbol_position x.symbol (symbols_in d) ≡ Some leads.0 → (k : ℕ) → Chain (edges (call_lists d)) k leads.0 i → IsRecursiveAt d i j
+      from x inst position k chain =
+          let there = position_found d x.symbol leads.0 position in
           let led : Chain (calls d) k there.0.symbol m.symbol = chain_symbols d distinct k leads.0 i there.0 m there.1 at chain in
           record {
             module_there = m;
@@ -117,7 +117,7 @@ module _ (d : Design) (distinct : HasDistinctSymbols d) where
       let back = recursive_back i j r in
       (back.number_of, callee_of_recursive i j m n at callee r ∙ back.is, (back.steps, back.chain))
 
-  -- a module that has a place in an order has no such instance
+  -- a module that has a position in an order has no such instance
   pub not_placed : (placed : List Bool) (nodes : List ℕ) → IsOrder (call_lists d) placed nodes → (i j : ℕ) → has_mark placed i ≡ true → IsRecursiveAt d i j → ⊥
   not_placed placed nodes order i j mark r =
       let back = recursive_back i j r in
@@ -135,7 +135,7 @@ module _ (d : Design) (distinct : HasDistinctSymbols d) where
       go None is never = absurd never
       go (Some m) is here =
           let at = number_found d s m is in
-          let there = place_found d s at.0 at.1 in
+          let there = position_found d s at.0 at.1 in
           let same : Some there.0 ≡ Some m = sym there.3 ∙ is in
           let module_is : there.0 ≡ m = cc in
           let op = from_called m.body c here in
@@ -187,7 +187,7 @@ module _ (modules : List StoredModule) (distinct : HasDistinctSymbols (map numbe
   pub position_not : (LeadsTo (call_lists design) n i → ⊥) → IsRecursiveAt design i j → ⊥
   position_not not_leads r = not_leads (recursive_leads design distinct i j (numbered_module m) n (stored_at modules i m at) callee_here r)
 
--- what holds of no place before holds of none with one more
+-- what holds of no position before holds of none with one more
 pub none_more : (P : ℕ → Type 0) (j : ℕ) → ((k : ℕ) → k < j → P k → ⊥) → (P j → ⊥) → (k : ℕ) → k < j + 1 → P k → ⊥
 none_more P j before here k below holds = go (grind arith)
   where
@@ -244,10 +244,10 @@ no_module_more P i before here k below j holds = go (grind arith)
     go (inl lower) = before k lower j holds
     go (inr same) = here j (subst (λ z. P z j) same holds)
 
--- the first place is in the first module where there is one
-pub place_found_first : (modules : List StoredModule) (P : ℕ → ℕ → Type 0) (i : ℕ) (op : OpId) → ((k : ℕ) → k < i → (j : ℕ) → P k j → ⊥) → IsFirstOp (P i) (ids_at modules i) op
+-- the first position is in the first module where there is one
+pub position_found_first : (modules : List StoredModule) (P : ℕ → ℕ → Type 0) (i : ℕ) (op : OpId) → ((k : ℕ) → k < i → (j : ℕ) → P k j → ⊥) → IsFirstOp (P i) (ids_at modules i) op
     → IsFirst modules P (record { «module» = i; op = op })
-place_found_first modules P i op before found = record { found = found; earlier = λ k j holds. not_lower k j holds }
+position_found_first modules P i op before found = record { found = found; earlier = λ k j holds. not_lower k j holds }
   where
     not_lower : (k j : ℕ) → P k j → i ≤ k
     not_lower k j holds = go (grind arith)
@@ -287,39 +287,39 @@ module _ (modules : List StoredModule) where
   distinct_found each i j m n at to same =
       let first = stored_back i m at in
       let second = stored_back j n to in
-      let one : symbol_place m.symbol (map (λ (x : StoredModule). x.symbol) modules) ≡ Some i =
-      ap (λ (x : Module). symbol_place x.symbol (map (λ (y : StoredModule). y.symbol) modules)) first.2 ∙ each i (slice_get_within modules i first.0 first.1) first.0 first.1 in
-      let two : symbol_place n.symbol (map (λ (x : StoredModule). x.symbol) modules) ≡ Some j =
-      ap (λ (x : Module). symbol_place x.symbol (map (λ (y : StoredModule). y.symbol) modules)) second.2 ∙ each j (slice_get_within modules j second.0 second.1) second.0 second.1 in
-      let both : Some i ≡ Some j = sym one ∙ ap (λ z. symbol_place z (map (λ (x : StoredModule). x.symbol) modules)) same ∙ two in
+      let one : symbol_position m.symbol (map (λ (x : StoredModule). x.symbol) modules) ≡ Some i =
+      ap (λ (x : Module). symbol_position x.symbol (map (λ (y : StoredModule). y.symbol) modules)) first.2 ∙ each i (slice_get_within modules i first.0 first.1) first.0 first.1 in
+      let two : symbol_position n.symbol (map (λ (x : StoredModule). x.symbol) modules) ≡ Some j =
+      ap (λ (x : Module). symbol_position x.symbol (map (λ (y : StoredModule). y.symbol) modules)) second.2 ∙ each j (slice_get_within modules j second.0 second.1) second.0 second.1 in
+      let both : Some i ≡ Some j = sym one ∙ ap (λ z. symbol_position z (map (λ (x : StoredModule). x.symbol) modules)) same ∙ two in
       cc
 
   pub found_distinct : HasDistinctSymbols (map numbered_module modules) → (i : ℕ) → IsFoundAt modules i
   found_distinct distinct i m at =
-      ap (symbol_place m.symbol) (symbols_stored modules)
+      ap (symbol_position m.symbol) (symbols_stored modules)
       ∙ (found_at (map numbered_module modules) distinct i (numbered_module m) (stored_at modules i m (sym at))).0
 
 module _ (modules : List StoredModule) (i : ℕ) (s : StoredModule) (at : Some s ≡ slice_get modules i) (text : Name) (is : text ≡ s.symbol) where
   abbrev symbols : List Name
   symbols = map (λ (x : StoredModule). x.symbol) modules
 
-  found_place : IsFoundAt modules i → symbol_place text symbols ≡ Some i
-  found_place found = ap (λ z. symbol_place z symbols) is ∙ found s (sym at)
+  found_position : IsFoundAt modules i → symbol_position text symbols ≡ Some i
+  found_position found = ap (λ z. symbol_position z symbols) is ∙ found s (sym at)
 
-  place_is_found : symbol_place text symbols ≡ Some i → IsFoundAt modules i
-  place_is_found place m there =
+  position_is_found : symbol_position text symbols ≡ Some i → IsFoundAt modules i
+  position_is_found position m there =
       let same : Some s ≡ Some m = at ∙ there in
       let e : s ≡ m = cc in
-      ap (λ (x : StoredModule). symbol_place x.symbol symbols) (sym e) ∙ ap (λ z. symbol_place z symbols) (sym is) ∙ place
+      ap (λ (x : StoredModule). symbol_position x.symbol symbols) (sym e) ∙ ap (λ z. symbol_position z symbols) (sym is) ∙ position
 
-  pub found_some : (first : ℕ) → Some first ≡ symbol_place text symbols → IsTrue (eqb first i) ↔ IsFoundAt modules i
-  found_some first place = (
-    λ same. place_is_found (sym place ∙ ap Some (eqb-true first i same)),
-    λ found. (let e : Some first ≡ Some i = place ∙ found_place found in eq-eqb first i cc),
+  pub found_some : (first : ℕ) → Some first ≡ symbol_position text symbols → IsTrue (eqb first i) ↔ IsFoundAt modules i
+  found_some first position = (
+    λ same. position_is_found (sym position ∙ ap Some (eqb-true first i same)),
+    λ found. (let e : Some first ≡ Some i = position ∙ found_position found in eq-eqb first i cc),
   )
 
-  pub found_none : None ≡ symbol_place text symbols → IsTrue false ↔ IsFoundAt modules i
-  found_none place = (λ never. absurd (false≢true never), λ found. (let e : None ≡ Some i = place ∙ found_place found in absurd (none_some e)))
+  pub found_none : None ≡ symbol_position text symbols → IsTrue false ↔ IsFoundAt modules i
+  found_none position = (λ never. absurd (false≢true never), λ found. (let e : None ≡ Some i = position ∙ found_position found in absurd (none_some e)))
     where
       none_some : None ≡ Some i → ⊥
       none_some e = cc

@@ -19,16 +19,16 @@ use Rattle.hw_model.specs.Weight.{leaf_count, kind_weight, body_weight, weight_o
 use Rattle.hw_model.proofs.Content.{call_heights}
 use Rattle.hw_model.proofs.Finite.{calls_within}
 use Rattle.hw_model.proofs.FieldSums.{capped_more}
-use Rattle.ir_store.specs.Symbols.{symbol_place}
+use Rattle.ir_store.specs.Symbols.{symbol_position}
 use Rattle.ir_store.specs.Designs.{StoredModule, numbered_module, port_of}
 use Rattle.ir_store.specs.declared.design.Port.{Port as CodePort}
 use Rattle.design_cycles.specs.Asked.{HasDistinctSymbols, IsTooLargeAt}
 use Rattle.design_cycles.specs.Calls.{symbols_in, numbers_of, call_lists}
 use Rattle.graphs.specs.Graphs.{edges, has_mark}
 use Rattle.graphs.specs.Orders.{IsOrder, MustWait}
-use Rattle.design_cycles.specs.Places.{FindsNumber}
+use Rattle.design_cycles.specs.Positions.{FindsNumber}
 use Rattle.design_cycles.specs.Weighing.{kept_weight, weight_by, WeighsAt, Weighs, IsWhole}
-use Rattle.design_cycles.proofs.Callees.{call_edges, place_found, number_found, In-numbers, found_at, acyclic_numbers}
+use Rattle.design_cycles.proofs.Callees.{call_edges, position_found, number_found, In-numbers, found_at, acyclic_numbers}
 use Rattle.graphs.proofs.Placing.{acyclic_complete}
 use Rattle.design_cycles.proofs.Returning.{symbols_stored}
 use Rattle.design_cycles.proofs.Capped.{leaf_count-push}
@@ -144,7 +144,7 @@ module _ (d : Design) (distinct : HasDistinctSymbols d) (finite : HasNoRecursion
       ∙ weight_agree (weight_by (symbols_in d) weights) (weight d) m (Some one) agree
       ∙ ap (λ n. min n m) (ap (weight_of (weight d)) (sym (found_at d distinct i one at).1) ∙ sym (weight_unfold d finite one.symbol))
     where
-      absent : (s : Name) → symbol_place s (symbols_in d) ≡ None → find_module d s ≡ None
+      absent : (s : Name) → symbol_position s (symbols_in d) ≡ None → find_module d s ≡ None
       absent s none = go (find_module d s) refl
         where
           go : (o : Option Module) → find_module d s ≡ o → find_module d s ≡ None
@@ -152,17 +152,17 @@ module _ (d : Design) (distinct : HasDistinctSymbols d) (finite : HasNoRecursion
           go (Some x) is = let has = number_found d s x is in let never : Some has.0 ≡ None = sym has.1 ∙ none in cc
 
       agree : (s : Name) → In s (callee_symbols one.body) → min (weight_by (symbols_in d) weights s) m ≡ min (weight d s) m
-      agree s named = go (symbol_place s (symbols_in d)) refl
+      agree s named = go (symbol_position s (symbols_in d)) refl
         where
-          go : (x : Option ℕ) → symbol_place s (symbols_in d) ≡ x → min (kept_weight weights x) m ≡ min (weight d s) m
+          go : (x : Option ℕ) → symbol_position s (symbols_in d) ≡ x → min (kept_weight weights x) m ≡ min (weight d s) m
           go None none =
               let nothing : weight d s ≡ 0 = weight_unfold d finite s ∙ ap (weight_of (weight d)) (absent s none) in omega arith
-          go (Some t) place =
-              let there = place_found d s t place in
+          go (Some t) position =
+              let there = position_found d s t position in
               let below : t < length (call_lists d) =
               (let size : length (call_lists d) ≡ length d = length-map d (λ (x : Module). numbers_of (symbols_in d) (callee_symbols x.body)) in
               let bound : t < length d = slice_get_within d t there.0 there.1 in omega arith) in
-              let edge : In t (edges (call_lists d) i) = subst (In t) (sym (call_edges d i one at)) (In-numbers (symbols_in d) s t (callee_symbols one.body) named place) in
+              let edge : In t (edges (call_lists d) i) = subst (In t) (sym (call_edges d i one at)) (In-numbers (symbols_in d) s t (callee_symbols one.body) named position) in
               let kept : slice_index weights t ≡ min (weight d there.0.symbol) m = inner t edge below there.0 there.1 in
               let same : weight d there.0.symbol ≡ weight d s = ap (weight d) there.2 in
               omega arith

@@ -83,14 +83,14 @@ module _ (d : Design) (top : Name) (bit_sets : Name → List (List ℕ)) (known 
         let input = from_input 0 ps x found.0 found.1 in
         let leads = found.2 in
         let same : found.0 ≡ input.0 = omega (arith, input.1) in
-        let place : node (port input.0) ≡ Some found.0 = input_node input.0 x input.2 ∙ ap Some (sym same) in
+        let position : node (port input.0) ≡ Some found.0 = input_node input.0 x input.2 ∙ ap Some (sym same) in
         record {
           given = given.0;
           at = input.0;
           steps = leads.2.0;
           gives = given.1;
           takes = input.2;
-          chain = wires_chain (length ps) bit_sets os leads.2.0 given.0 (port input.0) leads.0 found.0 leads.2.1 (given.2 ∙ leads.1) place;
+          chain = wires_chain (length ps) bit_sets os leads.2.0 given.0 (port input.0) leads.0 found.0 leads.2.1 (given.2 ∙ leads.1) position;
         }
 
     begins : (n : ℕ) (a b : Ref) (w : ℕ) → Chain local n a b → node b ≡ Some w → (v : ℕ) × (node a ≡ Some v)
@@ -121,9 +121,9 @@ module _ (d : Design) (top : Name) (bit_sets : Name → List (List ℕ)) (known 
 
     pub returning_depends : ReturnsWithin lists s.start s.size → (k : ℕ) × Depends d top (net [] (result j k)) (net [] (result j k))
     returning_depends (v, low, high, (m, chain)) =
-        let place : s.start + (v - s.start) ≡ v = omega arith in
+        let position : s.start + (v - s.start) ≡ v = omega arith in
         let is : node (result j (v - s.start)) ≡ Some v =
-        in_span (v - s.start) ∙ ap (λ b. cond b (Some (s.start + (v - s.start))) None) (test_true (v - s.start) s.size (omega arith)) ∙ ap Some place in (
+        in_span (v - s.start) ∙ ap (λ b. cond b (Some (s.start + (v - s.start))) None) (test_true (v - s.start) s.size (omega arith)) ∙ ap Some position in (
           v - s.start,
           wires_depend d top (table_by bit_sets) known (result j (v - s.start)) (result j (v - s.start)) (m, wires_chain (length ps) bit_sets os (suc m) (result j (v - s.start)) (result j (v - s.start)) v v chain is is),
         )
@@ -136,5 +136,5 @@ module _ (d : Design) (top : Name) (bit_sets : Name → List (List ℕ)) (known 
             let has = needing_node (length ps) bit_sets os (result j k) c need in
             let found = only_where (nat_lt k s.size) (s.start + k) has.0 (sym (in_span k) ∙ has.1) in
             let below : k < s.size = true_test k s.size found.0 in
-            let place : s.start + k ≡ has.0 = found.1 in
+            let position : s.start + k ≡ has.0 = found.1 in
             (has.0, omega arith, omega arith, (m, nodes_chain (length ps) bit_sets os (suc m) (result j k) (result j k) has.0 has.0 (c, need, chain) has.1 has.1))

@@ -59,7 +59,7 @@ pub record Spreads (lists : List (List ℕ)) (nodes old new : List ℕ) (changed
   pub kept : (v x : ℕ) → IsSet (bit_set_at old v) x → IsSet (bit_set_at new v) x
   pub progress : MatchBool changed (room_left new < room_left old) ((new ≡ old) × ((v : ℕ) → In v nodes → HasNeeds lists old v))
 
--- so until each node has the bits of what it needs
+-- bits go along edges alone and stay, until each node has the bits of what it needs
 pub record Settles (lists : List (List ℕ)) (old new : List ℕ) : Type 0 where
   pub count : length new ≡ length old
   pub sound : (inputs : List ℕ) → AreSound lists inputs old → AreSound lists inputs new

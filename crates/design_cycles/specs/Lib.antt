@@ -5,7 +5,7 @@ pub mod Hierarchies
 pub mod InOrder
 pub mod Local
 pub mod Nodes
-pub mod Places
+pub mod Positions
 pub mod BitSets
 pub mod Sizes
 pub mod Sorts

@@ -19,11 +19,11 @@ pub record IsInput (ports : List Port) (j x : ℕ) : Type 0 where
 -- the k-th output of the module of a symbol depends on its input x, or is it
 pub record Feeds (d : Design) (s : Name) (k x : ℕ) : Type 0 where
   pub given : Ref
-  pub place : ℕ
+  pub position : ℕ
   pub steps : ℕ
   pub gives : slice_get (output_refs (body_of (find_module d s))) k ≡ Some given
-  pub takes : IsInput (ports_of (find_module d s)) place x
-  pub chain : Chain (needs d s) steps (net [] given) (net [] (port place))
+  pub takes : IsInput (ports_of (find_module d s)) position x
+  pub chain : Chain (needs d s) steps (net [] given) (net [] (port position))
 
 -- the table says of the module of a symbol which inputs each output depends on
 pub record IsSummary (d : Design) (table : Name → ℕ → List ℕ) (s : Name) : Type 0 where

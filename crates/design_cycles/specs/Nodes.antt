@@ -7,7 +7,7 @@ use Rattle.hw_model.specs.Design.Ref.{port, result, undefined}
 use Rattle.ir_store.specs.declared.operation.Value.{Value}
 use Rattle.ir_store.specs.declared.operation.Value.TheVariants.{Port, Result, Undefined}
 use Rattle.ir_store.specs.PositionTables.{ArePositions}
-use Rattle.ir_store.specs.Symbols.{symbol_place}
+use Rattle.ir_store.specs.Symbols.{symbol_position}
 use Rattle.design_cycles.specs.declared.layout.Span.{Span}
 use Rattle.design_cycles.specs.declared.layout.Summary.{Summary}
 use Rattle.design_cycles.specs.declared.layout.Layout.{Layout}
@@ -25,7 +25,7 @@ bit_sets_at summaries (Some i) = bit_sets_of (slice_get summaries i)
 
 -- the lists of the module of a symbol
 abbrev pub bit_sets_by : List Name → List Summary → Name → List (List ℕ)
-bit_sets_by symbols summaries s = bit_sets_at summaries (symbol_place s symbols)
+bit_sets_by symbols summaries s = bit_sets_at summaries (symbol_position s symbols)
 
 -- how many results of an operation need others
 abbrev pub size_by : (Name → List (List ℕ)) → Op → Option Instance → ℕ

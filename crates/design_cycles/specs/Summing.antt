@@ -24,7 +24,7 @@ pub record AreInputs (lists : List (List ℕ)) (inputs : List ℕ) (from : Optio
   pub sound : (x : ℕ) → In x numbers → (v : ℕ) × (slice_get inputs x ≡ Some v) × LeadsTo lists from v
   pub complete : (x v : ℕ) → slice_get inputs x ≡ Some v → v < length lists → LeadsTo lists from v → In x numbers
 
--- so of each of the nodes
+-- the outputs are, for each of the nodes, the numbers of the inputs to which it leads
 pub record AreOutputs (lists : List (List ℕ)) (inputs : List ℕ) (nodes : List (Option ℕ)) (outputs : List (List ℕ)) : Type 0 where
   pub count : length outputs ≡ length nodes
   pub each : (k : ℕ) (from : Option ℕ) → slice_get nodes k ≡ Some from → AreInputs lists inputs from (edges outputs k)

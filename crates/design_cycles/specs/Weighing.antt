@@ -4,7 +4,7 @@ use Rattle.wiring.specs.Wiring.{In}
 use Rattle.hw_model.specs.Types.{Name}
 use Rattle.hw_model.specs.Design.{Op, Module, Design}
 use Rattle.hw_model.specs.Weight.{kind_weight, weight}
-use Rattle.ir_store.specs.Symbols.{symbol_place}
+use Rattle.ir_store.specs.Symbols.{symbol_position}
 use Rattle.graphs.specs.Graphs.{edges}
 
 -- the weight that is kept under a number, where there is one
@@ -14,7 +14,7 @@ kept_weight weights (Some i) = slice_index weights i
 
 -- the weight that is kept of the module of a symbol
 abbrev pub weight_by : List Name → List ℕ → Name → ℕ
-weight_by symbols weights s = kept_weight weights (symbol_place s symbols)
+weight_by symbols weights s = kept_weight weights (symbol_position s symbols)
 
 -- the operation at a position weighs so much, up to m
 pub record WeighsAt (inner : Name → ℕ) (os : List Op) (j m w : ℕ) : Type 0 where

@@ -8,15 +8,15 @@ ghost use Rattle.graphs.specs.Graphs.{lists_of, edges, has_mark};
 ghost use Rattle.design_cycles.specs.Graphs.{ReturnsWithin};
 ghost use Rattle.design_cycles.specs.Hierarchies.{IsHierarchy};
 ghost use Rattle.design_cycles.specs.Nodes.{bit_sets_by};
-ghost use Rattle.design_cycles.specs.Places.{Finds, FindsOp, ids_at, symbol_at};
+ghost use Rattle.design_cycles.specs.Positions.{Finds, FindsOp, ids_at, symbol_at};
 ghost use Rattle.design_cycles.specs.Summing.{KnowsCallees};
 
 use crate::calls::called_modules;
 use crate::hierarchy::Hierarchy;
 use crate::in_order::are_in_order;
 use crate::layout::{Span, Summary};
+use crate::op_site::OpSite;
 use crate::ops::read_ids;
-use crate::place::OpPlace;
 use crate::summaries::summaries_of;
 use crate::wired::wires_of;
 use graphs::{NodeList, callees_first, is_open, reached_from};
@@ -31,7 +31,7 @@ pub fn first_cycle(
     alloc: Global,
     design: &Design,
     hierarchy: &Hierarchy,
-) -> Result<Option<OpPlace>, AllocError>
+) -> Result<Option<OpSite>, AllocError>
     requires distinct { HasDistinctSymbols (design_of design.now) }
     requires hierarchy { IsHierarchy (design_of design.now) hierarchy.now }
     requires finite { HasNoRecursion (design_of design.now) }
@@ -43,7 +43,7 @@ pub fn first_cycle(
     let mut room = Vec::new(alloc);
     for module in 0..design.module_count() {
         if let Some(op) = first_in_module(alloc, design, module, summaries.as_slice(), &mut room)? {
-            return Ok(Some(OpPlace { module, op }));
+            return Ok(Some(OpSite { module, op }));
         }
     }
     Ok(None)
@@ -95,7 +95,7 @@ fn first_by_wires(
     Ok(None)
 }
 
-/// Whether one of the nodes depends on itself. One that has a place in an order does not.
+/// Whether one of the nodes depends on itself. One that has a position in an order does not.
 fn has_cycle(
     alloc: Global,
     graph: &[NodeList],

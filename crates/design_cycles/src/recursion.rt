@@ -7,11 +7,11 @@ ghost use Rattle.design_cycles.specs.Calls.{call_lists};
 ghost use Rattle.graphs.specs.Graphs.{lists_of};
 ghost use Rattle.design_cycles.specs.Graphs.{LeadsTo};
 ghost use Rattle.design_cycles.specs.Hierarchies.{IsHierarchy};
-ghost use Rattle.design_cycles.specs.Places.{Finds, FindsOp, ids_at};
+ghost use Rattle.design_cycles.specs.Positions.{Finds, FindsOp, ids_at};
 
 use crate::calls::callee_of;
 use crate::hierarchy::Hierarchy;
-use crate::place::OpPlace;
+use crate::op_site::OpSite;
 use graphs::{NodeList, is_open, reached_from};
 use ir_store::design::Design;
 use ir_store::operation::OpId;
@@ -24,17 +24,17 @@ pub fn first_recursive(
     alloc: Global,
     design: &Design,
     hierarchy: &Hierarchy,
-) -> Result<Option<OpPlace>, AllocError>
+) -> Result<Option<OpSite>, AllocError>
     requires distinct { HasDistinctSymbols (design_of design.now) }
     requires hierarchy { IsHierarchy (design_of design.now) hierarchy.now }
     ensures found { IfOk result (Finds (modules_of design.now) (IsRecursiveAt (design_of design.now))) }
-    ensures none { IfOk result (λ place. place ≡ None → HasNoRecursion (design_of design.now)) }
+    ensures none { IfOk result (λ position. position ≡ None → HasNoRecursion (design_of design.now)) }
 {
     let graph = hierarchy.calls.as_slice();
     for module in 0..design.module_count() {
         if is_open(hierarchy.order.placed.as_slice(), module) {
             if let Some(op) = first_returning(alloc, design, module, graph)? {
-                return Ok(Some(OpPlace { module, op }));
+                return Ok(Some(OpSite { module, op }));
             }
         }
     }

@@ -9,7 +9,7 @@ ghost use Rattle.ir_store.specs.Designs.{ports_in, design_of, modules_of};
 ghost use Rattle.design_cycles.specs.Asked.{HasDistinctSymbols, IsTooLargeAt};
 ghost use Rattle.design_cycles.specs.Calls.{call_lists};
 ghost use Rattle.design_cycles.specs.Hierarchies.{IsHierarchy};
-ghost use Rattle.design_cycles.specs.Places.{FindsNumber};
+ghost use Rattle.design_cycles.specs.Positions.{FindsNumber};
 ghost use Rattle.design_cycles.specs.Weighing.{kept_weight, weight_by, WeighsAt, Weighs, IsWhole};
 
 use crate::calls::callee_of;

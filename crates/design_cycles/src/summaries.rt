@@ -9,7 +9,7 @@ ghost use Rattle.design_cycles.specs.Asked.{HasDistinctSymbols};
 ghost use Rattle.design_cycles.specs.Calls.{call_lists};
 ghost use Rattle.graphs.specs.Graphs.{lists_of};
 ghost use Rattle.design_cycles.specs.Graphs.{AreCalled};
-ghost use Rattle.design_cycles.specs.Places.{symbol_at};
+ghost use Rattle.design_cycles.specs.Positions.{symbol_at};
 ghost use Rattle.design_cycles.specs.Weighing.{IsWhole};
 ghost use Rattle.design_cycles.specs.Nodes.{bit_sets_by, value_node};
 ghost use Rattle.design_cycles.specs.Summing.{inputs_from, reached_numbers, AreInputs, AreOutputs, KnowsCallees, IsSummed};

@@ -105,11 +105,11 @@ fn register(types: &[Ty], each: u64, reset: Reset) -> u64
     leaves_in(types).saturating_mul(each + more)
 }
 
-/// The type at a place, where there is one.
-fn type_at(types: &[Ty], place: usize) -> Option<&Ty>
-    ensures { option_map (λ t. type_of t.now) result ≡ slice_get (map type_of types.now) place }
+/// The type at a position, where there is one.
+fn type_at(types: &[Ty], position: usize) -> Option<&Ty>
+    ensures { option_map (λ t. type_of t.now) result ≡ slice_get (map type_of types.now) position }
 {
-    types.get(place)
+    types.get(position)
 }
 
 /// The length of an array, or 0.

@@ -67,7 +67,7 @@ module _ (md : Module) (i : ℕ) (o o' : Op) (change : InPlace md i o o') where
         port_is = λ j. refl;
         undefined_is = refl;
         anchors_are = anchors-set md.body i o o' change.there change.old_plain change.new_plain ∙ sym (map_retarget_id (anchors md.body));
-        place = other_than i;
+        position = other_than i;
         kept = λ j j' is. record {
           op = ap (slice_get (set md.body i o')) (sym (other_some i j j' is)) ∙ get_other md.body i j j' o' is ∙ sym (option_map_retarget_id (slice_get md.body j));
           before = ap (λ n. anchors (take n (set md.body i o'))) (sym (other_some i j j' is))
@@ -107,7 +107,7 @@ module _ (md : Module) (i : ℕ) (o o' : Op) (change : InPlace md i o o') where
   unfolding in_place_valid
   in_place_same = record {
     valid = in_place_valid;
-    words = λ τ holds wide j k gone. at_place τ holds wide j k (other_none i j gone);
+    words = λ τ holds wide j k gone. at_position τ holds wide j k (other_none i j gone);
   }
     where
       rest_holds : (τ : Ref → Word) → Holds (set md.body i o') τ → HoldsBut md.body τ (λ j. j ≡ i)
@@ -130,9 +130,9 @@ module _ (md : Module) (i : ℕ) (o o' : Op) (change : InPlace md i o o') where
       same_word τ holds wide k None typed = refl
       same_word τ holds wide k (Some t) typed = change.words τ (rest_holds τ holds) (wide_before τ wide) k t typed
 
-      at_place : (τ : Ref → Word) → Holds (set md.body i o') τ → Wide md.ports (set md.body i o') τ → (j k : ℕ) → j ≡ i
+      at_position : (τ : Ref → Word) → Holds (set md.body i o') τ → Wide md.ports (set md.body i o') τ → (j k : ℕ) → j ≡ i
           → word_of τ k (slice_get md.body j) ≡ Some (τ (result j k))
-      at_place τ holds wide j k here =
+      at_position τ holds wide j k here =
           let new_says : word_of τ k (slice_get (set md.body i o') i) ≡ Some (result_word τ o' k (result_type o' k)) =
           ap (word_of τ k) new_there ∙ plain_word τ k o' change.new_plain in
           let new_is : τ (result i k) ≡ result_word τ o' k (result_type o' k) = holds.result_is i k (result_word τ o' k (result_type o' k)) (λ never. never) new_says in

@@ -349,7 +349,7 @@ module _ (d d' : Design) (F : Option Module → Option Module → Type 0) (shape
     -- a settled map of the new design, seen from the old one
     pub back_settled : length d' ≡ length d
         → (inputs content : Word) (ρ : Net → Word) → ((a : Net) → ρ a ≡ reads inputs content ρ (source d' top a))
-        → ((p : Path) (j k : ℕ) → (shape_at p).edit.place j ≡ None
+        → ((p : Path) (j k : ℕ) → (shape_at p).edit.position j ≡ None
         → word_of (λ r. ρ (net p (stand_at p r))) k (slice_get (body_of (module_at d top p)) j) ≡ Some (ρ (net p (stand_at p (result j k)))))
         → (a : Net) → ρ (standing a) ≡ reads inputs content (λ b. ρ (standing b)) (source d top a)
     back_settled same inputs content ρ settled changed a = by_ref a.path a.ref
@@ -361,15 +361,15 @@ module _ (d d' : Design) (F : Option Module → Option Module → Type 0) (shape
             settled (net p (stand_at p r)) ∙ ap (reads inputs content ρ) is
             ∙ reads-map_source inputs content ρ standing (source d top (net p r))
 
-        by_place : (p : Path) (j k : ℕ) (x : Option ℕ) → (shape_at p).edit.place j ≡ x
+        by_position : (p : Path) (j k : ℕ) (x : Option ℕ) → (shape_at p).edit.position j ≡ x
             → ρ (net p (stand_at p (result j k))) ≡ reads inputs content (λ b. ρ (standing b)) (source d top (net p (result j k)))
-        by_place p j k None gone =
+        by_position p j k None gone =
             sym (word_read d top inputs content (λ b. ρ (standing b)) p j k (ρ (net p (stand_at p (result j k)))) (changed p j k gone))
-        by_place p j k (Some j') is =
+        by_position p j k (Some j') is =
             let there : Kept (body_of (module_at d top p)) (body_of (module_at d' top p)) (stand_at p) j j' = (shape_at p).edit.kept j j' is in
             stays p (result j k) (ap (λ r. source d' top (net p r)) (there.stands k) ∙ kept_same same p j j' k there)
 
         by_ref : (p : Path) (r : Ref) → ρ (net p (stand_at p r)) ≡ reads inputs content (λ b. ρ (standing b)) (source d top (net p r))
         by_ref p (port j) = stays p (port j) (ap (λ r. source d' top (net p r)) ((shape_at p).edit.port_is j) ∙ port_same p j)
         by_ref p undefined = stays p undefined (ap (λ r. source d' top (net p r)) (shape_at p).edit.undefined_is)
-        by_ref p (result j k) = by_place p j k ((shape_at p).edit.place j) refl
+        by_ref p (result j k) = by_position p j k ((shape_at p).edit.position j) refl

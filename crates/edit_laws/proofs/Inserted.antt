@@ -69,7 +69,7 @@ module _ (md : Module) (i : ℕ) (o : Op) (change : Inserted md i o) where
         port_is = λ j. refl;
         undefined_is = refl;
         anchors_are = anchors-insert (map (retarget (up_ref i)) md.body) i (retarget (up_ref i) o) change.plain ∙ anchors-retarget (up_ref i) md.body;
-        place = λ j. Some (up i j);
+        position = λ j. Some (up i j);
         kept = λ j j' is.
             let here : up i j ≡ j' = cc in
             record {

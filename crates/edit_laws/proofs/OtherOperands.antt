@@ -37,7 +37,7 @@ no_edit os = record {
   port_is = λ j. refl;
   undefined_is = refl;
   anchors_are = sym (map_retarget_id (anchors os));
-  place = λ j. Some j;
+  position = λ j. Some j;
   kept = λ j j' is.
       let same : j ≡ j' = cc in
       subst (λ z. Kept os os (λ r. r) j z) same (record {

@@ -201,7 +201,7 @@ module _ (d e : Design) (marked : Module → ℕ → Bool) (each : (s : Name) �
 -- ---- constants of a body
 
 -- a constant that an edit keeps in its place, or elsewhere, is one still
-pub constant_kept : (os os' : List Op) (edit : Edit os os') (j j' k : ℕ) → edit.place j ≡ Some j' → IsConstantOf os (result j k)
+pub constant_kept : (os os' : List Op) (edit : Edit os os') (j j' k : ℕ) → edit.position j ≡ Some j' → IsConstantOf os (result j k)
     → IsConstantOf os' (edit.stand (result j k))
 constant_kept os os' edit j j' k at is = record {
   position = j';

@@ -92,7 +92,7 @@ module _ (md : Module) (i : ℕ) (o : Op) (there : slice_get md.body i ≡ Some 
           port_is = λ j. refl;
           undefined_is = refl;
           anchors_are = anchors-retarget (without i y) (remove md.body i) ∙ ap (map (retarget (without i y))) (anchors-remove md.body i o there plain);
-          place = down i;
+          position = down i;
           kept = λ j j' is. record {
             op = old_there j j' is;
             before = ap anchors (take_map (retarget (without i y)) j' (remove md.body i)) ∙ anchors-retarget (without i y) (take j' (remove md.body i))
@@ -149,7 +149,7 @@ module _ (md : Module) (i : ℕ) (o : Op) (t : HwType) (x : Ref) (change : Erase
   unfolding taken_out_valid take_out_valid
   take_out_same = record {
     valid = take_out_valid;
-    words = λ τ holds wide j k gone. at_place τ holds wide j k (down_none i j gone) gone;
+    words = λ τ holds wide j k gone. at_position τ holds wide j k (down_none i j gone) gone;
   }
     where
       rest_holds : (τ : Ref → Word) → Holds (erase_op i x md.body) τ → HoldsBut md.body (λ r. τ (without i (without i undefined x) r)) (λ j. j ≡ i)
@@ -179,9 +179,9 @@ module _ (md : Module) (i : ℕ) (o : Op) (t : HwType) (x : Ref) (change : Erase
       by_number τ holds wide (suc k) =
           ap (result_word (λ r. τ (without i (without i undefined x) r)) o (suc k)) (change.no_more k) ∙ sym holds.undefined_is
 
-      at_place : (τ : Ref → Word) → Holds (erase_op i x md.body) τ → Wide md.ports (erase_op i x md.body) τ → (j k : ℕ) → j ≡ i → down i j ≡ None
+      at_position : (τ : Ref → Word) → Holds (erase_op i x md.body) τ → Wide md.ports (erase_op i x md.body) τ → (j k : ℕ) → j ≡ i → down i j ≡ None
           → word_of (λ r. τ (without i (without i undefined x) r)) k (slice_get md.body j) ≡ Some (τ (ref_after_erase (down i j) (without i undefined x) k))
-      at_place τ holds wide j k here gone =
+      at_position τ holds wide j k here gone =
           ap (λ n. word_of (λ r. τ (without i (without i undefined x) r)) k (slice_get md.body n)) here
           ∙ ap (word_of (λ r. τ (without i (without i undefined x) r)) k) change.there
           ∙ plain_word (λ r. τ (without i (without i undefined x) r)) k o change.plain

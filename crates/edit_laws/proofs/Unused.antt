@@ -64,7 +64,7 @@ module _ (d : Design) (m : ℕ) (md : Module) (i : ℕ) (o : Op) (valid : Valid 
   body_restored =
       ap₂ (λ xs z. insert xs i z)
       (all_restored (remove md.body i) (λ z here r named.
-      let place = position_of_In z md.body (from_In-remove md.body i z here) in unused.unnamed place.0 z r place.1 named))
+      let position = position_of_In z md.body (from_In-remove md.body i z here) in unused.unnamed position.0 z r position.1 named))
       (restored o (λ r named. unused.unnamed i o r unused.there named))
       ∙ insert-remove md.body i o unused.there
 

@@ -112,11 +112,11 @@ constant_in d m md i z t valid at_m within =
     insert_op_preserves d m md i (constant_op z t) valid at_m (record { within = within; plain = refl; fits = λ k u typed. refl })
 
 -- an operation whose word is always that of a constant becomes the constant
-pub constant_place : (d : Design) (m : ℕ) (md : Module) (i : ℕ) (o : Op) (z : ℤ) (t : HwType) → Valid d → slice_get d m ≡ Some md → slice_get md.body i ≡ Some o
+pub constant_position : (d : Design) (m : ℕ) (md : Module) (i : ℕ) (o : Op) (z : ℤ) (t : HwType) → Valid d → slice_get d m ≡ Some md → slice_get md.body i ≡ Some o
     → is_anchor o ≡ false → result_type o 0 ≡ Some t → ((k : ℕ) → result_type o (suc k) ≡ None)
     → ((τ : Ref → Word) → HoldsBut md.body τ (λ j. j ≡ i) → Wide md.ports md.body τ → result_word τ o 0 (Some t) ≡ bits_of_ℤ (width t) z)
     → Follows d (with_body d m md (set md.body i (constant_op z t)))
-constant_place d m md i o z t valid at_m there plain typed no_more always =
+constant_position d m md i o z t valid at_m there plain typed no_more always =
     replace_op_preserves d m md i o (constant_op z t) valid at_m (record {
       there = there;
       old_plain = plain;

@@ -61,10 +61,10 @@ out_is_lighter d m md i o x at_m there =
     (λ inner. let sum : kind_weight inner o.kind o.types (length o.operands) + body_weight inner (erase_op i x md.body) ≡ body_weight inner md.body = weight_taken_out inner md.body i o x there in omega arith)
 
 -- a change in place makes no module heavier where the new operation is not heavier
-pub place_is_lighter : (d : Design) (m : ℕ) (md : Module) (i : ℕ) (o new : Op) → slice_get d m ≡ Some md → slice_get md.body i ≡ Some o
+pub position_is_lighter : (d : Design) (m : ℕ) (md : Module) (i : ℕ) (o new : Op) → slice_get d m ≡ Some md → slice_get md.body i ≡ Some o
     → ((inner : Name → ℕ) → kind_weight inner new.kind new.types (length new.operands) ≤ kind_weight inner o.kind o.types (length o.operands))
     → (s : Name) → weight (with_body d m md (set md.body i new)) s ≤ weight d s
-place_is_lighter d m md i o new at_m there lighter =
+position_is_lighter d m md i o new at_m there lighter =
     weight_with_body d m md (set md.body i new) at_m
     (λ inner.
     let sum : kind_weight inner o.kind o.types (length o.operands) + body_weight inner (set md.body i new)

@@ -39,8 +39,8 @@ pub record Edit (os os' : List Op) : Type 0 where
   pub port_is : (j : ℕ) → stand (port j) ≡ port j
   pub undefined_is : stand undefined ≡ undefined
   pub anchors_are : anchors os' ≡ map (retarget stand) (anchors os)
-  pub place : ℕ → Option ℕ
-  pub kept : (j j' : ℕ) → place j ≡ Some j' → Kept os os' stand j j'
+  pub position : ℕ → Option ℕ
+  pub kept : (j j' : ℕ) → position j ≡ Some j' → Kept os os' stand j j'
 
 -- a module and what an edit of its body makes of it; its ports stay
 pub record EditedModule (old new : Option Module) : Type 0 where

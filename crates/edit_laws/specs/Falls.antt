@@ -21,7 +21,7 @@ pub record Falls (os os' : List Op) (e : Edit os os') : Type 0 where
   pub stand_is : (h : Ref → ℕ) → LocalHeight os h → (r : Ref) → lift h (e.stand r) ≤ h r
   pub port_is : (h : Ref → ℕ) → LocalHeight os h → (j : ℕ) → h (port j) ≤ lift h (port j)
   pub home : ℕ → Option ℕ
-  pub home_is : (j' j : ℕ) → home j' ≡ Some j → e.place j ≡ Some j'
+  pub home_is : (j' j : ℕ) → home j' ≡ Some j → e.position j ≡ Some j'
   pub kept_is : (h : Ref → ℕ) → LocalHeight os h → (j' j k : ℕ) → home j' ≡ Some j → h (result j k) ≤ lift h (result j' k)
   pub fresh_is : (j' : ℕ) (o : Op) → home j' ≡ None → slice_get os' j' ≡ Some o → is_anchor o ≡ false
   pub fresh_falls : (h : Ref → ℕ) → LocalHeight os h → (j' k : ℕ) (o : Op) (t : HwType) → home j' ≡ None → slice_get os' j' ≡ Some o

@@ -31,7 +31,7 @@ pub record ValidEdit (old new : Option Module) : Type 0 where
 -- for it
 pub record SameEdit (old new : Option Module) : Type 0 where
   pub valid : ValidEdit old new
-  pub words : (τ : Ref → Word) → Holds (body_of new) τ → Wide (ports_of new) (body_of new) τ → (j k : ℕ) → valid.edited.edit.place j ≡ None
+  pub words : (τ : Ref → Word) → Holds (body_of new) τ → Wide (ports_of new) (body_of new) τ → (j k : ℕ) → valid.edited.edit.position j ≡ None
       → word_of (λ r. τ (valid.edited.edit.stand r)) k (slice_get (body_of old) j) ≡ Some (τ (valid.edited.edit.stand (result j k)))
 
 -- ---- designs

@@ -75,7 +75,7 @@ pub fn remove_module_preserves()
 pub fn edits_keep_resets()
     ensures edits { (d e : Design) (marked : Module → ℕ → Bool) (each : (s : Name) → EditedModule (find_module d s) (find_module e s))
         → ((s : Name) → KeepsResetValues (find_module d s) (find_module e s) (each s)) → ResetsFromPorts d marked → ResetsFromPorts e (marks_by_symbol d marked) }
-    ensures constants { (os os' : List Op) (edit : Edit os os') (j j' k : ℕ) → edit.place j ≡ Some j' → IsConstantOf os (op_result j k)
+    ensures constants { (os os' : List Op) (edit : Edit os os') (j j' k : ℕ) → edit.position j ≡ Some j' → IsConstantOf os (op_result j k)
         → IsConstantOf os' (edit.stand (op_result j k)) }
 {}
 
@@ -86,7 +86,7 @@ pub fn edits_are_lighter()
         → ((inner : Name → ℕ) → body_weight inner os ≤ body_weight inner md.body) → (s : Name) → weight (with_body d m md os) s ≤ weight d s }
     ensures out { (d : Design) (m : ℕ) (md : Module) (i : ℕ) (o : Op) (x : Ref) → slice_get d m ≡ Some md → slice_get md.body i ≡ Some o
         → (s : Name) → weight (with_body d m md (erase_op i x md.body)) s ≤ weight d s }
-    ensures place { (d : Design) (m : ℕ) (md : Module) (i : ℕ) (o new : Op) → slice_get d m ≡ Some md → slice_get md.body i ≡ Some o
+    ensures position { (d : Design) (m : ℕ) (md : Module) (i : ℕ) (o new : Op) → slice_get d m ≡ Some md → slice_get md.body i ≡ Some o
         → ((inner : Name → ℕ) → kind_weight inner new.kind new.types (length new.operands) ≤ kind_weight inner o.kind o.types (length o.operands))
         → (s : Name) → weight (with_body d m md (set md.body i new)) s ≤ weight d s }
 {}

@@ -4,7 +4,7 @@
 //! (`specs/Edit.antt`), that it makes no cycle (`specs/Falls.antt`) and keeps types (`specs/Follows.antt`). Where each
 //! value that it changes has the word of what stands for it, each module of the design does what it did, at any depth of
 //! instances. Five edits are there to be used (`specs/Laws.antt`, `specs/Registers.antt`): an operation is changed in
-//! place, taken out with a value in the place of its result, put in, or taken out where nothing names it; and a register
+//! position, taken out with a value in the place of its result, put in, or taken out where nothing names it; and a register
 //! may load in another way. A module that nothing instances may go as well.
 #![tactic(auto)]
 

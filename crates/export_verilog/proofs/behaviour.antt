@@ -4,7 +4,7 @@ pub mod Content
 pub mod TreeBehaviour
 pub mod Nets
 pub mod Owners
-pub mod Places
+pub mod Positions
 pub mod SampleSame
 pub mod Slots
 pub mod Rises

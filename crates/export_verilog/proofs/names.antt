@@ -8,6 +8,6 @@ pub mod ModuleNames
 pub mod PortLists
 pub mod PortNames
 pub mod SameNames
-pub mod SymbolPlaces
+pub mod SymbolPositions
 pub mod Symbols
 pub mod Walking

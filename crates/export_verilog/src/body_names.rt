@@ -32,9 +32,9 @@ pub fn add_ops(
     ensures own { IfOk result (λ own. own.items ≡ body_given op_own_name (scope_ports scope.now) (scope_ops scope.now) (legal_names names.old) 0 (scope_ops scope.now)) }
 {
     let mut own = Vec::new(alloc);
-    for place in 0..scope.count() {
-        let op = scope.op_at(place);
-        let emission = emission_of(op.kind, wires.has_wire(place));
+    for position in 0..scope.count() {
+        let op = scope.op_at(position);
+        let emission = emission_of(op.kind, wires.has_wire(position));
         let given = add_op(alloc, names, &op, emission)?;
         values.push_op(given.results)?;
         own.push(given.instance)?;

@@ -49,8 +49,8 @@ fn mark_body(
     ensures { OnOk result (marks.new.items ≡ with_marks (numbers_of (map (λ m. m.symbol) (modules_of design.now)) (callee_symbols (ops_by_position (ops_of body.now)))) marks.old.items) }
 {
     let ids = ids_in(alloc, body)?;
-    for place in 0..ids.len() {
-        mark_called(design, op_at(body, ids.as_slice(), place).kind, marks);
+    for position in 0..ids.len() {
+        mark_called(design, op_at(body, ids.as_slice(), position).kind, marks);
     }
     Ok(())
 }

@@ -33,8 +33,8 @@ fn is_output_kind(kind: &OpKind) -> bool
 fn output_operands<'m>(scope: &Scope<'m>) -> &'m [Value]
     ensures { map (scope_ref scope.now) result.now ≡ output_refs (scope_ops scope.now) }
 {
-    for place in 0..scope.count() {
-        let op = scope.op_at(place);
+    for position in 0..scope.count() {
+        let op = scope.op_at(position);
         if is_output_kind(op.kind) {
             return op.operands;
         }
@@ -46,10 +46,10 @@ fn output_operands<'m>(scope: &Scope<'m>) -> &'m [Value]
 fn push_all_declarations(writer: &ModuleWriter<'_>, out: &mut Text) -> Result<(), AllocError>
     ensures { OnOk result (out.new ≡ out.old ++ items_text (each (declares (scope_module writer.now.scope)) 0 (scope_ops writer.now.scope)) []) }
 {
-    for place in 0..writer.scope.count() {
-        let op = writer.scope.op_at(place);
-        let emission = emission_of(op.kind, writer.wires.has_wire(place));
-        push_declarations(writer, out, writer.scope.id_at(place), &op, emission)?;
+    for position in 0..writer.scope.count() {
+        let op = writer.scope.op_at(position);
+        let emission = emission_of(op.kind, writer.wires.has_wire(position));
+        push_declarations(writer, out, writer.scope.id_at(position), &op, emission)?;
     }
     Ok(())
 }
@@ -58,10 +58,17 @@ fn push_all_declarations(writer: &ModuleWriter<'_>, out: &mut Text) -> Result<()
 fn push_all_statements(writer: &ModuleWriter<'_>, out: &mut Text) -> Result<(), AllocError>
     ensures { OnOk result (out.new ≡ out.old ++ items_text (each (states (design_of writer.now.design.now.design.now) (scope_module writer.now.scope)) 0 (scope_ops writer.now.scope)) []) }
 {
-    for place in 0..writer.scope.count() {
-        let op = writer.scope.op_at(place);
-        let emission = emission_of(op.kind, writer.wires.has_wire(place));
-        push_statements(writer, out, writer.scope.id_at(place), place, &op, emission)?;
+    for position in 0..writer.scope.count() {
+        let op = writer.scope.op_at(position);
+        let emission = emission_of(op.kind, writer.wires.has_wire(position));
+        push_statements(
+            writer,
+            out,
+            writer.scope.id_at(position),
+            position,
+            &op,
+            emission,
+        )?;
     }
     Ok(())
 }
@@ -76,9 +83,9 @@ fn push_outputs(
 {
     let ports = writer.scope.ports();
     let mut number: usize = 0;
-    for place in 0..ports.len() {
-        if ports[place].out {
-            let name = writer.names.ports[place].as_bytes();
+    for position in 0..ports.len() {
+        if ports[position].out {
+            let name = writer.names.ports[position].as_bytes();
             push_output(writer, out, operands, number, name)?;
             number += 1;
         }

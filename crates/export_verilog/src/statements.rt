@@ -28,7 +28,7 @@ use ir_store::design::Port;
 use ir_store::operation::{OpId, Value};
 use std::alloc::{AllocError, Global};
 
-/// Adds the declarations of an operation of a role, which stands at a place of the body (IEEE 1364-2005, 3.2: net and
+/// Adds the declarations of an operation of a role, which stands at a position of the body (IEEE 1364-2005, 3.2: net and
 /// variable declarations). The error is out of memory, as with 2^32 results or more.
 pub fn push_declarations(
     writer: &ModuleWriter<'_>,
@@ -105,12 +105,12 @@ fn push_call(
     writer: &ModuleWriter<'_>,
     out: &mut Text,
     id: OpId,
-    place: usize,
+    position: usize,
     op: &Op<'_>,
 ) -> Result<(), AllocError>
-    requires there { slice_get (scope_ops writer.now.scope) place ≡ Some (op_read writer.now.scope op.now) }
-    requires id { position_of (scope_ids writer.now.scope) id.index ≡ place }
-    ensures { OnOk result (out.new ≡ out.old ++ items_text (instance_of (design_of writer.now.design.now.design.now) (scope_module writer.now.scope) place (op_read writer.now.scope op.now) (instance_in (kind_of op.now.kind.now))) []) }
+    requires there { slice_get (scope_ops writer.now.scope) position ≡ Some (op_read writer.now.scope op.now) }
+    requires id { position_of (scope_ids writer.now.scope) id.index ≡ position }
+    ensures { OnOk result (out.new ≡ out.old ++ items_text (instance_of (design_of writer.now.design.now.design.now) (scope_module writer.now.scope) position (op_read writer.now.scope op.now) (instance_in (kind_of op.now.kind.now))) []) }
 {
     if let OpKind::Instance(instance) = op.kind {
         let called = callee_of(writer.design, instance.symbol.as_bytes());
@@ -118,7 +118,7 @@ fn push_call(
         let port_names = chosen_names(&called, made.as_slice());
         let head = InstanceHead {
             module: called.symbol,
-            name: writer.names.own[place].as_bytes(),
+            name: writer.names.own[position].as_bytes(),
         };
         push_instance(
             writer,
@@ -133,20 +133,20 @@ fn push_call(
     Ok(())
 }
 
-/// Adds the statements of an operation of a role, which stands at a place of the body: an assignment, an `always` block or
+/// Adds the statements of an operation of a role, which stands at a position of the body: an assignment, an `always` block or
 /// an instance. The error is out of memory.
 #[tactic(auto, unfolding(crate::specs::Layout::items_text))]
 pub fn push_statements(
     writer: &ModuleWriter<'_>,
     out: &mut Text,
     id: OpId,
-    place: usize,
+    position: usize,
     op: &Op<'_>,
     emission: Emission,
 ) -> Result<(), AllocError>
-    requires there { slice_get (scope_ops writer.now.scope) place ≡ Some (op_read writer.now.scope op.now) }
-    requires id { position_of (scope_ids writer.now.scope) id.index ≡ place }
-    ensures { OnOk result (out.new ≡ out.old ++ items_text (stated_as (design_of writer.now.design.now.design.now) (scope_module writer.now.scope) place (op_read writer.now.scope op.now) (emission_seen emission)) []) }
+    requires there { slice_get (scope_ops writer.now.scope) position ≡ Some (op_read writer.now.scope op.now) }
+    requires id { position_of (scope_ids writer.now.scope) id.index ≡ position }
+    ensures { OnOk result (out.new ≡ out.old ++ items_text (stated_as (design_of writer.now.design.now.design.now) (scope_module writer.now.scope) position (op_read writer.now.scope op.now) (emission_seen emission)) []) }
 {
     let value = Value::Result(id, 0);
     match emission {
@@ -156,7 +156,7 @@ pub fn push_statements(
             let name = name_text(writer, value);
             push_register(writer, out, name, op)?;
         }
-        Emission::Instance => push_call(writer, out, id, place, op)?,
+        Emission::Instance => push_call(writer, out, id, position, op)?,
     }
     Ok(())
 }

@@ -154,7 +154,7 @@ module _ (d : Design) (top : Name) (m : Module) (order : List ℕ) (flat : IsFla
       -- ---- operations
 
       module _ (i v : ℕ) (there : slice_get order i ≡ Some v) where
-        -- the nets before those of the operation at a place, and after
+        -- the nets before those of the operation at a position, and after
         split : flat_nets m.ports m.body order
             ≡ flat_nets m.ports m.body (take i order) ++ (result_nets m.body v ++ flat_map (result_nets m.body) (drop (suc i) order))
         split =
@@ -165,8 +165,8 @@ module _ (d : Design) (top : Name) (m : Module) (order : List ℕ) (flat : IsFla
         in_order : NeedsComeFirst d top [] (flat_nets m.ports m.body (take i order) ++ (result_nets m.body v ++ flat_map (result_nets m.body) (drop (suc i) order)))
         in_order = subst (λ ns. NeedsComeFirst d top [] ns) split (nets_first d top m order flat)
 
-        before_place : NeedsComeFirst d top [] (flat_nets m.ports m.body (take i order))
-        before_place = first_before d top [] (flat_nets m.ports m.body (take i order)) (result_nets m.body v ++ flat_map (result_nets m.body) (drop (suc i) order)) in_order
+        before_position : NeedsComeFirst d top [] (flat_nets m.ports m.body (take i order))
+        before_position = first_before d top [] (flat_nets m.ports m.body (take i order)) (result_nets m.body v ++ flat_map (result_nets m.body) (drop (suc i) order)) in_order
 
         module _ (o : Op) (at : slice_get m.body v ≡ Some o) (r : is_register o ≡ false) (u : is_output_op o ≡ false) (y : OpResult) (one : o.results ≡ y ∷ []) where
           typed : result_type o 0 ≡ Some y.type
@@ -197,7 +197,7 @@ module _ (d : Design) (top : Name) (m : Module) (order : List ℕ) (flat : IsFla
           takes v' results runs =
               subst₂ (λ w ns. TakesWidths o.kind w ns) (sym (ap width_of typed))
               (same_lengths (word_at (port_words 0 m.ports) results) step.after o.operands
-              (λ a here. value_long (take i order) before_place v' results runs a (operand_seen a here)))
+              (λ a here. value_long (take i order) before_position v' results runs a (operand_seen a here)))
               (made_gate_list d top m order flat x held step.after step.after_settled v 0 o at no_form (no_instance d top m order flat v o at) u y.type typed).0
 
         op_takes : (u : Circuit) (results : List (List Signal)) → Runs (results_by m.body content (port_words 0 m.ports) (take i order) (no_words (length m.body))) t u results

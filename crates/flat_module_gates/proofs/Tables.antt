@@ -35,12 +35,12 @@ module _ {A B : Type 0} (gate_lists : ℕ → List A → List B) (none : (n : �
   pub gate_lists_more : (whole done made : List B) (xs : List A) (i n m : ℕ) (x : A) → slice_get xs i ≡ Some x → whole ≡ done ++ gate_lists n (drop i xs)
       → made ≡ done ++ gate_list n x ∷ [] → m ≡ next n x → whole ≡ made ++ gate_lists m (drop (i + 1) xs)
   gate_lists_more whole done made xs i n m x at have is go =
-      let place : suc i ≡ i + 1 = omega arith in
+      let position : suc i ≡ i + 1 = omega arith in
       have ∙ ap (λ (ys : List A). done ++ gate_lists n ys) (drop_some xs i x at) ∙ ap (λ (ys : List B). done ++ ys) (more n x (drop (suc i) xs))
       ∙ sym (append_assoc done (gate_list n x ∷ []) (gate_lists (next n x) (drop (suc i) xs)))
       ∙ ap (λ (ys : List B). ys ++ gate_lists (next n x) (drop (suc i) xs)) (sym is)
       ∙ ap (λ (k : ℕ). made ++ gate_lists k (drop (suc i) xs)) (sym go)
-      ∙ ap (λ (k : ℕ). made ++ gate_lists m (drop k xs)) place
+      ∙ ap (λ (k : ℕ). made ++ gate_lists m (drop k xs)) position
 
   pub gate_lists_end : (whole done : List B) (xs : List A) (i n : ℕ) → length xs ≤ i → whole ≡ done ++ gate_lists n (drop i xs) → done ≡ whole
   gate_lists_end whole done xs i n past have =

@@ -280,8 +280,8 @@ fn load(
 {
     let count = known.len().min(old.len());
     let mut made = Vec::with_capacity(alloc, count)?;
-    for place in 0..count {
-        made.push(load_bit(gates, condition, known[place], old[place])?)?;
+    for position in 0..count {
+        made.push(load_bit(gates, condition, known[position], old[position])?)?;
     }
     Ok(made)
 }

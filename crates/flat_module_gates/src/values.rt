@@ -204,7 +204,7 @@ pub fn word_of<'w>(ops: &OpIndex<'_>, words: &'w Words, value: Value) -> &'w [Si
     }
 }
 
-// The word at a place; none where there is no such place.
+// The word at a position; none where there is no such position.
 fn word_in(words: &[SignalWord], index: usize) -> &[Signal]
     ensures { result.now ≡ slice_index_or words.now index [] }
 {

@@ -106,16 +106,16 @@ indexed os (a ∷ []) x is = cc
 indexed os (a ∷ i ∷ []) x is =
     let word = and_then_some (constant_at os i) (λ (w : Word). option_and_then (λ (c : Op). created_element (number w) c.kind c.operands) (maker os a)) is in
     let found = and_then_some (maker os a) (λ (c : Op). created_element (number word.0) c.kind c.operands) word.2 in
-    let place = made_result os a found.0 found.1 in
+    let made = made_result os a found.0 found.1 in
     let parts = create_is (number word.0) found.0.kind found.0.operands x found.2 in
     record {
-      position = place.0;
+      position = made.0;
       op = found.0;
-      there = place.2;
+      there = made.2;
       index = i;
       word = word.0;
       index_is = word.1;
-      operands = ap (λ r. r ∷ i ∷ []) place.1;
+      operands = ap (λ r. r ∷ i ∷ []) made.1;
       kind = parts.0;
       element_found = parts.1;
     }

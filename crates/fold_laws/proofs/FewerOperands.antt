@@ -28,7 +28,7 @@ use Rattle.edit_laws.specs.Follows.{Wide}
 use Rattle.edit_laws.specs.Laws.{with_body, InPlace}
 use Rattle.edit_laws.proofs.ChangeInPlace.{replace_op_preserves}
 use Rattle.edit_laws.proofs.Uses.{operand_lower}
-use Rattle.edit_laws.proofs.Weights.{place_is_lighter}
+use Rattle.edit_laws.proofs.Weights.{position_is_lighter}
 use Rattle.acceptance_laws.specs.Forms.{InPlaceFits}
 use Rattle.acceptance_laws.specs.Keeps.{IsFit}
 use Rattle.acceptance_laws.proofs.ChangedInPlace.{fit_in_place}
@@ -215,7 +215,7 @@ module _ (d : Design) (fit : IsFit d) (k : ℕ) (md : Module) (at : slice_get d 
   pub operands_put : IsSmaller (set md.body i (record o { operands = rs })) md.body → IsFold d k md (set md.body i (record o { operands = rs }))
   operands_put smaller_body = record {
     steady = operands_steady;
-    lighter = place_is_lighter d k md i o (record o { operands = rs }) at there
+    lighter = position_is_lighter d k md i o (record o { operands = rs }) at there
         (λ inner. subst (λ z. kind_weight inner z o.types (length rs) ≤ kind_weight inner z o.types (length o.operands)) (sym kind)
         (lighter v inner o.types (length o.operands) (length rs) keeps.no_more));
     smaller = smaller_body;

@@ -288,8 +288,8 @@ module _ (d : Design) (fit : IsFit d) (k : ℕ) (md : Module) (at : slice_get d 
   defined r here = go (In-splice r n.number n.inner.operands o.operands here)
     where
       go : In r n.inner.operands ⊎ In r o.operands → IsDefined md.ports md.body r
-      go (inl own) = let place = position_of_In r n.inner.operands own in each_at (IsDefined md.ports md.body) n.inner.operands place.0 r inner_printable.defined place.1
-      go (inr own) = let place = position_of_In r o.operands own in each_at (IsDefined md.ports md.body) o.operands place.0 r printable.defined place.1
+      go (inl own) = let position = position_of_In r n.inner.operands own in each_at (IsDefined md.ports md.body) n.inner.operands position.0 r inner_printable.defined position.1
+      go (inr own) = let position = position_of_In r o.operands own in each_at (IsDefined md.ports md.body) o.operands position.0 r printable.defined position.1
 
   new_prints : IsPrintableOp md.ports md.body (joined_concat o t n)
   unfolding type_count type_of_result operands_written

@@ -288,8 +288,8 @@ module _ (d : Design) (fit : IsFit d) (k : ℕ) (md : Module) (at : slice_get d 
 
   defined : (r : Ref) → In r n.inner.operands → IsDefined md.ports md.body r
   defined r here =
-      let place = position_of_In r n.inner.operands here in
-      each_at (IsDefined md.ports md.body) n.inner.operands place.0 r inner_printable.defined place.1
+      let position = position_of_In r n.inner.operands here in
+      each_at (IsDefined md.ports md.body) n.inner.operands position.0 r inner_printable.defined position.1
 
   readable : Each IsAnyType (nth_type n.inner.types 0 ∷ t ∷ [])
   readable =

@@ -50,7 +50,7 @@ y = result 1 0
 abbrev z : Ref
 z = result 2 0
 
--- ---- uses and places
+-- ---- uses and positions
 
 two_uses : use_count 0 (of_bytes add (a ∷ b ∷ []) ∷ of_bytes add (x ∷ c ∷ x ∷ []) ∷ output_of (y ∷ []) ∷ []) ≡ 2
 two_uses = refl

@@ -1,4 +1,4 @@
--- The value of an operation of any number of operands stays where the operands of a value of it stand in that value's place: sums and
+-- The value of an operation of any number of operands stays where the operands of a value of it stand in that value's position: sums and
 -- products by powers of two, bitwise operations since they are associative, joined words.
 use Rattle.std.proofs.Common.{◌≡◌, ℕ, zero, suc, ◌+◌, ◌*◌, ◌%◌, ◌^◌, Bool, true, false, ◌&&◌, ◌||◌, List, [], ◌∷◌, ◌++◌, length, map, Some, slice_get, refl, sym, ap, ◌∙◌, inr, append_assoc, mul_assoc, mul_comm, mul-one}
 use Rattle.std.proofs.Math.Nat.{mod-add-mod, add-mod-mod, mod-mod}

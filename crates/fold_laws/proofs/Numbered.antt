@@ -17,7 +17,7 @@ use Rattle.edit_laws.specs.Edit.{result_word, HoldsBut}
 use Rattle.edit_laws.specs.Follows.{Wide}
 use Rattle.edit_laws.specs.Laws.{InPlace}
 use Rattle.edit_laws.proofs.ChangeInPlace.{replace_op_preserves}
-use Rattle.edit_laws.proofs.Weights.{place_is_lighter}
+use Rattle.edit_laws.proofs.Weights.{position_is_lighter}
 use Rattle.acceptance_laws.specs.Forms.{InPlaceFits}
 use Rattle.acceptance_laws.specs.Keeps.{IsFitting, IsFit}
 use Rattle.acceptance_laws.proofs.ChangedInPlace.{fit_in_place}
@@ -96,7 +96,7 @@ module _ (d : Design) (fit : IsFit d) (k : ℕ) (md : Module) (at : slice_get d 
     steady = steady_with_body d k md (set md.body i (number_op n t o.location)) at (replace_op_preserves d k md i o (number_op n t o.location) fit.valid at change)
         (fit_in_place d k md i o (number_op n t o.location) fit at change fits)
         (shape_set md.body i o (number_op n t o.location) there (op_plain d fit k md at i o there made) refl);
-    lighter = place_is_lighter d k md i o (number_op n t o.location) at there (λ inner. makes.weighs inner);
+    lighter = position_is_lighter d k md i o (number_op n t o.location) at there (λ inner. makes.weighs inner);
     smaller = inl (measure_changed md.body i o (number_op n t o.location) there (more_than_constant o.kind (length o.operands) made));
   }
 

@@ -26,7 +26,7 @@ kind_measure _ n = 2 + 3 * n
 abbrev pub op_measure : Op → ℕ
 op_measure o = kind_measure o.kind (length o.operands)
 
--- of a body
+-- the measure of a body: the sum of its operations' measures
 abbrev pub measure : List Op → ℕ
 measure [] = 0
 measure (o ∷ os) = op_measure o + measure os

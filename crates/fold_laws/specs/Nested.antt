@@ -70,7 +70,7 @@ splice n ys [] = []
 splice zero ys (x ∷ xs) = ys ++ xs
 splice (suc n) ys (x ∷ xs) = x ∷ splice n ys xs
 
--- a new operation with one result of type t in the place of o, with its dictionary, its `bin` mark and its place
+-- a new operation with one result of type t in the place of o, with its dictionary, its `bin` mark and its position
 abbrev pub new_op : Op → Kind → List Ref → List HwType → HwType → Op
 new_op o kind rs ts t = record {
   kind = kind;

@@ -20,18 +20,18 @@ pub(crate) fn inputs(alloc: Global, first: u32, width: u32) -> Result<Vec<Signal
 /// The word of known bits that has a number.
 pub(crate) fn known(alloc: Global, number: i64, width: u32) -> Result<Vec<Signal>, AllocError> {
     let mut word = Vec::new(alloc);
-    let mut place = width;
+    let mut position = width;
     for _ in 0..width {
-        place = place.wrapping_sub(1);
-        word.push(Signal::Fixed(number.wrapping_shr(place) % 2 != 0))?;
+        position = position.wrapping_sub(1);
+        word.push(Signal::Fixed(number.wrapping_shr(position) % 2 != 0))?;
     }
     Ok(word)
 }
 
 /// Adds the bits of a number, from its least significant bit on.
 fn push_bits(values: &mut Vec<bool>, number: i64, width: u32) -> Result<(), AllocError> {
-    for place in 0..width {
-        values.push(number.wrapping_shr(place) % 2 != 0)?;
+    for position in 0..width {
+        values.push(number.wrapping_shr(position) % 2 != 0)?;
     }
     Ok(())
 }

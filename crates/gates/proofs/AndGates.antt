@@ -75,13 +75,13 @@ found_bit m g n (h ∷ gs) kept e = go (same_gate g h) refl (found_bit m g (suc 
         → (list_any (same_gate g) gs ≡ true → variable_bit m (suc n + suc (position_or_len (same_gate g) gs)) ≡ gate_bit m g)
         → variable_bit m (n + suc (position_or_len (same_gate g) (h ∷ gs))) ≡ gate_bit m g
     go true is rest =
-        let place : n + suc (cond (not true) (1 + position_or_len (same_gate g) gs) 0) ≡ suc n = omega arith in
+        let position : n + suc (cond (not true) (1 + position_or_len (same_gate g) gs) 0) ≡ suc n = omega arith in
         ap (λ u. variable_bit m (n + suc (cond (not u) (1 + position_or_len (same_gate g) gs) 0))) is
-        ∙ ap (variable_bit m) place ∙ kept.0 ∙ sym (same_gate_bit m g h is)
+        ∙ ap (variable_bit m) position ∙ kept.0 ∙ sym (same_gate_bit m g h is)
     go false is rest =
-        let place : n + suc (cond (not false) (1 + position_or_len (same_gate g) gs) 0) ≡ suc n + suc (position_or_len (same_gate g) gs) = omega arith in
+        let position : n + suc (cond (not false) (1 + position_or_len (same_gate g) gs) 0) ≡ suc n + suc (position_or_len (same_gate g) gs) = omega arith in
         ap (λ u. variable_bit m (n + suc (cond (not u) (1 + position_or_len (same_gate g) gs) 0))) is
-        ∙ ap (variable_bit m) place
+        ∙ ap (variable_bit m) position
         ∙ rest (subst (λ u. (u || list_any (same_gate g) gs) ≡ true) is e)
 
 found_within : (g : Gate) (gs : List Gate) → list_any (same_gate g) gs ≡ true → suc (position_or_len (same_gate g) gs) ≤ length gs
@@ -125,8 +125,8 @@ module _ (m : List Bool) (inputs : ℕ) (gs : List Gate) where
       go true is = found_bit m g inputs gs kept is
       go false is =
           let fresh : AreKept m (inputs + length gs) (g ∷ []) = subst (λ t. AreKept m (inputs + length gs) (cond t [] (g ∷ []))) is new in
-          let place : inputs + suc (position_or_len (same_gate g) gs) ≡ suc (inputs + length gs) = omega (arith, none_position g gs is) in
-          ap (variable_bit m) place ∙ fresh.0
+          let position : inputs + suc (position_or_len (same_gate g) gs) ≡ suc (inputs + length gs) = omega (arith, none_position g gs is) in
+          ap (variable_bit m) position ∙ fresh.0
 
   ordered_bit : (a b : Pin) → gate_bit m (ordered_gate a b) ≡ (pin_bit m a && pin_bit m b)
   ordered_bit a b = go (nat_lt a.variable b.variable)

@@ -161,6 +161,6 @@ impl Gates {
 fn variable_after(inputs: u32, index: usize) -> Option<u32>
     ensures { IfSome result (λ v. v ≡ inputs + suc index) }
 {
-    let place = u32::try_from(index).ok()?;
-    u32::try_from(u64::from(inputs) + u64::from(place) + 1).ok()
+    let position = u32::try_from(index).ok()?;
+    u32::try_from(u64::from(inputs) + u64::from(position) + 1).ok()
 }

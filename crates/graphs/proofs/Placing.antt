@@ -158,9 +158,9 @@ module _ (lists : List (List ℕ)) (candidates : List ℕ) (i : ℕ) (below : i 
       go false both =
           (both.0, λ v here. each both.1 v (In-append_cases v (take i candidates) (get_or candidates i 0 ∷ []) (subst (In v) (take_more candidates i 0 below) here)))
 
-  pub placing_place : (placed' : List Bool) (nodes' : List ℕ) (changed' : Bool) → answer ≡ true → placed' ≡ set placed (get_or candidates i 0) true
+  pub placing_position : (placed' : List Bool) (nodes' : List ℕ) (changed' : Bool) → answer ≡ true → placed' ≡ set placed (get_or candidates i 0) true
       → nodes' ≡ nodes ++ get_or candidates i 0 ∷ [] → changed' ≡ true → IsPlacing lists (take (i + 1) candidates) old placed' nodes' changed'
-  placing_place placed' nodes' changed' given p q r =
+  placing_position placed' nodes' changed' given p q r =
       rw (p, q, r) (record { order = order_more lists placed nodes (get_or candidates i 0) placing.order can; progress = fewer changed placing.progress })
     where
       can : CanBePlaced lists placed (get_or candidates i 0)
@@ -222,7 +222,7 @@ module _ (lists : List (List ℕ)) (placed : List Bool) (nodes : List ℕ) (orde
   position_before t (x ∷ xs) (suc i) (inl same) = (0, omega arith, ap Some (sym same))
   position_before t (x ∷ xs) (suc i) (inr here) = let found = position_before t xs i here in (suc found.0, omega (arith, found.1), found.2)
 
-  -- a chain from a node in the order is no longer than its place allows
+  -- a chain from a node in the order is no longer than its position allows
   chain_bound : (k i v w : ℕ) → slice_get nodes i ≡ Some v → Chain (edges lists) k v w → k ≤ suc i
   chain_bound zero i v w at chain = omega arith
   chain_bound (suc k) i v w at (t, need, chain) = by_node (grind arith) (λ j is. chain_bound k j t w is chain)

@@ -59,10 +59,10 @@ none_left (false ∷ ms) start none v below = absurd (let no : ⊥ = cc in no)
 
 module _ (lists : List (List ℕ)) (rank : ℕ → ℕ) (lower : NeedsLower lists rank) where
   -- where one is not placed, one of them may be
-  next_place : (placed : List Bool) → length placed ≡ length lists → (n v : ℕ) → rank v < n → v < length placed → has_mark placed v ≡ false
+  next_position : (placed : List Bool) → length placed ≡ length lists → (n v : ℕ) → rank v < n → v < length placed → has_mark placed v ≡ false
       → (x : ℕ) × CanBePlaced lists placed x
-  next_place placed count zero v less within fresh = absurd (omega (arith, less))
-  next_place placed count (suc n) v less within fresh = go (marked_or_open (edges lists v) placed) (next_place placed count n)
+  next_position placed count zero v less within fresh = absurd (omega (arith, less))
+  next_position placed count (suc n) v less within fresh = go (marked_or_open (edges lists v) placed) (next_position placed count n)
     where
       go : AreMarked (edges lists v) placed ⊎ HasOpen (edges lists v) placed
           → ((w : ℕ) → rank w < n → w < length placed → has_mark placed w ≡ false → (x : ℕ) × CanBePlaced lists placed x) → (x : ℕ) × CanBePlaced lists placed x
@@ -81,7 +81,7 @@ module _ (lists : List (List ℕ)) (rank : ℕ → ℕ) (lower : NeedsLower list
       go [] none rest = (placed, nodes, order, λ v below. none_left placed 0 none v (subst (λ k. v < k) (sym order.count) below))
       go (i ∷ left) is rest =
           let one = open_at placed 0 i (subst (In i) (sym is) (inl refl)) in
-          let next = next_place placed order.count (suc (rank one.0)) one.0 (omega arith) one.2 one.3 in
+          let next = next_position placed order.count (suc (rank one.0)) one.0 (omega arith) one.2 one.3 in
           let fewer : suc (open_count (set placed next.0 true)) ≡ open_count placed = open_fewer placed next.0 next.1.0 next.1.1 in
           rest (set placed next.0 true) (nodes ++ next.0 ∷ []) (omega (arith, fewer, less)) (order_more lists placed nodes next.0 order next.1)
 

@@ -57,7 +57,7 @@ fn place_all(
     }
 }
 
-/// Places each candidate all whose needs are placed, and says whether there was one.
+/// Positions each candidate all whose needs are placed, and says whether there was one.
 fn place(
     graph: &[NodeList],
     candidates: &[u32],

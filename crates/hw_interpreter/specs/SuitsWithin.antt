@@ -33,7 +33,7 @@ SuitsWithin d top inputs content (suc depth) n =
 abbrev pub SuitsUnder : Design → Name → (Net → Word) → Type 0
 SuitsUnder d top ρ = (n : Net) → SuitsSource ρ (source d top n)
 
--- and under each settled map
+-- under each settled map each net's source is as `SuitsSource` says
 abbrev pub AlwaysSuits : Design → Name → Type 0
 AlwaysSuits d top = (inputs content : Word) (ρ : Net → Word) → Settled d top inputs content ρ → SuitsUnder d top ρ
 
@@ -93,6 +93,6 @@ TakesRunAfter d top depth before content [] = ⊤
 TakesRunAfter d top depth before content (s ∷ steps) =
     TakesStep d top before s content depth × TakesRunAfter d top depth s (content_within d top before s content depth) steps
 
--- and so is each step of a run from the beginning
+-- each step of a run from the beginning is computed within a depth
 abbrev pub TakesRun : Design → Name → ℕ → Word → List Word → Type 0
 TakesRun d top depth content steps = TakesRunAfter d top depth [] content steps

@@ -1,4 +1,4 @@
-//! Designs as a program keeps them. Contracts see them by `design_of`, without names, dictionaries and places.
+//! Designs as a program keeps them. Contracts see them by `design_of`, without names, dictionaries and positions.
 
 use hw_model::kinds::OpKind;
 use hw_model::types::Ty;

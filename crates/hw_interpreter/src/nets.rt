@@ -39,7 +39,7 @@ pub struct Range {
 
 // an operation, by its position in the module at the end of a path of instances
 #[derive(Clone, Copy)]
-struct OperationPlace<'a> {
+struct OperationPosition<'a> {
     path: &'a [u32],
     inside: &'a Module,
     position: u32,
@@ -145,7 +145,7 @@ fn result_value(
         Some(module) => match module.body.get(position as usize) {
             None => Ok(BitString::new(alloc)),
             Some(operation) => {
-                let one = OperationPlace {
+                let one = OperationPosition {
                     path,
                     inside: module,
                     position,
@@ -163,7 +163,7 @@ fn operation_value(
     alloc: Global,
     at: &Setting,
     depth: u32,
-    one: &OperationPlace<'_>,
+    one: &OperationPosition<'_>,
     number: u32,
 ) -> Result<BitString, Refusal>
     ensures value { IfOk result (λ word. word ≡ value_from at.now.inputs.now at.now.content.now (value_within (map module_of at.now.modules.now) at.now.top.now at.now.inputs.now at.now.content.now depth)
@@ -350,7 +350,7 @@ fn held_value(
     alloc: Global,
     at: &Setting,
     depth: u32,
-    one: &OperationPlace<'_>,
+    one: &OperationPosition<'_>,
     number: u32,
 ) -> Result<BitString, Refusal>
     ensures value { IfOk result (λ word. word ≡ value_from at.now.inputs.now at.now.content.now (value_within (map module_of at.now.modules.now) at.now.top.now at.now.inputs.now at.now.content.now depth)

@@ -67,7 +67,7 @@ abbrev pub IsReset : (Net → Word) → Slot → Word → Type 0
 IsReset ρ s old =
     (r : ResetBy) → async_reset_in s.op ≡ Some r → is_high (ρ (net s.path r.signal)) ≡ true → old ≡ first (held_width s.op) (ρ (net s.path r.value))
 
--- so does each register that the content is of
+-- each register that the content is of holds its reset value where its asynchronous reset is 1 under the map
 abbrev pub AreReset : (Net → Word) → List Slot → Word → Type 0
 AreReset ρ [] content = Unit {0}
 AreReset ρ (s ∷ ss) content = IsReset ρ s (first (held_width s.op) content) × AreReset ρ ss (drop (held_width s.op) content)

@@ -31,7 +31,7 @@ use Rattle.inline_laws.proofs.Origins.Leads.{alike}
 use Rattle.inline_laws.proofs.Views.{View, Numbered, origin_in, number_at}
 use Rattle.inline_laws.proofs.Views.View.{inlined, as_before}
 use Rattle.inline_laws.proofs.Homes.{home_of, view_of, home_start, home_next, origin, port_origin, base_same}
-use Rattle.inline_laws.proofs.Positions.{count, Stands, IsWire, Position, position}
+use Rattle.inline_laws.proofs.Positions.{count, Stands, IsWire, Position, position_at}
 use Rattle.inline_laws.proofs.Positions.Position.{stands, is_wire}
 
 needs_input : (x : Option Port) (start : ℕ) → needs_of (input_of x start) ≡ []
@@ -252,7 +252,7 @@ module _ (S : Inlining) (top : Name) where
           go (matched y y' was now moves) = by_sort y y' was now moves (sort_of y.kind)
 
     result_comes : Comes (source S.e top (net q (result j k))) (source S.d top (origin S top (net q (result j k))))
-    result_comes = go (position S top q at_home at_view j)
+    result_comes = go (position_at S top q at_home at_view j)
       where
         go : Position S top q at_home at_view j → Comes (source S.e top (net q (result j k))) (source S.d top (origin S top (net q (result j k))))
         go (stands s) = stands_comes s

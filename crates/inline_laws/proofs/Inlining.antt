@@ -90,26 +90,26 @@ state_is d finite s =
 
 module _ (S : Inlining) where
   -- where the instance stands, and the operations of its module that are moved
-  abbrev pub place : ℕ
-  place = length S.prefix
+  abbrev pub position : ℕ
+  position = length S.prefix
 
   abbrev pub inner : List Op
   inner = before_output S.c.body
 
   abbrev pub outer_stand : Ref → Ref
-  outer_stand = outer_ref place S.o S.c
+  outer_stand = outer_ref position S.o S.c
 
   abbrev pub inner_stand : Ref → Ref
-  inner_stand = inner_ref place S.o S.c
+  inner_stand = inner_ref position S.o S.c
 
   abbrev pub new_prefix : List Op
   new_prefix = map (retarget outer_stand) S.prefix
 
   abbrev pub new_wires : List Op
-  new_wires = inlined_wires place S.o S.c
+  new_wires = inlined_wires position S.o S.c
 
   abbrev pub new_inner : List Op
-  new_inner = inlined_ops S.rename place S.o S.c
+  new_inner = inlined_ops S.rename position S.o S.c
 
   abbrev pub new_back : List Op
   new_back = map (retarget outer_stand) S.back

@@ -18,7 +18,7 @@ use Rattle.inline_laws.specs.Inline.{Side, side, wire_count, moved_count, outer_
 use Rattle.inline_laws.specs.Inline.Side.{in_first, in_second}
 use Rattle.inline_laws.proofs.Sides.{side_prefix, side_back, from_prefix, from_back, instances-append}
 use Rattle.inline_laws.proofs.Sources.{inside_number, missing_source, instance_source, output_source}
-use Rattle.inline_laws.proofs.Inlining.{Inlining, place, inner, outer_stand, inner_stand, end_is}
+use Rattle.inline_laws.proofs.Inlining.{Inlining, position, inner, outer_stand, inner_stand, end_is}
 
 -- an instance is no register
 pub instance_no_register : (o : Op) (x : Instance) → instance_in o.kind ≡ Some x → register_form o.kind ≡ None
@@ -61,20 +61,20 @@ module _ (S : Inlining) where
   pub c_sound : SoundBody S.d S.c.ports S.c.body
   c_sound = S.valid.sound S.target.symbol S.c S.is_found
 
-  there : slice_get S.md.body (place S) ≡ Some S.o
-  there = ap (λ os. slice_get os (place S)) S.body_is ∙ slice_get-append_at S.prefix S.o S.back
+  there : slice_get S.md.body (position S) ≡ Some S.o
+  there = ap (λ os. slice_get os (position S)) S.body_is ∙ slice_get-append_at S.prefix S.o S.back
 
   -- the operands and results of the instance have the types of the ports of its module
   pub operands_fit : SoundBody S.d S.md.ports S.md.body → map (type_in S.md.ports S.md.body) S.o.operands ≡ map (λ (t : HwType). Some t) (input_types S.c.ports)
   operands_fit sound =
-      let fits = sound.instances (place S) S.o there S.target S.is_instance in
+      let fits = sound.instances (position S) S.o there S.target S.is_instance in
       let same : Some fits.0 ≡ Some S.c = sym fits.1 ∙ S.is_found in
       let module_is : fits.0 ≡ S.c = cc in
       fits.2 ∙ ap (λ (m : Module). map (λ (t : HwType). Some t) (input_types m.ports)) module_is
 
   pub results_fit : SoundBody S.d S.md.ports S.md.body → map (λ (r : OpResult). r.type) S.o.results ≡ output_types S.c.ports
   results_fit sound =
-      let fits = sound.instances (place S) S.o there S.target S.is_instance in
+      let fits = sound.instances (position S) S.o there S.target S.is_instance in
       let same : Some fits.0 ≡ Some S.c = sym fits.1 ∙ S.is_found in
       let module_is : fits.0 ≡ S.c = cc in
       fits.3 ∙ ap (λ (m : Module). output_types m.ports) module_is
@@ -92,12 +92,12 @@ module _ (S : Inlining) where
   -- ---- origins
 
   abbrev pub wire_origin : Path → ℕ → ℕ → Net
-  wire_origin p w zero = net p (result (place S) w)
+  wire_origin p w zero = net p (result (position S) w)
   wire_origin p w (suc k) = net p undefined
 
   abbrev pub moved_origin : Path → ℕ → Side → Net
   moved_origin p k (in_first x) = net (prefix_count ∷ p) (result x k)
-  moved_origin p k (in_second x) = net p (result (place S + suc x) k)
+  moved_origin p k (in_second x) = net p (result (position S + suc x) k)
 
   abbrev pub wired_origin : Path → ℕ → Side → Net
   wired_origin p k (in_first w) = wire_origin p w k
@@ -110,22 +110,22 @@ module _ (S : Inlining) where
   -- the net of the old design from which a value of the new body comes, p being the path to the old body
   abbrev pub inlined_origin : Path → Ref → Net
   inlined_origin p (port j) = net p (port j)
-  inlined_origin p (result j k) = result_origin p k (side (place S) j)
+  inlined_origin p (result j k) = result_origin p k (side (position S) j)
   inlined_origin p undefined = net p undefined
 
-  pub wire_origin_is : (p : Path) (w k : ℕ) → w < wire_count S.o → inlined_origin p (result (place S + w) k) ≡ wire_origin p w k
+  pub wire_origin_is : (p : Path) (w k : ℕ) → w < wire_count S.o → inlined_origin p (result (position S + w) k) ≡ wire_origin p w k
   wire_origin_is p w k within =
-      ap (result_origin p k) (side_back (place S) w) ∙ ap (wired_origin p k) (side_prefix (wire_count S.o) w within)
+      ap (result_origin p k) (side_back (position S) w) ∙ ap (wired_origin p k) (side_prefix (wire_count S.o) w within)
 
-  pub inner_origin_is : (p : Path) (x k : ℕ) → x < moved_count S.c → inlined_origin p (result (place S + (wire_count S.o + x)) k) ≡ net (prefix_count ∷ p) (result x k)
+  pub inner_origin_is : (p : Path) (x k : ℕ) → x < moved_count S.c → inlined_origin p (result (position S + (wire_count S.o + x)) k) ≡ net (prefix_count ∷ p) (result x k)
   inner_origin_is p x k within =
-      ap (result_origin p k) (side_back (place S) (wire_count S.o + x)) ∙ ap (wired_origin p k) (side_back (wire_count S.o) x)
+      ap (result_origin p k) (side_back (position S) (wire_count S.o + x)) ∙ ap (wired_origin p k) (side_back (wire_count S.o) x)
       ∙ ap (moved_origin p k) (side_prefix (moved_count S.c) x within)
 
   pub back_origin_is : (p : Path) (x k : ℕ)
-      → inlined_origin p (result (place S + (wire_count S.o + (moved_count S.c + x))) k) ≡ net p (result (place S + suc x) k)
+      → inlined_origin p (result (position S + (wire_count S.o + (moved_count S.c + x))) k) ≡ net p (result (position S + suc x) k)
   back_origin_is p x k =
-      ap (result_origin p k) (side_back (place S) (wire_count S.o + (moved_count S.c + x))) ∙ ap (wired_origin p k) (side_back (wire_count S.o) (moved_count S.c + x))
+      ap (result_origin p k) (side_back (position S) (wire_count S.o + (moved_count S.c + x))) ∙ ap (wired_origin p k) (side_back (wire_count S.o) (moved_count S.c + x))
       ∙ ap (moved_origin p k) (side_back (moved_count S.c) x)
 
   -- ---- at a path to the module in which the instance is inlined
@@ -154,24 +154,24 @@ module _ (S : Inlining) where
     pub inside_body : body_of (module_at S.d top (prefix_count ∷ p)) ≡ inner S ++ ((end_is S).last ∷ [])
     inside_body = ap body_of inside ∙ (end_is S).body_is
 
-    there_at : slice_get (body_of (module_at S.d top p)) (place S) ≡ Some S.o
-    there_at = ap (λ os. slice_get os (place S)) old_body ∙ slice_get-append_at S.prefix S.o S.back
+    there_at : slice_get (body_of (module_at S.d top p)) (position S) ≡ Some S.o
+    there_at = ap (λ os. slice_get os (position S)) old_body ∙ slice_get-append_at S.prefix S.o S.back
 
-    count_at : length (instances (take (place S) (body_of (module_at S.d top p)))) ≡ prefix_count
+    count_at : length (instances (take (position S) (body_of (module_at S.d top p)))) ≡ prefix_count
     count_at =
-        ap (λ os. length (instances (take (place S) os))) old_body
-        ∙ ap (λ n. length (instances (take n (S.prefix ++ (S.o ∷ S.back))))) (sym (add-zero (place S)))
+        ap (λ os. length (instances (take (position S) os))) old_body
+        ∙ ap (λ n. length (instances (take n (S.prefix ++ (S.o ∷ S.back))))) (sym (add-zero (position S)))
         ∙ ap (λ os. length (instances os)) (take-append_right S.prefix (S.o ∷ S.back) 0)
         ∙ ap length (instances-append S.prefix []) ∙ ap length (append-nil (instances S.prefix))
 
     -- a result of the instance is what its module gives
-    pub given_source : (k : ℕ) → source S.d top (net p (result (place S) k)) ≡ copy_of (prefix_count ∷ p) (slice_get (output_refs S.c.body) k)
+    pub given_source : (k : ℕ) → source S.d top (net p (result (position S) k)) ≡ copy_of (prefix_count ∷ p) (slice_get (output_refs S.c.body) k)
     given_source k =
-        instance_source S.d top p (place S) k S.o there_at S.target (instance_no_register S.o S.target S.is_instance) S.is_instance
+        instance_source S.d top p (position S) k S.o there_at S.target (instance_no_register S.o S.target S.is_instance) S.is_instance
         ∙ ap (λ n. copy_of (n ∷ p) (slice_get (output_refs (body_of (module_at S.d top (n ∷ p)))) k)) count_at
         ∙ ap (λ m. copy_of (prefix_count ∷ p) (slice_get (output_refs (body_of m)) k)) inside
 
-    given_nowhere : (k : ℕ) → result_type S.o k ≡ None → source S.d top (net p (result (place S) k)) ≡ nowhere
+    given_nowhere : (k : ℕ) → result_type S.o k ≡ None → source S.d top (net p (result (position S) k)) ≡ nowhere
     given_nowhere k none =
         given_source k
         ∙ ap (copy_of (prefix_count ∷ p)) (option_map_none (type_in S.c.ports S.c.body) (slice_get (output_refs S.c.body) k)
@@ -199,24 +199,24 @@ module _ (S : Inlining) where
     pub outer_alike : (r : Ref) → source S.d top (net p r) ≡ source S.d top (inlined_origin p (outer_stand S r))
     outer_alike (port j) = refl
     outer_alike undefined = refl
-    outer_alike (result j k) = go (side (place S) j) refl
+    outer_alike (result j k) = go (side (position S) j) refl
       where
-        by_type : (t : Option HwType) → result_type S.o k ≡ t → source S.d top (net p (result (place S) k)) ≡ source S.d top (inlined_origin p (wire_result (place S) k t))
+        by_type : (t : Option HwType) → result_type S.o k ≡ t → source S.d top (net p (result (position S) k)) ≡ source S.d top (inlined_origin p (wire_result (position S) k t))
         by_type None none = given_nowhere k none
         by_type (Some t) typed =
             let within : k < wire_count S.o = typed_within S.o k t typed in
             ap (source S.d top) (sym (wire_origin_is p k 0 within))
 
-        go : (s : Side) → side (place S) j ≡ s → source S.d top (net p (result j k)) ≡ source S.d top (inlined_origin p (outer_result (place S) S.o S.c k s))
+        go : (s : Side) → side (position S) j ≡ s → source S.d top (net p (result j k)) ≡ source S.d top (inlined_origin p (outer_result (position S) S.o S.c k s))
         go (in_first x) is =
-            let same : x ≡ j = (from_prefix (place S) j x is).0 in
+            let same : x ≡ j = (from_prefix (position S) j x is).0 in
             ap (λ z. source S.d top (net p (result z k))) (sym same)
-            ∙ ap (source S.d top) (sym (ap (result_origin p k) (ap (side (place S)) same ∙ is)))
+            ∙ ap (source S.d top) (sym (ap (result_origin p k) (ap (side (position S)) same ∙ is)))
         go (in_second zero) is =
-            ap (λ z. source S.d top (net p (result z k))) (from_back (place S) j 0 is ∙ add-zero (place S))
+            ap (λ z. source S.d top (net p (result z k))) (from_back (position S) j 0 is ∙ add-zero (position S))
             ∙ by_type (result_type S.o k) refl
         go (in_second (suc x)) is =
-            ap (λ z. source S.d top (net p (result z k))) (from_back (place S) j (suc x) is)
+            ap (λ z. source S.d top (net p (result z k))) (from_back (position S) j (suc x) is)
             ∙ ap (source S.d top) (sym (back_origin_is p x k))
 
     -- an input of the instance's module is a copy of an operand
@@ -239,7 +239,7 @@ module _ (S : Inlining) where
         go (Some r) is = copied (net p r) is (outer_alike r)
     inner_leads (result j k) = go (side (moved_count S.c) j) refl
       where
-        go : (s : Side) → side (moved_count S.c) j ≡ s → Leads S.d top (net (prefix_count ∷ p) (result j k)) (inlined_origin p (inner_result (place S) S.o k s))
+        go : (s : Side) → side (moved_count S.c) j ≡ s → Leads S.d top (net (prefix_count ∷ p) (result j k)) (inlined_origin p (inner_result (position S) S.o k s))
         go (in_first x) is =
             let same : x ≡ j = (from_prefix (moved_count S.c) j x is).0 in
             let below : j < moved_count S.c = (from_prefix (moved_count S.c) j x is).1 in

@@ -22,7 +22,7 @@ use Rattle.inline_laws.proofs.Sides.{side_prefix, side_back, from_prefix, instan
 use Rattle.inline_laws.proofs.Parts.{get_prefix, get_back, take_prefix, take_back}
 use Rattle.inline_laws.proofs.Moved.{IsMoved, Matches, moved_retarget, moved_renamed, get_moved, instances_moved, body_state_moved}
 use Rattle.inline_laws.proofs.Ends.{AreWires, are_wires, wires_length, get_wire, wires_instances}
-use Rattle.inline_laws.proofs.Inlining.{Inlining, place, inner, outer_stand, inner_stand, new_prefix, new_wires, new_inner, new_back, new_body, new_module, bits, prefix_bits, inner_bits, wire_bits, instance_bits, end_is}
+use Rattle.inline_laws.proofs.Inlining.{Inlining, position, inner, outer_stand, inner_stand, new_prefix, new_wires, new_inner, new_back, new_body, new_module, bits, prefix_bits, inner_bits, wire_bits, instance_bits, end_is}
 use Rattle.inline_laws.proofs.Origins.{Leads, prefix_count, given_types, result_origin, wired_origin, moved_origin, inlined_origin, old_body, md_sound, inside_body, given_source, outer_alike, inner_leads}
 use Rattle.inline_laws.proofs.Origins.Leads.{alike}
 use Rattle.inline_laws.proofs.Views.{View, next_path, inlined_next, origin_in, inner_count, inner_next, outer_next, prefix_length, inner_length, before_here, same_matches}
@@ -75,7 +75,7 @@ module _ (S : Inlining) (top : Name) where
     now_body : body_of (module_at S.e top q) ≡ new_body S
     now_body = ap body_of now
 
-    prefix_side : (n : ℕ) (s : Side) → side (place S) n ≡ s → side (length (new_prefix S)) n ≡ s
+    prefix_side : (n : ℕ) (s : Side) → side (position S) n ≡ s → side (length (new_prefix S)) n ≡ s
     prefix_side n s is = ap (λ m. side m n) (length-map S.prefix (retarget (outer_stand S))) ∙ is
 
     wire_side : (n : ℕ) (s : Side) → side (wire_count S.o) n ≡ s → side (length (new_wires S)) n ≡ s
@@ -86,7 +86,7 @@ module _ (S : Inlining) (top : Name) where
 
     -- ---- before the instance that is inlined
 
-    prefix_stands : (v : ℕ) → side (place S) j ≡ in_first v → Stands q p (inlined was now) j
+    prefix_stands : (v : ℕ) → side (position S) j ≡ in_first v → Stands q p (inlined was now) j
     prefix_stands v is = record {
       home = p;
       pos = v;
@@ -103,8 +103,8 @@ module _ (S : Inlining) (top : Name) where
           ∙ ap (λ os. length (instances os) ∷ p) (sym old_taken);
     }
       where
-        v_side : side (place S) v ≡ in_first v
-        v_side = ap (side (place S)) (from_prefix (place S) j v is).0 ∙ is
+        v_side : side (position S) v ≡ in_first v
+        v_side = ap (side (position S)) (from_prefix (position S) j v is).0 ∙ is
 
         old_is : slice_get (body_of (module_at S.d top p)) v ≡ slice_get S.prefix v
         old_is = ap (λ os. slice_get os v) (old_body S top p was) ∙ get_prefix S.prefix (S.o ∷ S.back) v v v_side
@@ -121,7 +121,7 @@ module _ (S : Inlining) (top : Name) where
         count_is : count j (body_of (module_at S.e top q)) ≡ count v S.prefix
         count_is = ap (λ os. length (instances os)) new_taken ∙ count_moved (outer_stand S) (retarget (outer_stand S)) (moved_retarget (outer_stand S)) v S.prefix
 
-    module _ (y : ℕ) (past : side (place S) j ≡ in_second y) where
+    module _ (y : ℕ) (past : side (position S) j ≡ in_second y) where
       new_past : slice_get (body_of (module_at S.e top q)) j ≡ slice_get (new_wires S ++ (new_inner S ++ new_back S)) y
       new_past = ap (λ os. slice_get os j) now_body ∙ get_back (new_prefix S) (new_wires S ++ (new_inner S ++ new_back S)) j y (prefix_side j (in_second y) past)
 
@@ -235,10 +235,10 @@ module _ (S : Inlining) (top : Name) where
         back_stands : (v : ℕ) → side (moved_count S.c) z ≡ in_second v → Stands q p (inlined was now) j
         back_stands v is = record {
           home = p;
-          pos = place S + suc v;
+          pos = position S + suc v;
           move = outer_stand S;
           leads = λ r. alike (outer_alike S top p was r);
-          op = subst (λ x'. Matches (outer_stand S) (slice_get (body_of (module_at S.d top p)) (place S + suc v)) x') (sym new_is)
+          op = subst (λ x'. Matches (outer_stand S) (slice_get (body_of (module_at S.d top p)) (position S + suc v)) x') (sym new_is)
               (subst (λ x. Matches (outer_stand S) x (slice_get (new_back S) v)) (sym old_is) (get_moved (outer_stand S) (retarget (outer_stand S)) (moved_retarget (outer_stand S)) S.back v));
           origin_is = λ k. ap (result_origin S p k) past ∙ ap (wired_origin S p k) beyond ∙ ap (moved_origin S p k) is;
           offset_is = ap (λ n. base S.d top p + n) (bits_beyond ∙ ap (λ n. bits S S.prefix + n) back_bits_are
@@ -249,16 +249,16 @@ module _ (S : Inlining) (top : Name) where
               ∙ ap (λ n. n ∷ p) (sym old_count);
         }
           where
-            old_is : slice_get (body_of (module_at S.d top p)) (place S + suc v) ≡ slice_get S.back v
-            old_is = ap (λ os. slice_get os (place S + suc v)) (old_body S top p was) ∙ slice_get-append_right S.prefix (S.o ∷ S.back) (suc v)
+            old_is : slice_get (body_of (module_at S.d top p)) (position S + suc v) ≡ slice_get S.back v
+            old_is = ap (λ os. slice_get os (position S + suc v)) (old_body S top p was) ∙ slice_get-append_right S.prefix (S.o ∷ S.back) (suc v)
 
-            old_taken : take (place S + suc v) (body_of (module_at S.d top p)) ≡ S.prefix ++ (S.o ∷ take v S.back)
-            old_taken = ap (take (place S + suc v)) (old_body S top p was) ∙ take-append_right S.prefix (S.o ∷ S.back) (suc v)
+            old_taken : take (position S + suc v) (body_of (module_at S.d top p)) ≡ S.prefix ++ (S.o ∷ take v S.back)
+            old_taken = ap (take (position S + suc v)) (old_body S top p was) ∙ take-append_right S.prefix (S.o ∷ S.back) (suc v)
 
             one_more : (y : Op) (ys : List Op) (x : Instance) → instance_in y.kind ≡ Some x → length (instances (y ∷ ys)) ≡ suc (length (instances ys))
             one_more y ys x inst = simp inst
 
-            old_count : count (place S + suc v) (body_of (module_at S.d top p)) ≡ prefix_count S + suc (count v S.back)
+            old_count : count (position S + suc v) (body_of (module_at S.d top p)) ≡ prefix_count S + suc (count v S.back)
             old_count =
                 ap (λ os. length (instances os)) old_taken ∙ count_append S.prefix (S.o ∷ take v S.back)
                 ∙ ap (λ n. prefix_count S + n) (one_more S.o (take v S.back) S.target S.is_instance)
@@ -282,29 +282,29 @@ module _ (S : Inlining) (top : Name) where
                 ∙ body_state_moved (outer_stand S) (retarget (outer_stand S)) (moved_retarget (outer_stand S)) (state S.d) (take v S.back))
 
     inlined_position : Position q p (inlined was now) j
-    inlined_position = go (side (place S) j) refl
+    inlined_position = go (side (position S) j) refl
       where
-        at_wire : (y w : ℕ) → side (place S) j ≡ in_second y → side (wire_count S.o) y ≡ in_first w → Position q p (inlined was now) j
+        at_wire : (y w : ℕ) → side (position S) j ≡ in_second y → side (wire_count S.o) y ≡ in_first w → Position q p (inlined was now) j
         at_wire y w past is =
             let below = from_prefix (wire_count S.o) y w is in
             let found = slice_get_some S.o.results w (subst (λ n. n < wire_count S.o) (sym below.0) below.1) in
             is_wire (wire_here y past w is found.0 found.1)
 
-        beyond : (y z : ℕ) (s : Side) → side (place S) j ≡ in_second y → side (wire_count S.o) y ≡ in_second z → side (moved_count S.c) z ≡ s → Position q p (inlined was now) j
+        beyond : (y z : ℕ) (s : Side) → side (position S) j ≡ in_second y → side (wire_count S.o) y ≡ in_second z → side (moved_count S.c) z ≡ s → Position q p (inlined was now) j
         beyond y z (in_first v) past is last = stands (inner_stands y past z is v last)
         beyond y z (in_second v) past is last = stands (back_stands y past z is v last)
 
-        past_prefix : (y : ℕ) (s : Side) → side (place S) j ≡ in_second y → side (wire_count S.o) y ≡ s → Position q p (inlined was now) j
+        past_prefix : (y : ℕ) (s : Side) → side (position S) j ≡ in_second y → side (wire_count S.o) y ≡ s → Position q p (inlined was now) j
         past_prefix y (in_first w) past is = at_wire y w past is
         past_prefix y (in_second z) past is = beyond y z (side (moved_count S.c) z) past is refl
 
-        go : (s : Side) → side (place S) j ≡ s → Position q p (inlined was now) j
+        go : (s : Side) → side (position S) j ≡ s → Position q p (inlined was now) j
         go (in_first v) is = stands (prefix_stands v is)
         go (in_second y) past = past_prefix y (side (wire_count S.o) y) past refl
 
-  pub position : (q p : Path) (x : View S top q p) (j : ℕ) → Position q p x j
-  position q p (inlined was now) j = inlined_position q p was now j
-  position q p (as_before same) j = stands (record {
+  pub position_at : (q p : Path) (x : View S top q p) (j : ℕ) → Position q p x j
+  position_at q p (inlined was now) j = inlined_position q p was now j
+  position_at q p (as_before same) j = stands (record {
     home = p;
     pos = j;
     move = λ r. r;

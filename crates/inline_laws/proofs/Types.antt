@@ -21,7 +21,7 @@ use Rattle.inline_laws.proofs.Parts.{get_prefix, get_back}
 use Rattle.inline_laws.proofs.Moved.{IsMoved, Matches, moved_type, moved_kind, moved_some, moved_back, moved_retarget, moved_renamed, get_moved}
 use Rattle.inline_laws.proofs.Moved.Matches.{missing, matched}
 use Rattle.inline_laws.proofs.Ends.{wires_length, get_wire}
-use Rattle.inline_laws.proofs.Inlining.{Finds, Inlining, place, inner, outer_stand, inner_stand, new_prefix, new_wires, new_inner, new_back, new_body, new_module, end_is}
+use Rattle.inline_laws.proofs.Inlining.{Finds, Inlining, position, inner, outer_stand, inner_stand, new_prefix, new_wires, new_inner, new_back, new_body, new_module, end_is}
 use Rattle.inline_laws.proofs.Inlining.Finds.{changed, unchanged}
 use Rattle.inline_laws.proofs.Origins.{typed_within, c_sound, operands_fit, given_types}
 use Rattle.inline_laws.proofs.Comes.{new_outputs}
@@ -81,35 +81,35 @@ module _ (S : Inlining) where
 
   -- ---- what stands where in the new body
 
-  pub prefix_at : (x : ℕ) → x < place S → slice_get (new_body S) x ≡ slice_get (new_prefix S) x
+  pub prefix_at : (x : ℕ) → x < position S → slice_get (new_body S) x ≡ slice_get (new_prefix S) x
   prefix_at x below =
       get_prefix (new_prefix S) (new_wires S ++ (new_inner S ++ new_back S)) x x
-      (ap (λ n. side n x) (length-map S.prefix (retarget (outer_stand S))) ∙ side_prefix (place S) x below)
+      (ap (λ n. side n x) (length-map S.prefix (retarget (outer_stand S))) ∙ side_prefix (position S) x below)
 
-  past_at : (y : ℕ) → slice_get (new_body S) (place S + y) ≡ slice_get (new_wires S ++ (new_inner S ++ new_back S)) y
+  past_at : (y : ℕ) → slice_get (new_body S) (position S + y) ≡ slice_get (new_wires S ++ (new_inner S ++ new_back S)) y
   past_at y =
-      get_back (new_prefix S) (new_wires S ++ (new_inner S ++ new_back S)) (place S + y) y
-      (ap (λ n. side n (place S + y)) (length-map S.prefix (retarget (outer_stand S))) ∙ side_back (place S) y)
+      get_back (new_prefix S) (new_wires S ++ (new_inner S ++ new_back S)) (position S + y) y
+      (ap (λ n. side n (position S + y)) (length-map S.prefix (retarget (outer_stand S))) ∙ side_back (position S) y)
 
-  pub wire_at : (w : ℕ) → w < wire_count S.o → slice_get (new_body S) (place S + w) ≡ slice_get (new_wires S) w
+  pub wire_at : (w : ℕ) → w < wire_count S.o → slice_get (new_body S) (position S + w) ≡ slice_get (new_wires S) w
   wire_at w below =
       past_at w
       ∙ get_prefix (new_wires S) (new_inner S ++ new_back S) w w
       (ap (λ n. side n w) (wires_length S.o.location (inner_stand S) S.o.results (output_refs S.c.body)) ∙ side_prefix (wire_count S.o) w below)
 
-  beyond_at : (z : ℕ) → slice_get (new_body S) (place S + (wire_count S.o + z)) ≡ slice_get (new_inner S ++ new_back S) z
+  beyond_at : (z : ℕ) → slice_get (new_body S) (position S + (wire_count S.o + z)) ≡ slice_get (new_inner S ++ new_back S) z
   beyond_at z =
       past_at (wire_count S.o + z)
       ∙ get_back (new_wires S) (new_inner S ++ new_back S) (wire_count S.o + z) z
       (ap (λ n. side n (wire_count S.o + z)) (wires_length S.o.location (inner_stand S) S.o.results (output_refs S.c.body)) ∙ side_back (wire_count S.o) z)
 
-  pub inner_at : (x : ℕ) → x < moved_count S.c → slice_get (new_body S) (place S + (wire_count S.o + x)) ≡ slice_get (new_inner S) x
+  pub inner_at : (x : ℕ) → x < moved_count S.c → slice_get (new_body S) (position S + (wire_count S.o + x)) ≡ slice_get (new_inner S) x
   inner_at x below =
       beyond_at x
       ∙ get_prefix (new_inner S) (new_back S) x x
       (ap (λ n. side n x) (length-map (inner S) (λ (y : Op). S.rename (retarget (inner_stand S) y))) ∙ side_prefix (moved_count S.c) x below)
 
-  pub back_at : (x : ℕ) → slice_get (new_body S) (place S + (wire_count S.o + (moved_count S.c + x))) ≡ slice_get (new_back S) x
+  pub back_at : (x : ℕ) → slice_get (new_body S) (position S + (wire_count S.o + (moved_count S.c + x))) ≡ slice_get (new_back S) x
   back_at x =
       beyond_at (moved_count S.c + x)
       ∙ get_back (new_inner S) (new_back S) (moved_count S.c + x) x
@@ -136,12 +136,12 @@ module _ (S : Inlining) where
     pub outer_type : (r : Ref) → new_type (outer_stand S r) ≡ old_type r
     outer_type (port j) = refl
     outer_type undefined = refl
-    outer_type (result j k) = go (side (place S) j) refl
+    outer_type (result j k) = go (side (position S) j) refl
       where
-        old_at : (n : ℕ) → j ≡ place S + n → slice_get S.md.body j ≡ slice_get (S.o ∷ S.back) n
+        old_at : (n : ℕ) → j ≡ position S + n → slice_get S.md.body j ≡ slice_get (S.o ∷ S.back) n
         old_at n is = ap₂ (λ os m. slice_get os m) S.body_is is ∙ slice_get-append_right S.prefix (S.o ∷ S.back) n
 
-        by_type : (t : Option HwType) → result_type S.o k ≡ t → new_type (wire_result (place S) k t) ≡ t
+        by_type : (t : Option HwType) → result_type S.o k ≡ t → new_type (wire_result (position S) k t) ≡ t
         by_type None none = refl
         by_type (Some t) typed =
             let found = option_map_some (λ (r : OpResult). r.type) (slice_get S.o.results k) typed in
@@ -149,17 +149,17 @@ module _ (S : Inlining) where
             ∙ ap (λ x. type_of_result 0 (option_map (λ (z : OpResult). wire_op S.o.location z.type (ref_or_undefined (option_map (inner_stand S) (slice_get (output_refs S.c.body) k)))) x)) found.1
             ∙ ap Some found.2
 
-        go : (s : Side) → side (place S) j ≡ s → new_type (outer_result (place S) S.o S.c k s) ≡ old_type (result j k)
+        go : (s : Side) → side (position S) j ≡ s → new_type (outer_result (position S) S.o S.c k s) ≡ old_type (result j k)
         go (in_first x) is =
-            let from = from_prefix (place S) j x is in
-            ap (type_of_result k) (prefix_at x (subst (λ n. n < place S) (sym from.0) from.1))
+            let from = from_prefix (position S) j x is in
+            ap (type_of_result k) (prefix_at x (subst (λ n. n < position S) (sym from.0) from.1))
             ∙ matches_type (outer_stand S) (slice_get S.prefix x) (slice_get (new_prefix S) x) (get_moved (outer_stand S) (retarget (outer_stand S)) (moved_retarget (outer_stand S)) S.prefix x) k
             ∙ ap (type_of_result k) (sym (ap (λ os. slice_get os j) S.body_is ∙ get_prefix S.prefix (S.o ∷ S.back) j x is))
-        go (in_second zero) is = by_type (result_type S.o k) refl ∙ sym (ap (type_of_result k) (old_at 0 (from_back (place S) j 0 is)))
+        go (in_second zero) is = by_type (result_type S.o k) refl ∙ sym (ap (type_of_result k) (old_at 0 (from_back (position S) j 0 is)))
         go (in_second (suc x)) is =
             ap (type_of_result k) (back_at x)
             ∙ matches_type (outer_stand S) (slice_get S.back x) (slice_get (new_back S) x) (get_moved (outer_stand S) (retarget (outer_stand S)) (moved_retarget (outer_stand S)) S.back x) k
-            ∙ ap (type_of_result k) (sym (old_at (suc x) (from_back (place S) j (suc x) is)))
+            ∙ ap (type_of_result k) (sym (old_at (suc x) (from_back (position S) j (suc x) is)))
 
     -- an output has no result with a type
     no_result : (k : ℕ) → result_type (end_is S).last k ≡ None
@@ -201,7 +201,7 @@ module _ (S : Inlining) where
         past_end zero = no_result k
         past_end (suc y) = refl
 
-        go : (s : Side) → side (moved_count S.c) j ≡ s → new_type (inner_result (place S) S.o k s) ≡ c_type (result j k)
+        go : (s : Side) → side (moved_count S.c) j ≡ s → new_type (inner_result (position S) S.o k s) ≡ c_type (result j k)
         go (in_first x) is =
             let from = from_prefix (moved_count S.c) j x is in
             ap (type_of_result k) (inner_at x (subst (λ n. n < moved_count S.c) (sym from.0) from.1))

@@ -114,8 +114,8 @@ name_is o _ = refl
 module _ (b b1 b3 b4 : Body) (of : IsOfFit b) (op : OpId) (c : Module) (own : List BodyOp) (wires : List OpId) (p : IsPut b op c own wires (ops_of b1))
     (left : ops_of b3 ≡ out p.prefix p.x p.back op p.same (own_name p.x.parts.kind) c own wires (ops_of b1) p.put (ids_once b1))
     (ops_are : body_ops b4 ≡ unwire (first_position (ids_of b3) wires) (length wires) (body_ops b3)) (ids_are : ids_of b4 ≡ ids_without wires (ids_of b3)) where
-  place_is : position_of (ids_of b) op.index ≡ length (ids_in p.prefix)
-  place_is =
+  position_is : position_of (ids_of b) op.index ≡ length (ids_in p.prefix)
+  position_is =
       ap (λ ids. position_of ids op.index) (old_ids_are b b1 of op c own wires p)
       ∙ stood p.prefix p.x p.back op p.same (own_name p.x.parts.kind) c own wires (ops_of b1) p.put (ids_once b1) (olds b b1 of op c own wires p)
 
@@ -133,13 +133,13 @@ module _ (b b1 b3 b4 : Body) (of : IsOfFit b) (op : OpId) (c : Module) (own : Li
             ∙ ap (λ (z : Op). unwire (length (ids_in p.prefix)) (wire_count z) (inline_op (renamed (own_name p.x.parts.kind)) (length (ids_in p.prefix)) z (record c { body = ops_by_position own })
             (map (op_by (position_of (ids_in p.prefix ++ (op.index ∷ ids_in p.back)))) (p.prefix ++ (p.x ∷ p.back))))) here
             ∙ ap₂ (λ (u : Name) (n : ℕ). unwire n (wire_count o) (inline_op (renamed u) n o (record c { body = ops_by_position own })
-            (map (op_by (position_of (ids_in p.prefix ++ (op.index ∷ ids_in p.back)))) (p.prefix ++ (p.x ∷ p.back))))) name (sym place_is)
+            (map (op_by (position_of (ids_in p.prefix ++ (op.index ∷ ids_in p.back)))) (p.prefix ++ (p.x ∷ p.back))))) name (sym position_is)
             ∙ ap (inlined_at (position_of (ids_of b) op.index) o (record c { body = ops_by_position own })) (sym seen);
         fresh = numbers p.put.copies;
         many = many_moved p.prefix p.x p.back op p.same (own_name p.x.parts.kind) c own wires (ops_of b1) p.put (ids_once b1) (olds b b1 of op c own wires p);
         ids = ids_are ∙ ap (λ (os : List BodyOp). ids_without wires (ids_in os)) left
             ∙ finished_ids p.prefix p.x p.back op p.same (own_name p.x.parts.kind) c own wires (ops_of b1) p.put (ids_once b1)
-            ∙ sym (ap₂ (λ (n : ℕ) (ids : List ℕ). take n ids ++ (numbers p.put.copies ++ drop (suc n) ids)) place_is (old_ids_are b b1 of op c own wires p)
+            ∙ sym (ap₂ (λ (n : ℕ) (ids : List ℕ). take n ids ++ (numbers p.put.copies ++ drop (suc n) ids)) position_is (old_ids_are b b1 of op c own wires p)
             ∙ ap₂ (λ ps qs. ps ++ (numbers p.put.copies ++ qs)) (take_prefix (ids_in p.prefix) (op.index ∷ ids_in p.back)) (drop_prefix (ids_in p.prefix) op.index (ids_in p.back)));
       }
     where

@@ -75,8 +75,8 @@ private_called d e accepted without m here private = go (reached_meets (IsReache
   where
     found : find_module d m.symbol ≡ Some m
     found =
-        let place = position_of_In m d (reached_member (IsReached d) m d e without here) in
-        (found_at d (accepted_distinct d accepted) place.0 m place.1).1
+        let position = position_of_In m d (reached_member (IsReached d) m d e without here) in
+        (found_at d (accepted_distinct d accepted) position.0 m position.1).1
 
     go : IsReached d m.symbol → (caller : Name) × In m.symbol (calls e caller)
     go (top, zero, (public, is, mark), same) =

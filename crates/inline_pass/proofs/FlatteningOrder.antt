@@ -58,11 +58,11 @@ module _ (d : Design) (fit : IsFit d) (order : List ℕ) (whole : IsWhole (call_
     next_within = subst (λ n. next < n) (sym are.so_far.size) within
 
     callees : (m : Module) → slice_get d next ≡ Some m → AreCalleesMarked d are.marks m
-    callees m at j c place named =
+    callees m at j c position named =
         are.marked j
         (whole.following i next j there
-        (subst (In j) (sym (call_edges d next m at)) (In-numbers (symbols_in d) c.symbol j (callee_symbols m.body) named (found_at d distinct j c place).0))
-        (subst (λ n. j < n) (sym (lists_length d)) (slice_get_within d j c place)))
+        (subst (In j) (sym (call_edges d next m at)) (In-numbers (symbols_in d) c.symbol j (callee_symbols m.body) named (found_at d distinct j c position).0))
+        (subst (λ n. j < n) (sym (lists_length d)) (slice_get_within d j c position)))
 
     one_more : (marks : List Bool) → ((v : ℕ) → has_mark are.marks v ≡ true → has_mark marks v ≡ true) → has_mark marks next ≡ true
         → (v : ℕ) → In v (take (i + 1) order) → has_mark marks v ≡ true

@@ -17,10 +17,10 @@ use Rattle.hw_model.specs.Sound.{body_of}
 use Rattle.hw_model.proofs.Content.{call_heights}
 use Rattle.edit_laws.specs.Laws.{with_body}
 use Rattle.edit_laws.proofs.ResetsKept.{find_symbol}
-use Rattle.ir_store.specs.Symbols.{symbol_place}
+use Rattle.ir_store.specs.Symbols.{symbol_position}
 use Rattle.design_cycles.specs.Asked.{HasDistinctSymbols}
 use Rattle.design_cycles.specs.Calls.{symbols_in}
-use Rattle.design_cycles.proofs.Callees.{place_found, number_found, found_at}
+use Rattle.design_cycles.proofs.Callees.{position_found, number_found, found_at}
 use Rattle.op_verifier.proofs.Distinct.{distinct_symbols}
 use Rattle.acceptance_laws.specs.Keeps.{IsFit}
 use Rattle.inline_pass.specs.Flattening.{if_private, private_found, inline_all, private_callee, flat_design}
@@ -28,9 +28,9 @@ use Rattle.inline_pass.proofs.FlatteningWork.{work_idle}
 use Rattle.inline_pass.proofs.FlatteningDepth.{flat_calls, flat_module, private_by_symbol, flat_from_flat}
 use Rattle.inline_pass.proofs.FlatteningSteps.{Inlines, inlines_self, inlines_then, inlines_body}
 
--- ---- modules at their places
+-- ---- modules at their positions
 
--- a symbol has no module in either design, or one of the first and what stands at its place in the second
+-- a symbol has no module in either design, or one of the first and what stands at its position in the second
 abbrev pub FoundBoth : (ℕ → Module → Module) → Design → Design → Name → Type 0
 FoundBoth f d e s =
     ((find_module d s ≡ None) × (find_module e s ≡ None))
@@ -123,7 +123,7 @@ module _ (d e : Design) (marks : List Bool) (fit : IsFit d) (so_far : IsFlatteni
       inlines = inlines_then d e after so_far.inlines
           (subst (λ f. Inlines e (with_body e k m (inline_all f m.body))) (sym (private_by_symbol e)) (inlines_body e k m still_there so_far.inlines.fit (length m.body) 0));
       size = ap length after_is ∙ length-set e k (flat_module d m) ∙ so_far.size;
-      each = λ j c there. ap (λ x. slice_get x j) after_is ∙ place j c there (eqb j k) refl;
+      each = λ j c there. ap (λ x. slice_get x j) after_is ∙ position j c there (eqb j k) refl;
     }
       where
         here_now : slice_get (set e k (flat_module d m)) k ≡ Some (flat_module d m)
@@ -132,14 +132,14 @@ module _ (d e : Design) (marks : List Bool) (fit : IsFit d) (so_far : IsFlatteni
         mark_now : has_mark (set marks k true) k ≡ true
         mark_now = marked_same marks k (subst (λ n. k < n) (sym so_far.count) (slice_get_within d k m at))
 
-        place : (j : ℕ) (c : Module) → slice_get d j ≡ Some c → (b : Bool) → eqb j k ≡ b → slice_get (set e k (flat_module d m)) j ≡ Some (flat_if d (set marks k true) j c)
-        place j c there true test =
+        position : (j : ℕ) (c : Module) → slice_get d j ≡ Some c → (b : Bool) → eqb j k ≡ b → slice_get (set e k (flat_module d m)) j ≡ Some (flat_if d (set marks k true) j c)
+        position j c there true test =
             let same : j ≡ k = eqb-true j k test in
             let both : Some c ≡ Some m = sym there ∙ ap (slice_get d) same ∙ at in
             let one : c ≡ m = cc in
             ap (slice_get (set e k (flat_module d m))) same ∙ here_now
             ∙ sym (ap (λ b. Some (cond b (flat_module d c) c)) (ap (has_mark (set marks k true)) same ∙ mark_now) ∙ ap (λ x. Some (flat_module d x)) one)
-        place j c there false test =
+        position j c there false test =
             let apart : j ≢ k = eqb-false j k test in
             slice_get-set_other e k j (flat_module d m) apart ∙ so_far.each j c there ∙ ap (λ b. Some (cond b (flat_module d c) c)) (sym (marked_other marks k j apart))
 
@@ -209,13 +209,13 @@ module _ (d : Design) (marks : List Bool) (distinct : HasDistinctSymbols d) (h :
           each : AreMarkedAmong (s ∷ ss)
           each j c at (inl same) = let clash : Some c ≡ None = sym (found j c at same) ∙ none in cc
           each j c at (inr later) = rest j c at later
-      go (Some x) is (inl rest) = by_known (known number.0 place.0 place.1 (inl place.2))
+      go (Some x) is (inl rest) = by_known (known number.0 position.0 position.1 (inl position.2))
         where
-          number : (i : ℕ) × (symbol_place s (symbols_in d) ≡ Some i)
+          number : (i : ℕ) × (symbol_position s (symbols_in d) ≡ Some i)
           number = number_found d s x is
 
-          place : (m : Module) × (slice_get d number.0 ≡ Some m) × (m.symbol ≡ s) × (find_module d s ≡ Some m)
-          place = place_found d s number.0 number.1
+          position : (m : Module) × (slice_get d number.0 ≡ Some m) × (m.symbol ≡ s) × (find_module d s ≡ Some m)
+          position = position_found d s number.0 number.1
 
           by_known : (has_mark marks number.0 ≡ true) ⊎ HasReady d marks → AreMarkedAmong (s ∷ ss) ⊎ HasReady d marks
           by_known (inr ready) = inr ready
@@ -223,7 +223,7 @@ module _ (d : Design) (marks : List Bool) (distinct : HasDistinctSymbols d) (h :
             where
               each : AreMarkedAmong (s ∷ ss)
               each j c at (inl same) =
-                  let one : j ≡ number.0 = distinct j number.0 c place.0 at place.1 (same ∙ sym place.2) in
+                  let one : j ≡ number.0 = distinct j number.0 c position.0 at position.1 (same ∙ sym position.2) in
                   ap (has_mark marks) one ∙ mark
               each j c at (inr later) = rest j c at later
 
@@ -253,11 +253,11 @@ module _ (d : Design) (marks : List Bool) (distinct : HasDistinctSymbols d) (h :
       below k less = grind arith
 
       last : Before n → ((m : Module) → slice_get d n ≡ Some m → has_mark marks n ≡ true) → Before (suc n)
-      last rest here k m at less = by_place (below k less)
+      last rest here k m at less = by_position (below k less)
         where
-          by_place : (k < n) ⊎ (k ≡ n) → has_mark marks k ≡ true
-          by_place (inl lower) = rest k m at lower
-          by_place (inr same) = ap (has_mark marks) same ∙ here m (ap (slice_get d) (sym same) ∙ at)
+          by_position : (k < n) ⊎ (k ≡ n) → has_mark marks k ≡ true
+          by_position (inl lower) = rest k m at lower
+          by_position (inr same) = ap (has_mark marks) same ∙ here m (ap (slice_get d) (sym same) ∙ at)
 
       go : (x : Option Module) → slice_get d n ≡ x → Before n ⊎ HasReady d marks → Before (suc n) ⊎ HasReady d marks
       go x is (inr ready) = inr ready
@@ -313,14 +313,14 @@ module _ (d : Design) (fit : IsFit d) (k : ℕ) (m : Module) (at : slice_get d k
       go : ((j : ℕ) (c : Module) → slice_get d j ≡ Some c → has_mark marks j ≡ true) ⊎ HasReady d marks
           → ((x : Design) (more : List Bool) → open_count more ≤ n → IsFlattening d x more → has_mark more k ≡ false → IsUpTo d k m) → IsUpTo d k m
       go (inl all) again = absurd (not_all marks unset all)
-      go (inr (j, c, there, clear, callees)) again = by_place (eqb j k) refl
+      go (inr (j, c, there, clear, callees)) again = by_position (eqb j k) refl
         where
           fewer : suc (open_count (set marks j true)) ≡ open_count marks
           fewer = open_fewer marks j (subst (λ s. j < s) (sym so_far.count) (slice_get_within d j c there)) clear
 
-          by_place : (b : Bool) → eqb j k ≡ b → IsUpTo d k m
-          by_place true test = here e marks so_far unset j c there callees (eqb-true j k test)
-          by_place false test =
+          by_position : (b : Bool) → eqb j k ≡ b → IsUpTo d k m
+          by_position true test = here e marks so_far unset j c there callees (eqb-true j k test)
+          by_position false test =
               let apart : j ≢ k = eqb-false j k test in
               again (with_body e j c (inline_all (private_callee e) c.body)) (set marks j true) (omega (arith, fewer, few)) (flattening_goes_on d e marks fit so_far j c there clear callees)
               (marked_other marks j k (λ same. apart (sym same)) ∙ unset)

@@ -78,8 +78,8 @@ nothing_calls P d e are closed h height k m high s need = go (find_module d s) r
     by_module : (n : Module) → find_module d s ≡ Some n → P n.symbol ⊎ (P n.symbol → ⊥) → ⊥
     by_module n is (inl meets) = high.fails (closed s m.symbol (subst P (find_symbol d s n is) meets) need)
     by_module n is (inr fails) =
-        let place = position_of_In n d (found_module d s n is) in
-        let below : h n.symbol ≤ h m.symbol = high.highest place.0 n place.1 fails in
+        let position = position_of_In n d (found_module d s n is) in
+        let below : h n.symbol ≤ h m.symbol = high.highest position.0 n position.1 fails in
         let same : h n.symbol ≡ h s = ap h (find_symbol d s n is) in
         omega (arith, lower)
 

@@ -67,9 +67,9 @@ ends_replaced f (x ∷ []) y ys zs plain none (first, ends) =
 ends_replaced f (x ∷ w ∷ xs) y ys zs plain none (first, ends) =
     ends_after (retarget f x) (map (retarget f) (w ∷ xs) ++ (zs ++ map (retarget f) ys)) first (ends_replaced f (w ∷ xs) y ys zs plain none ends)
 
--- ---- modules by their places
+-- ---- modules by their positions
 
--- the module at a place of a design in which one is changed has the symbol of the one at that place
+-- the module at a position of a design in which one is changed has the symbol of the one at that position
 same_symbol : (d : Design) (k : ℕ) (m new : Module) → slice_get d k ≡ Some m → new.symbol ≡ m.symbol → (i : ℕ) (n : Module) → slice_get (set d k new) i ≡ Some n
     → (was : Module) × (slice_get d i ≡ Some was) × (n.symbol ≡ was.symbol)
 same_symbol [] k m new at same i n is = cc

@@ -28,7 +28,7 @@ use Rattle.inline_laws.specs.Inline.Side.{in_first, in_second}
 use Rattle.inline_laws.proofs.Sides.{from_prefix, from_back}
 use Rattle.inline_laws.proofs.Parts.{get_prefix}
 use Rattle.inline_laws.proofs.Ends.{get_wire}
-use Rattle.inline_laws.proofs.Inlining.{Inlining, place, inner, outer_stand, inner_stand, new_body, end_is}
+use Rattle.inline_laws.proofs.Inlining.{Inlining, position, inner, outer_stand, inner_stand, new_body, end_is}
 use Rattle.inline_laws.proofs.Origins.{typed_within, operands_fit}
 use Rattle.inline_laws.proofs.Types.{prefix_at, wire_at, inner_at, back_at, inner_type}
 use Rattle.inline_pass.specs.Renaming.{renamed}
@@ -53,11 +53,11 @@ allows_unported a b same = record {
 
 -- ---- where an instance is inlined
 
-pub instance_there : (S : Inlining) → slice_get S.md.body (place S) ≡ Some S.o
-instance_there S = ap (λ os. slice_get os (place S)) S.body_is ∙ slice_get-append_at S.prefix S.o S.back
+pub instance_there : (S : Inlining) → slice_get S.md.body (position S) ≡ Some S.o
+instance_there S = ap (λ os. slice_get os (position S)) S.body_is ∙ slice_get-append_at S.prefix S.o S.back
 
 pub instance_among : (S : Inlining) → In S.o S.md.body
-instance_among S = In-slice_get S.o S.md.body (place S) (instance_there S)
+instance_among S = In-slice_get S.o S.md.body (position S) (instance_there S)
 
 pub module_there : (S : Inlining) → (j : ℕ) × (slice_get S.d j ≡ Some S.c)
 module_there S = position_of_In S.c S.d (found_module S.d S.target.symbol S.c S.is_found)
@@ -74,28 +74,28 @@ module _ (S : Inlining) (u : Name) (is_renamed : S.rename ≡ renamed u) (fit : 
 
   -- ---- values of the body
 
-  old_past : (j n : ℕ) → j ≡ place S + n → slice_get S.md.body j ≡ slice_get (S.o ∷ S.back) n
+  old_past : (j n : ℕ) → j ≡ position S + n → slice_get S.md.body j ≡ slice_get (S.o ∷ S.back) n
   old_past j n is = ap₂ (λ os m. slice_get os m) S.body_is is ∙ slice_get-append_right S.prefix (S.o ∷ S.back) n
 
-  prefix_same : (j n x : ℕ) → side (place S) j ≡ in_first x → result_operand n (slice_get (new_body S) x) ≡ result_operand n (slice_get S.md.body j)
+  prefix_same : (j n x : ℕ) → side (position S) j ≡ in_first x → result_operand n (slice_get (new_body S) x) ≡ result_operand n (slice_get S.md.body j)
   prefix_same j n x is =
-      let from = from_prefix (place S) j x is in
-      ap (result_operand n) (prefix_at S x (subst (λ y. y < place S) (sym from.0) from.1) ∙ slice_get-map (retarget (outer_stand S)) S.prefix x)
+      let from = from_prefix (position S) j x is in
+      ap (result_operand n) (prefix_at S x (subst (λ y. y < position S) (sym from.0) from.1) ∙ slice_get-map (retarget (outer_stand S)) S.prefix x)
       ∙ operand_retarget (outer_stand S) n (slice_get S.prefix x)
       ∙ ap (result_operand n) (sym (ap (λ os. slice_get os j) S.body_is ∙ get_prefix S.prefix (S.o ∷ S.back) j x is))
 
-  back_same : (j n x : ℕ) → side (place S) j ≡ in_second (suc x)
-      → result_operand n (slice_get (new_body S) (place S + (wire_count S.o + (moved_count S.c + x)))) ≡ result_operand n (slice_get S.md.body j)
+  back_same : (j n x : ℕ) → side (position S) j ≡ in_second (suc x)
+      → result_operand n (slice_get (new_body S) (position S + (wire_count S.o + (moved_count S.c + x)))) ≡ result_operand n (slice_get S.md.body j)
   back_same j n x is =
       ap (result_operand n) (back_at S x ∙ slice_get-map (retarget (outer_stand S)) S.back x)
       ∙ operand_retarget (outer_stand S) n (slice_get S.back x)
-      ∙ ap (result_operand n) (sym (old_past j (suc x) (from_back (place S) j (suc x) is)))
+      ∙ ap (result_operand n) (sym (old_past j (suc x) (from_back (position S) j (suc x) is)))
 
   o_kind : S.o.kind ≡ instance S.target
   o_kind = instance_kind S.o.kind S.target S.is_instance
 
   -- a wire stands for a result of the instance
-  wire_there : (n : ℕ) (t : HwType) → result_type S.o n ≡ Some t → (r : Ref) × (slice_get (new_body S) (place S + n) ≡ Some (wire_op S.o.location t r))
+  wire_there : (n : ℕ) (t : HwType) → result_type S.o n ≡ Some t → (r : Ref) × (slice_get (new_body S) (position S + n) ≡ Some (wire_op S.o.location t r))
   wire_there n t typed =
       let found = option_map_some (λ (r : OpResult). r.type) (slice_get S.o.results n) typed in
       let operand : Ref = ref_or_undefined (option_map (inner_stand S) (slice_get (output_refs S.c.body) n)) in (
@@ -105,11 +105,11 @@ module _ (S : Inlining) (u : Name) (is_renamed : S.rename ≡ renamed u) (fit : 
             ∙ ap (λ y. Some (wire_op S.o.location y (ref_or_undefined (option_map (inner_stand S) (slice_get (output_refs S.c.body) n))))) found.2,
       )
 
-  wire_allows : (n : ℕ) (t : HwType) → result_type S.o n ≡ Some t → AllowsMore (unported (result_operand n (Some S.o))) (new_operand (result (place S + n) 0))
+  wire_allows : (n : ℕ) (t : HwType) → result_type S.o n ≡ Some t → AllowsMore (unported (result_operand n (Some S.o))) (new_operand (result (position S + n) 0))
   wire_allows n t typed =
       let wire = wire_there n t typed in
       subst (λ x. AllowsMore (unported (result_operand n (Some S.o))) (result_operand 0 x)) (sym wire.1) (record {
-        type = wire_type wire.0 ∙ sym typed ∙ sym (settled_result S.md.ports S.md.body S.o (own_cause_none S.d fit k S.md at (place S) S.o (instance_there S)) n);
+        type = wire_type wire.0 ∙ sym typed ∙ sym (settled_result S.md.ports S.md.body S.o (own_cause_none S.d fit k S.md at (position S) S.o (instance_there S)) n);
         defined = λ h. refl;
         known = λ h. let clash : false ≡ true = sym (never (nat_eq n 0)) ∙ h in cc;
         constant = λ h. let clash : false ≡ true = sym (ap is_constant o_kind) ∙ h in cc;
@@ -128,28 +128,28 @@ module _ (S : Inlining) (u : Name) (is_renamed : S.rename ≡ renamed u) (fit : 
       → AllowsMore (unported (operand_in S.md.ports S.md.body r)) (operand_in S.md.ports (new_body S) (outer_stand S r))
   outer_allows (port j) h = allows_unported (outer_operand (port j)) (new_operand (port j)) refl
   outer_allows undefined h = allows_unported (outer_operand undefined) (new_operand undefined) refl
-  outer_allows (result j n) h = go (side (place S) j) refl
+  outer_allows (result j n) h = go (side (position S) j) refl
     where
       by_type : (t : Option HwType) → result_type S.o n ≡ t → is_some t ≡ true
-          → AllowsMore (unported (result_operand n (Some S.o))) (new_operand (wire_result (place S) n t))
+          → AllowsMore (unported (result_operand n (Some S.o))) (new_operand (wire_result (position S) n t))
       by_type None none there = cc
       by_type (Some t) typed there = wire_allows n t typed
 
-      own : slice_get S.md.body j ≡ Some S.o → AllowsMore (unported (outer_operand (result j n))) (new_operand (wire_result (place S) n (result_type S.o n)))
+      own : slice_get S.md.body j ≡ Some S.o → AllowsMore (unported (outer_operand (result j n))) (new_operand (wire_result (position S) n (result_type S.o n)))
       own here =
-          subst (λ x. AllowsMore (unported (result_operand n x)) (new_operand (wire_result (place S) n (result_type S.o n)))) (sym here)
+          subst (λ x. AllowsMore (unported (result_operand n x)) (new_operand (wire_result (position S) n (result_type S.o n)))) (sym here)
           (by_type (result_type S.o n) refl (sym (ap (λ x. is_some (option_and_then (λ (y : Op). result_type y n) x)) here) ∙ h))
 
-      go : (s : Side) → side (place S) j ≡ s → AllowsMore (unported (outer_operand (result j n))) (new_operand (outer_result (place S) S.o S.c n s))
+      go : (s : Side) → side (position S) j ≡ s → AllowsMore (unported (outer_operand (result j n))) (new_operand (outer_result (position S) S.o S.c n s))
       go (in_first x) is = allows_unported (outer_operand (result j n)) (new_operand (result x n)) (prefix_same j n x is)
-      go (in_second zero) is = own (old_past j 0 (from_back (place S) j 0 is))
+      go (in_second zero) is = own (old_past j 0 (from_back (position S) j 0 is))
       go (in_second (suc x)) is =
-          allows_unported (outer_operand (result j n)) (new_operand (result (place S + (wire_count S.o + (moved_count S.c + x))) n)) (back_same j n x is)
+          allows_unported (outer_operand (result j n)) (new_operand (result (position S + (wire_count S.o + (moved_count S.c + x))) n)) (back_same j n x is)
 
   -- ---- values of the module
 
   inner_same : (j n x : ℕ) → side (moved_count S.c) j ≡ in_first x
-      → result_operand n (slice_get (new_body S) (place S + (wire_count S.o + x))) ≡ result_operand n (slice_get S.c.body j)
+      → result_operand n (slice_get (new_body S) (position S + (wire_count S.o + x))) ≡ result_operand n (slice_get S.c.body j)
   inner_same j n x is =
       let from = from_prefix (moved_count S.c) j x is in
       ap (result_operand n) (inner_at S x (subst (λ y. y < moved_count S.c) (sym from.0) from.1)
@@ -210,7 +210,7 @@ module _ (S : Inlining) (u : Name) (is_renamed : S.rename ≡ renamed u) (fit : 
         go (Some q) is some = by_way q is q.is_output refl some
     inner_allows (result j n) h = go (side (moved_count S.c) j) refl (inner_type S sound (result j n))
       where
-        go : (s : Side) → side (moved_count S.c) j ≡ s → type_in S.md.ports (new_body S) (inner_result (place S) S.o n s) ≡ type_in S.c.ports S.c.body (result j n)
-            → AllowsMore (unported (inner_operand (result j n))) (new_operand (inner_result (place S) S.o n s))
-        go (in_first x) is typed = allows_unported (inner_operand (result j n)) (new_operand (result (place S + (wire_count S.o + x)) n)) (inner_same j n x is)
+        go : (s : Side) → side (moved_count S.c) j ≡ s → type_in S.md.ports (new_body S) (inner_result (position S) S.o n s) ≡ type_in S.c.ports S.c.body (result j n)
+            → AllowsMore (unported (inner_operand (result j n))) (new_operand (inner_result (position S) S.o n s))
+        go (in_first x) is typed = allows_unported (inner_operand (result j n)) (new_operand (result (position S + (wire_count S.o + x)) n)) (inner_same j n x is)
         go (in_second y) is typed = let clash : false ≡ true = ap is_some typed ∙ h in cc

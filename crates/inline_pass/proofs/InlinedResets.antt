@@ -162,8 +162,8 @@ module _ (S : Inlining) (u : Name) (is_renamed : S.rename ≡ renamed u) (fit : 
   outer_reset y here r is =
       let w = was_reset (outer_stand S) y r is in
       let signal = resets.signals S.md.symbol S.md y w.reset md_found here w.has_reset in
-      let place = position_of_In y S.md.body here in
-      let value = outer_allows S u is_renamed fit k at w.reset.value (operand_there S.d fit k S.md at place.0 y w.reset.value place.1 w.value_named) in (
+      let position = position_of_In y S.md.body here in
+      let value = outer_allows S u is_renamed fit k at w.reset.value (operand_there S.d fit k S.md at position.0 y w.reset.value position.1 w.value_named) in (
         marked_same old_marks S.md w.reset.signal r.signal (w.signal ∙ outer_port w.reset.signal signal) signal,
         constant_is (new_body S) r.value (ap (is_constant_ref (new_body S)) w.value
             ∙ value.constant (constant_told S.md.body w.reset.value (resets.values S.md.symbol S.md y w.reset md_found here w.has_reset))),
@@ -182,8 +182,8 @@ module _ (S : Inlining) (u : Name) (is_renamed : S.rename ≡ renamed u) (fit : 
       (ap (λ b. cond b (async_parts (map (inner_stand S) y.operands)) None) (sym (kind_same has_async_reset (λ i n. refl) u y.kind))
       ∙ ap (λ g. async_reset_in (g (retarget (inner_stand S) y))) (sym is_renamed) ∙ is) in
       let signal = resets.signals S.target.symbol S.c y w.reset S.is_found here w.has_reset in
-      let place = position_of_In y S.c.body here in
-      let value = inner_allows S u is_renamed fit k at sound w.reset.value (operand_there S.d fit (module_there S).0 S.c (module_there S).1 place.0 y w.reset.value place.1 w.value_named) in (
+      let position = position_of_In y S.c.body here in
+      let value = inner_allows S u is_renamed fit k at sound w.reset.value (operand_there S.d fit (module_there S).0 S.c (module_there S).1 position.0 y w.reset.value position.1 w.value_named) in (
         marked_same old_marks S.md (inner_stand S w.reset.signal) r.signal w.signal (inner_port w.reset.signal signal),
         constant_is (new_body S) r.value (ap (is_constant_ref (new_body S)) w.value
             ∙ value.constant (constant_told S.c.body w.reset.value (resets.values S.target.symbol S.c y w.reset S.is_found here w.has_reset))),

@@ -90,8 +90,8 @@ module _ (prefix : List ℕ) (op : OpId) (back : List ℕ) (wires copies : List 
       more false h = h
 
   -- a wire
-  wire_place : (k : ℕ) (w : OpId) → slice_get wires k ≡ Some w → position_of (new_ids prefix op back wires copies apart) w.index ≡ length prefix + k
-  wire_place k w at =
+  wire_position : (k : ℕ) (w : OpId) → slice_get wires k ≡ Some w → position_of (new_ids prefix op back wires copies apart) w.index ≡ length prefix + k
+  wire_position k w at =
       let here = number_at wires k w at in
       let some = counted_at (numbers wires) k w.index here in
       let few = apart w.index in
@@ -102,8 +102,8 @@ module _ (prefix : List ℕ) (op : OpId) (back : List ℕ) (wires copies : List 
       omega (arith, past, first, found)
 
   -- a copy
-  copy_place : (k : ℕ) (w : OpId) → slice_get copies k ≡ Some w → position_of (new_ids prefix op back wires copies apart) w.index ≡ length prefix + (wire_count o + k)
-  copy_place k w at =
+  copy_position : (k : ℕ) (w : OpId) → slice_get copies k ≡ Some w → position_of (new_ids prefix op back wires copies apart) w.index ≡ length prefix + (wire_count o + k)
+  copy_position k w at =
       let here = number_at copies k w at in
       let some = counted_at (numbers copies) k w.index here in
       let few = apart w.index in
@@ -116,8 +116,8 @@ module _ (prefix : List ℕ) (op : OpId) (back : List ℕ) (wires copies : List 
       omega (arith, past, next, first, found, wires_long)
 
   -- the instance itself
-  own_place : position_of (old_ids prefix op back wires copies apart) op.index ≡ length prefix + 0
-  own_place =
+  own_position : position_of (old_ids prefix op back wires copies apart) op.index ≡ length prefix + 0
+  own_position =
       let few = apart op.index in
       let own = times_self op.index back in
       let none : times op.index prefix ≡ 0 = omega (arith, few, own) in
@@ -164,9 +164,9 @@ module _ (prefix : List ℕ) (op : OpId) (back : List ℕ) (wires copies : List 
           → result (position_of (new_ids prefix op back wires copies apart) id.index) k
           ≡ outer_result (length prefix) o c k (side (length prefix) (position_of (old_ids prefix op back wires copies apart) id.index))
       others other (inl none) =
-          let old_place = position_back prefix (op.index ∷ back) id.index none ∙ ap (λ n. length prefix + n) (position_next op.index id.index back (λ same. other (sym same))) in
+          let old_position = position_back prefix (op.index ∷ back) id.index none ∙ ap (λ n. length prefix + n) (position_next op.index id.index back (λ same. other (sym same))) in
           ap (λ n. result n k) (of_back other none)
-          ∙ sym (ap (λ n. outer_result (length prefix) o c k (side (length prefix) n)) old_place ∙ ap (outer_result (length prefix) o c k) (side_back (length prefix) (suc (position_of back id.index))))
+          ∙ sym (ap (λ n. outer_result (length prefix) o c k (side (length prefix) n)) old_position ∙ ap (outer_result (length prefix) o c k) (side_back (length prefix) (suc (position_of back id.index))))
       others other (inr some) =
           ap (λ n. result n k) (of_prefix other some)
           ∙ sym (ap (λ n. outer_result (length prefix) o c k (side (length prefix) n)) (position_prefix prefix (op.index ∷ back) id.index some)
@@ -180,26 +180,26 @@ module _ (prefix : List ℕ) (op : OpId) (back : List ℕ) (wires copies : List 
           let zero_add : 0 + k ≡ k = omega arith in
           ap (ref_by (position_of (new_ids prefix op back wires copies apart)))
           (ap (λ n. redirect op 0 wires (Result id n)) (sym zero_add) ∙ redirect_result op 0 wires k w.0 id (wires_other prefix op back wires copies apart) w.1 same)
-          ∙ ap (λ n. result n 0) (wire_place k w.0 w.1) ∙ outer_of_op k w.0 w.1
-          ∙ sym (ap (λ n. outer_result (length prefix) o c k (side (length prefix) n)) (ap (position_of (old_ids prefix op back wires copies apart)) same ∙ own_place))
+          ∙ ap (λ n. result n 0) (wire_position k w.0 w.1) ∙ outer_of_op k w.0 w.1
+          ∙ sym (ap (λ n. outer_result (length prefix) o c k (side (length prefix) n)) (ap (position_of (old_ids prefix op back wires copies apart)) same ∙ own_position))
       go false is =
           ap (ref_by (position_of (new_ids prefix op back wires copies apart))) (redirect_other op 0 wires (Result id k) is)
           ∙ others (eqb-false id.index op.index is) (none_or_some (times id.index prefix))
 
   -- the first of the wires stands where the instance stood
-  pub first_place : (os : List Op) → unwire (first_position (new_ids prefix op back wires copies apart) wires) (length wires) os ≡ unwire (length prefix) (length wires) os
-  first_place os = go wires refl
+  pub first_stands : (os : List Op) → unwire (first_position (new_ids prefix op back wires copies apart) wires) (length wires) os ≡ unwire (length prefix) (length wires) os
+  first_stands os = go wires refl
     where
       go : (ws : List OpId) → wires ≡ ws → unwire (first_position (new_ids prefix op back wires copies apart) ws) (length ws) os ≡ unwire (length prefix) (length ws) os
       go [] is = refl
       go (w ∷ ws) is =
           let at : slice_get wires 0 ≡ Some w = ap (λ (ys : List OpId). slice_get ys 0) is in
-          let place : position_of (new_ids prefix op back wires copies apart) w.index ≡ length prefix = (let p = wire_place 0 w at in omega (arith, p)) in
-          ap (λ n. unwire n (suc (length ws)) os) place
+          let position : position_of (new_ids prefix op back wires copies apart) w.index ≡ length prefix = (let p = wire_position 0 w at in omega (arith, p)) in
+          ap (λ n. unwire n (suc (length ws)) os) position
 
   -- the instance stood there
   pub stood_at : position_of (old_ids prefix op back wires copies apart) op.index ≡ length prefix
-  stood_at = let p = own_place in omega (arith, p)
+  stood_at = let p = own_position in omega (arith, p)
 
   -- a value of the module
   module _ (vs : List Value) (all : All (IsOld prefix op back wires copies apart) vs)
@@ -227,7 +227,7 @@ module _ (prefix : List ℕ) (op : OpId) (back : List ℕ) (wires copies : List 
             ap (λ x. ref_by (position_of (new_ids prefix op back wires copies apart)) (redirect op 0 wires (copy_result x k))) one.1
             ∙ ap (ref_by (position_of (new_ids prefix op back wires copies apart)))
             (redirect_other op 0 wires (Result one.0 k) (not_of op one.0 k (copies_other prefix op back wires copies apart one.0 among)))
-            ∙ ap (λ n. result n k) (copy_place (position_of ids id.index) one.0 one.1)
+            ∙ ap (λ n. result n k) (copy_position (position_of ids id.index) one.0 one.1)
             ∙ sym (ap (λ n. inner_result (length prefix) o k (side (moved_count c) n)) (position_prefix ids rest id.index some)
             ∙ ap (inner_result (length prefix) o k) (side_prefix (moved_count c) (position_of ids id.index) (omega (arith, below, ids_long, many_copies))))
         go (inl none) =

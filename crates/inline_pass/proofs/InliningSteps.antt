@@ -126,12 +126,12 @@ walk_goes inner old now next id rest w step =
     let none = once_before w.done id.index (numbers rest) once in
     let back = ap (λ ids. position_of ids id.index) w.ids ∙ position_back w.done (id.index ∷ numbers rest) id.index none in
     let zero_is = position_self id.index (numbers rest) in
-    let place : position_of (ids_of now) id.index ≡ length w.done = omega (arith, back, zero_is) in
+    let position : position_of (ids_of now) id.index ≡ length w.done = omega (arith, back, zero_is) in
     let p = parted id.index (ops_of now) (contained_times (ids_of now) id.index (next_there inner old now id rest w)) in
     let found = ap₂ op_at p.all (sym p.is) ∙ middle_found p.prefix p.op p.back (ap (λ v. times v (ids_in p.prefix)) p.is ∙ p.none) in
     let there = op_at_position (op_by (position_of (ids_of now))) id.index (ops_of now) p.op found in
-    go (op_by (position_of (ids_of now)) p.op) (ap (slice_get (body_ops now)) (sym place) ∙ there) (inner (op_by (position_of (ids_of now)) p.op)) refl
-    (subst (λ n. IsStep now next n (op_by (position_of (ids_of now)) p.op) (inner (op_by (position_of (ids_of now)) p.op))) place (step (op_by (position_of (ids_of now)) p.op) there))
+    go (op_by (position_of (ids_of now)) p.op) (ap (slice_get (body_ops now)) (sym position) ∙ there) (inner (op_by (position_of (ids_of now)) p.op)) refl
+    (subst (λ n. IsStep now next n (op_by (position_of (ids_of now)) p.op) (inner (op_by (position_of (ids_of now)) p.op))) position (step (op_by (position_of (ids_of now)) p.op) there))
   where
     go : (o : Op) → slice_get (body_ops now) (length w.done) ≡ Some o → (x : Option Module) → inner o ≡ x → IsStep now next (length w.done) o x → IsWalking inner old next rest
     go o there None is (same, same_ids) = record {

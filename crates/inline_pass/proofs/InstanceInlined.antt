@@ -24,7 +24,7 @@ use Rattle.inline_pass.proofs.PutInlined.{given_ids}
 use Rattle.inline_pass.proofs.ResultsReplaced.{with_values, redirect, results_are, values_twice}
 use Rattle.inline_pass.proofs.InliningForm.{form, inlined_form, out_form}
 use Rattle.inline_pass.proofs.InliningValues.{numbers, old_ids, new_ids, IsOld, IsNew, old_new, moved_new}
-use Rattle.inline_pass.proofs.InliningPositions.{outer_seen, inner_seen, first_place, stood_at}
+use Rattle.inline_pass.proofs.InliningPositions.{outer_seen, inner_seen, first_stands, stood_at}
 use Rattle.inline_pass.proofs.InliningOps.{before_seen, outputs_seen, ops_after, ops_seen, copies_seen, wires_seen, take_prefix, drop_prefix}
 use Rattle.body_edits.proofs.WiresTakenOut.{all_left, remove_middle}
 
@@ -235,14 +235,14 @@ module _ (prefix : List BodyOp) (x : BodyOp) (back : List BodyOp) (op : OpId) (s
 
     -- ---- by positions
 
-    abbrev pub old_place : ℕ → ℕ
-    old_place = position_of (old_ids (ids_in prefix) op (ids_in back) wires put.copies apart)
+    abbrev pub old_position : ℕ → ℕ
+    old_position = position_of (old_ids (ids_in prefix) op (ids_in back) wires put.copies apart)
 
-    abbrev pub new_place : ℕ → ℕ
-    new_place = position_of (new_ids (ids_in prefix) op (ids_in back) wires put.copies apart)
+    abbrev pub new_position : ℕ → ℕ
+    new_position = position_of (new_ids (ids_in prefix) op (ids_in back) wires put.copies apart)
 
     abbrev pub o : Op
-    o = op_by old_place x
+    o = op_by old_position x
 
     abbrev pub i : ℕ
     i = length (ids_in prefix)
@@ -253,53 +253,53 @@ module _ (prefix : List BodyOp) (x : BodyOp) (back : List BodyOp) (op : OpId) (s
     own_ids : before_ids ++ ids_in (ops_after own).0 ≡ ids_in own
     own_ids = sym (ids_append (ops_before_output own) (ops_after own).0) ∙ ap ids_in (sym (ops_after own).1)
 
-    inner_is : (v : Value) → ref_by new_place (r (g v)) ≡ inner_ref i o callee (ref_by (position_of (ids_in own)) v)
+    inner_is : (v : Value) → ref_by new_position (r (g v)) ≡ inner_ref i o callee (ref_by (position_of (ids_in own)) v)
     inner_is v =
         inner_seen (ids_in prefix) op (ids_in back) wires put.copies apart o callee put.many_wires many_copies x.operands x_olds refl before_ids (ids_in (ops_after own).0)
         (length-map (ops_before_output own) (λ (y : BodyOp). y.id) ∙ sym put.many_copies) v
         ∙ ap (λ ids. inner_ref i o callee (ref_by (position_of ids) v)) own_ids
 
-    outer_are : (os : List BodyOp) → All (λ (o : BodyOp). All Old o.operands) os → map (op_by new_place) (map (with_values r) os) ≡ map (retarget (outer_ref i o callee)) (map (op_by old_place) os)
+    outer_are : (os : List BodyOp) → All (λ (o : BodyOp). All Old o.operands) os → map (op_by new_position) (map (with_values r) os) ≡ map (retarget (outer_ref i o callee)) (map (op_by old_position) os)
     outer_are os all =
-        ops_seen new_place old_place r (outer_ref i o callee) os
-        (all_through (λ (y : BodyOp). All Old y.operands) (λ (y : BodyOp). All (λ v. ref_by new_place (r v) ≡ outer_ref i o callee (ref_by old_place v)) y.operands)
-        (λ y each. all_through Old (λ v. ref_by new_place (r v) ≡ outer_ref i o callee (ref_by old_place v))
+        ops_seen new_position old_position r (outer_ref i o callee) os
+        (all_through (λ (y : BodyOp). All Old y.operands) (λ (y : BodyOp). All (λ v. ref_by new_position (r v) ≡ outer_ref i o callee (ref_by old_position v)) y.operands)
+        (λ y each. all_through Old (λ v. ref_by new_position (r v) ≡ outer_ref i o callee (ref_by old_position v))
         (λ v old. outer_seen (ids_in prefix) op (ids_in back) wires put.copies apart o callee put.many_wires many_copies v old) y.operands each) os all)
 
-    pub out_seen : map (op_by new_place) left_form ≡ inline_op (renamed u) i o callee (map (op_by old_place) (prefix ++ (x ∷ back)))
+    pub out_seen : map (op_by new_position) left_form ≡ inline_op (renamed u) i o callee (map (op_by old_position) (prefix ++ (x ∷ back)))
     out_seen =
         let Q : BodyOp → Type 0 = λ y. All Old y.operands in
         let h : Value → Value = λ v. r (g v) in
-        map-append (op_by new_place) (map (with_values r) prefix) (map (with_values h) ws ++ (map (with_values h) cs ++ map (with_values r) back))
+        map-append (op_by new_position) (map (with_values r) prefix) (map (with_values h) ws ++ (map (with_values h) cs ++ map (with_values r) back))
         ∙ ap₂ (λ ps qs. ps ++ qs) (outer_are prefix (all_first Q prefix (x ∷ back) olds))
-        (map-append (op_by new_place) (map (with_values h) ws) (map (with_values h) cs ++ map (with_values r) back)
+        (map-append (op_by new_position) (map (with_values h) ws) (map (with_values h) cs ++ map (with_values r) back)
         ∙ ap₂ (λ ps qs. ps ++ qs)
-        (wires_seen new_place (position_of (ids_in own)) h (inner_ref i o callee) refl inner_is x.parts.location wires x.parts.results (output_values own) put.many_wires
+        (wires_seen new_position (position_of (ids_in own)) h (inner_ref i o callee) refl inner_is x.parts.location wires x.parts.results (output_values own) put.many_wires
         ∙ ap (wire_ops x.parts.location (inner_ref i o callee) x.parts.results) (sym (outputs_seen (position_of (ids_in own)) own)))
-        (map-append (op_by new_place) (map (with_values h) cs) (map (with_values r) back)
+        (map-append (op_by new_position) (map (with_values h) cs) (map (with_values r) back)
         ∙ ap₂ (λ ps qs. ps ++ qs)
-        (copies_seen new_place (position_of (ids_in own)) h (inner_ref i o callee) u inner_is put.copies (ops_before_output own) put.many_copies
+        (copies_seen new_position (position_of (ids_in own)) h (inner_ref i o callee) u inner_is put.copies (ops_before_output own) put.many_copies
         ∙ ap (map (λ (y : Op). renamed u (retarget (inner_ref i o callee) y))) (sym (before_seen (position_of (ids_in own)) own)))
         (outer_are back (rest_of_all Q x back (all_second Q prefix (x ∷ back) olds)))))
         ∙ ap₂ (λ ps qs. inlined_between (renamed u) i o callee ps qs) (sym prefix_is) (sym back_is)
       where
-        long : length (ids_in prefix) ≡ length (map (op_by old_place) prefix)
-        long = length-map prefix (λ (y : BodyOp). y.id) ∙ sym (length-map prefix (op_by old_place))
+        long : length (ids_in prefix) ≡ length (map (op_by old_position) prefix)
+        long = length-map prefix (λ (y : BodyOp). y.id) ∙ sym (length-map prefix (op_by old_position))
 
-        whole : map (op_by old_place) (prefix ++ (x ∷ back)) ≡ map (op_by old_place) prefix ++ (o ∷ map (op_by old_place) back)
-        whole = map-append (op_by old_place) prefix (x ∷ back)
+        whole : map (op_by old_position) (prefix ++ (x ∷ back)) ≡ map (op_by old_position) prefix ++ (o ∷ map (op_by old_position) back)
+        whole = map-append (op_by old_position) prefix (x ∷ back)
 
-        prefix_is : take i (map (op_by old_place) (prefix ++ (x ∷ back))) ≡ map (op_by old_place) prefix
-        prefix_is = ap₂ (λ n os. take n os) long whole ∙ take_prefix (map (op_by old_place) prefix) (o ∷ map (op_by old_place) back)
+        prefix_is : take i (map (op_by old_position) (prefix ++ (x ∷ back))) ≡ map (op_by old_position) prefix
+        prefix_is = ap₂ (λ n os. take n os) long whole ∙ take_prefix (map (op_by old_position) prefix) (o ∷ map (op_by old_position) back)
 
-        back_is : drop (suc i) (map (op_by old_place) (prefix ++ (x ∷ back))) ≡ map (op_by old_place) back
-        back_is = ap₂ (λ n os. drop (suc n) os) long whole ∙ drop_prefix (map (op_by old_place) prefix) o (map (op_by old_place) back)
+        back_is : drop (suc i) (map (op_by old_position) (prefix ++ (x ∷ back))) ≡ map (op_by old_position) back
+        back_is = ap₂ (λ n os. drop (suc n) os) long whole ∙ drop_prefix (map (op_by old_position) prefix) o (map (op_by old_position) back)
 
     -- with the wires taken out
-    pub finished : unwire (first_position (ids_in out) wires) (length wires) (ops_by_position out) ≡ unwire i (wire_count o) (inline_op (renamed u) i o callee (map (op_by old_place) (prefix ++ (x ∷ back))))
+    pub finished : unwire (first_position (ids_in out) wires) (length wires) (ops_by_position out) ≡ unwire i (wire_count o) (inline_op (renamed u) i o callee (map (op_by old_position) (prefix ++ (x ∷ back))))
     finished =
         ap (λ ids. unwire (first_position ids wires) (length wires) (ops_by_position out)) out_ids
-        ∙ first_place (ids_in prefix) op (ids_in back) wires put.copies apart o callee put.many_wires many_copies (ops_by_position out)
+        ∙ first_stands (ids_in prefix) op (ids_in back) wires put.copies apart o callee put.many_wires many_copies (ops_by_position out)
         ∙ ap₂ (λ n os. unwire i n os) put.many_wires (ap ops_by_position out_is ∙ ap (λ ids. map (op_by (position_of ids)) left_form) left_ids ∙ out_seen)
 
     pub stood : position_of (old_ids (ids_in prefix) op (ids_in back) wires put.copies apart) op.index ≡ i

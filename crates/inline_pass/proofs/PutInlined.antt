@@ -15,8 +15,8 @@ use Rattle.ir_store.specs.Live.{AreDistinct}
 use Rattle.ir_store.specs.PositionTables.{ArePositions}
 use Rattle.ir_store.proofs.Living.{ids_stay}
 use Rattle.inline_pass.specs.MovedOps.{AreMoved, ArePutBefore, all_put_before, copy_of, joined_values, moved_value, operands_moved, ops_before_output, output_values, with_ids, without_id, wires_of}
-use Rattle.inline_pass.specs.declared.moved_ops.Places.{Places}
-use Rattle.inline_pass.specs.Places.{ArePlaces, place_ids}
+use Rattle.inline_pass.specs.declared.moved_ops.Destinations.{Destinations}
+use Rattle.inline_pass.specs.Destinations.{AreDestinations, destination_ids}
 use Rattle.inline_pass.proofs.PuttingBefore.{times-all_put}
 
 -- the ids of operations before an output are those of a body
@@ -105,13 +105,13 @@ are_put_before u ports own o ops0 ops1 ops2 ops3 ops4 wires copies ids moved_ops
     as_many at [] vs = refl
     as_many at (x ∷ xs) vs = ap suc (as_many at xs (drop 1 vs))
 
--- the places of values of the module are told
-pub places_told : (p : Places) (u : Name) (own : List BodyOp) (ids copies : List OpId) (moved_ops : List NewOp) (given : List Value) (positions : List ℕ) → AreMoved u own ids moved_ops given
+-- the positions of values of the module are told
+pub destinations_told : (p : Destinations) (u : Name) (own : List BodyOp) (ids copies : List OpId) (moved_ops : List NewOp) (given : List Value) (positions : List ℕ) → AreMoved u own ids moved_ops given
     → AreDistinct (ids_in own) → ArePositions (map (λ (i : OpId). i.index) ids) positions → length copies ≡ length moved_ops
-    → p.ids.now ≡ ids → p.positions.now ≡ positions → p.copies.now ≡ copies → ArePlaces p
-places_told p u own ids copies moved_ops given positions moved once table many ids_are positions_are copies_are = record {
+    → p.ids.now ≡ ids → p.positions.now ≡ positions → p.copies.now ≡ copies → AreDestinations p
+destinations_told p u own ids copies moved_ops given positions moved once table many ids_are positions_are copies_are = record {
   distinct = subst AreDistinct (ap (map (λ (i : OpId). i.index)) (sym ids_are)) (moved_distinct u own ids moved_ops given moved once);
-  positions = subst (λ (ps : List ℕ). ArePositions (place_ids p) ps) (sym positions_are) (subst (λ (is : List OpId). ArePositions (map (λ (i : OpId). i.index) is) positions) (sym ids_are) table);
+  positions = subst (λ (ps : List ℕ). ArePositions (destination_ids p) ps) (sym positions_are) (subst (λ (is : List OpId). ArePositions (map (λ (i : OpId). i.index) is) positions) (sym ids_are) table);
   many =
       let whole = length-map moved_ops without_id in
       let seen = ap length moved.copies_are ∙ length-map (ops_before_output own) (copy_of u) in

@@ -8,7 +8,7 @@ use Rattle.graphs.specs.Graphs.{has_mark, AreReached}
 use Rattle.hw_model.specs.Design.{Module, Design}
 use Rattle.design_cycles.specs.Asked.{HasDistinctSymbols}
 use Rattle.design_cycles.specs.Calls.{call_lists}
-use Rattle.design_cycles.proofs.Callees.{number_found, place_found, chain_numbers, chain_symbols, found_at}
+use Rattle.design_cycles.proofs.Callees.{number_found, position_found, chain_numbers, chain_symbols, found_at}
 use Rattle.pass_laws.specs.Remaining.{IsReached}
 use Rattle.inline_pass.specs.Marks.{IsPublicAt, ArePublicBefore, AreReachedMarks}
 
@@ -26,10 +26,10 @@ module _ (d : Design) (distinct : HasDistinctSymbols d) (starts : List ℕ) (pub
   reached_mark : (j : ℕ) (n : Module) → slice_get d j ≡ Some n → IsReached d n.symbol → has_mark marks j ≡ true
   reached_mark j n at (top, k, (m, is, mark), chain) =
       let number = number_found d top m is in
-      let place = place_found d top number.0 number.1 in
-      let same : place.0 ≡ m = let both : Some place.0 ≡ Some m = sym place.3 ∙ is in cc in
-      let within : number.0 < length d = slice_get_within d number.0 place.0 place.1 in
-      let start : In number.0 starts = (public number.0).1 (within, (place.0, place.1, ap (λ (x : Module). x.is_private) same ∙ mark)) in
+      let position = position_found d top number.0 number.1 in
+      let same : position.0 ≡ m = let both : Some position.0 ≡ Some m = sym position.3 ∙ is in cc in
+      let within : number.0 < length d = slice_get_within d number.0 position.0 position.1 in
+      let start : In number.0 starts = (public number.0).1 (within, (position.0, position.1, ap (λ (x : Module). x.is_private) same ∙ mark)) in
       reached.complete number.0 k j start (chain_numbers d k top n.symbol number.0 j chain number.1 (found_at d distinct j n at).0)
       (subst (λ size. j < size) (sym (length-map d _)) (slice_get_within d j n at))
 

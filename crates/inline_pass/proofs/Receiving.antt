@@ -16,10 +16,10 @@ use Rattle.hw_model.specs.Hierarchy.{callee_symbols}
 use Rattle.ir_store.specs.declared.body.Body.{Body}
 use Rattle.ir_store.specs.BodyOps.{BodyOp}
 use Rattle.ir_store.specs.Numbered.{ops_by_position}
-use Rattle.ir_store.specs.Symbols.{symbol_place}
+use Rattle.ir_store.specs.Symbols.{symbol_position}
 use Rattle.ir_store.specs.Designs.{StoredModule, numbered_module}
 use Rattle.design_cycles.specs.Calls.{symbols_in}
-use Rattle.design_cycles.proofs.Callees.{In-numbers, from_In-numbers, place_found, number_found}
+use Rattle.design_cycles.proofs.Callees.{In-numbers, from_In-numbers, position_found, number_found}
 use Rattle.body_edits.specs.Views.{body_ops}
 use Rattle.inline_pass.specs.Flattening.{if_private, private_found, flat_body, by_symbol, inline_all}
 use Rattle.inline_pass.specs.Inlinable.{IsInlinable}
@@ -47,7 +47,7 @@ module _ {Z : Type 0} (numbers : List ℕ) (received : List (Option (Arc Body Z)
   earlier q ops is = go (are.from q ops is)
     where
       go : (j : ℕ) × (body : Arc Body Z) × (j < i) × (get_or numbers j 0 ≡ q) × (slice_get received j ≡ Some (Some body)) × (ops_in body ≡ ops) → IsFrom q ops
-      go (j, body, below, place, there, same) = (j, body, omega (arith, below), place, there, same)
+      go (j, body, below, position, there, same) = (j, body, omega (arith, below), position, there, same)
 
   from : (o : Option (Arc Body Z)) → slice_get received i ≡ Some o → IsStep o → (q : ℕ) (ops : List BodyOp) → next q ≡ Some ops → IsFrom q ops
   from None at step q ops is = earlier q ops (sym (step q) ∙ is)
@@ -107,7 +107,7 @@ of_stripped : (d : Design) → symbols_in (map stripped d) ≡ symbols_in d
 of_stripped [] = refl
 of_stripped (m ∷ d) = ap (λ ss. m.symbol ∷ ss) (of_stripped d)
 
--- the module at a place
+-- the module at a position
 header_at : (d : Design) (hs : List StoredModule) → AreHeaders d hs → (q : ℕ) (m : Module) → slice_get d q ≡ Some m → (h : StoredModule) × (slice_get hs q ≡ Some h) × (numbered_module h ≡ stripped m)
 header_at d hs are q m at = go (slice_get hs q) refl
   where
@@ -130,14 +130,14 @@ module _ {Z : Type 0} (d : Design) (k : ℕ) (headers : List StoredModule) (numb
 
   named : (t : Name) (c : Module) → received_look headers have t ≡ Some c → In t (callee_symbols one.own.owner.body)
   named t c is =
-      let placed = and_then_some (symbol_place t (map (λ (m : StoredModule). m.symbol) headers)) _ is in
+      let placed = and_then_some (symbol_position t (map (λ (m : StoredModule). m.symbol) headers)) _ is in
       let there = and_then_some (have placed.0) _ placed.2 in
       let source = are.from placed.0 there.0 there.1 in
       let j = source.0 in
       let listed : In placed.0 numbers = In-slice_get placed.0 numbers j (slice_get-get_or numbers j 0 source.2 ∙ ap Some source.3) in
       let other = from_In-numbers (symbols_in d) placed.0 (callee_symbols one.own.owner.body) (subst (In placed.0) one.numbers_are listed) in
-      let mine = place_found d t placed.0 (ap (symbol_place t) (sym symbols_same) ∙ placed.1) in
-      let its = place_found d other.0 placed.0 other.2 in
+      let mine = position_found d t placed.0 (ap (symbol_position t) (sym symbols_same) ∙ placed.1) in
+      let its = position_found d other.0 placed.0 other.2 in
       let both : Some mine.0 ≡ Some its.0 = sym mine.1 ∙ its.1 in
       let same : mine.0 ≡ its.0 = cc in
       let name : other.0 ≡ t = sym its.2 ∙ ap (λ (m : Module). m.symbol) (sym same) ∙ mine.2 in
@@ -147,14 +147,14 @@ module _ {Z : Type 0} (d : Design) (k : ℕ) (headers : List StoredModule) (numb
   held_flat : (q : ℕ) → In q numbers → (ops : List BodyOp) × (have q ≡ Some ops) × ((m : Module) → slice_get d q ≡ Some m → ops_by_position ops ≡ flat_body (depth d) d m.body)
   unfolding body_ops
   held_flat q listed =
-      let place = position_of_In q numbers listed in
-      let j = place.0 in
-      let below : j < length numbers = slice_get_within numbers j q place.1 in
+      let position = position_of_In q numbers listed in
+      let j = position.0 in
+      let below : j < length numbers = slice_get_within numbers j q position.1 in
       let there = slice_get_some received j (omega (arith, below, one.many)) in
       let flat = one.flat j there.0 there.1 in
       let some : slice_get received j ≡ Some (Some flat.0) = there.1 ∙ ap Some flat.1 in
       let holds = are.all j flat.0 below some in
-      let here : Some (get_or numbers j 0) ≡ Some q = sym (slice_get-get_or numbers j 0 below) ∙ place.1 in
+      let here : Some (get_or numbers j 0) ≡ Some q = sym (slice_get-get_or numbers j 0 below) ∙ position.1 in
       let number : get_or numbers j 0 ≡ q = cc in
       let is : have q ≡ Some holds.0 = ap have (sym number) ∙ holds.1 in
       let source = are.from q holds.0 is in
@@ -174,30 +174,30 @@ module _ {Z : Type 0} (d : Design) (k : ℕ) (headers : List StoredModule) (numb
   flat : (t : Name) → In t (callee_symbols one.own.owner.body) → received_look headers have t ≡ option_map (flat_module d) (private_found d t)
   flat t here = go (find_module d t) refl
     where
-      nothing : find_module d t ≡ None → (x : Option ℕ) → symbol_place t (symbols_in d) ≡ x → received_look headers have t ≡ None
-      nothing none None place =
-          let at : symbol_place t (map (λ (m : StoredModule). m.symbol) headers) ≡ None = ap (symbol_place t) symbols_same ∙ place in
+      nothing : find_module d t ≡ None → (x : Option ℕ) → symbol_position t (symbols_in d) ≡ x → received_look headers have t ≡ None
+      nothing none None position =
+          let at : symbol_position t (map (λ (m : StoredModule). m.symbol) headers) ≡ None = ap (symbol_position t) symbols_same ∙ position in
           rw at refl
-      nothing none (Some q) place =
-          let found = place_found d t q place in
+      nothing none (Some q) position =
+          let found = position_found d t q position in
           let clash : None ≡ Some found.0 = sym none ∙ found.3 in cc
 
       go : (x : Option Module) → find_module d t ≡ x → received_look headers have t ≡ option_map (flat_module d) (private_found d t)
-      go None none = nothing none (symbol_place t (symbols_in d)) refl ∙ sym (ap (λ x. option_map (flat_module d) (option_and_then if_private x)) none)
+      go None none = nothing none (symbol_position t (symbols_in d)) refl ∙ sym (ap (λ x. option_map (flat_module d) (option_and_then if_private x)) none)
       go (Some c) is =
           let number = number_found d t c is in
           let q = number.0 in
-          let found = place_found d t q number.1 in
+          let found = position_found d t q number.1 in
           let m = found.0 in
           let listed : In q numbers = subst (In q) (sym one.numbers_are) (In-numbers (symbols_in d) t q (callee_symbols one.own.owner.body) here number.1) in
           let holds = held_flat q listed in
           let header = header_at d headers one.headers_are q m found.1 in
-          let placed : symbol_place t (map (λ (x : StoredModule). x.symbol) headers) ≡ Some q = ap (symbol_place t) symbols_same ∙ number.1 in
+          let placed : symbol_position t (map (λ (x : StoredModule). x.symbol) headers) ≡ Some q = ap (symbol_position t) symbols_same ∙ number.1 in
           let now : numbered_module (record header.0 { ops = holds.0 }) ≡ flat_module d m =
           ap (λ (z : Module). record z { body = ops_by_position holds.0 }) header.2 ∙ ap (λ os. record m { body = os }) (holds.2 m found.1) in
           looked q holds.0 header.0 placed holds.1 header.1 ∙ ap if_private now ∙ by_mark m m.is_private ∙ sym (ap (λ x. option_map (flat_module d) (option_and_then if_private x)) found.3)
         where
-          looked : (q : ℕ) (ops : List BodyOp) (h : StoredModule) → symbol_place t (map (λ (x : StoredModule). x.symbol) headers) ≡ Some q → have q ≡ Some ops → slice_get headers q ≡ Some h
+          looked : (q : ℕ) (ops : List BodyOp) (h : StoredModule) → symbol_position t (map (λ (x : StoredModule). x.symbol) headers) ≡ Some q → have q ≡ Some ops → slice_get headers q ≡ Some h
               → received_look headers have t ≡ if_private (numbered_module (record h { ops = ops }))
           looked q ops h placed holds at = rw (placed, holds, at) refl
 

@@ -25,13 +25,13 @@ inlined_at i o c os = inline_without_wires (renamed (instance_name o)) i o c os
 abbrev pub inline_at : (Op → Option Module) → (ℕ → List Op → List Op) → ℕ → List Op → List Op
 inline_at inner rest i os = go (slice_get os i)
   where
-    place : Op → Option Module → List Op
-    place o None = rest (suc i) os
-    place o (Some c) = rest (i + moved_count c) (inlined_at i o c os)
+    position : Op → Option Module → List Op
+    position o None = rest (suc i) os
+    position o (Some c) = rest (i + moved_count c) (inlined_at i o c os)
 
     go : Option Op → List Op
     go None = os
-    go (Some o) = place o (inner o)
+    go (Some o) = position o (inner o)
 
 -- so many operations from position i on, one after another
 abbrev pub inline_from : (Op → Option Module) → ℕ → ℕ → List Op → List Op
@@ -58,7 +58,7 @@ private_found d s = option_and_then if_private (find_module d s)
 abbrev pub by_kind : (Name → Option Module) → Kind → Option Module
 by_kind look k = option_and_then (λ (i : Instance). look i.symbol) (instance_in k)
 
--- so for an operation
+-- the module that `look` gives for the symbol of which an operation is an instance
 abbrev pub by_symbol : (Name → Option Module) → Op → Option Module
 by_symbol look o = by_kind look o.kind
 

@@ -32,7 +32,7 @@ abbrev pub IsStep : Body → Body → ℕ → Op → Option Module → Type 0
 IsStep before after i o None = (body_ops after ≡ body_ops before) × (ids_of after ≡ ids_of before)
 IsStep before after i o (Some c) = IsInlinedAt before after i o c
 
--- so with the module that `inner` gives for the operation at position i
+-- where `inner` gives a module for the operation at position i, it is inlined; else the body stays
 abbrev pub IsStepAt : (Op → Option Module) → Body → Body → ℕ → Type 0
 IsStepAt inner before after i = (o : Op) → slice_get (body_ops before) i ≡ Some o → IsStep before after i o (inner o)
 

@@ -6,6 +6,6 @@ pub mod Inlinable
 pub mod Marks
 pub mod MovedOps
 pub mod OneBody
-pub mod Places
+pub mod Destinations
 pub mod Received
 pub mod Renaming

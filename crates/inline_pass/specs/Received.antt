@@ -8,7 +8,7 @@ use Rattle.hw_model.specs.Design.{Module}
 use Rattle.ir_store.specs.declared.body.Body.{Body}
 use Rattle.ir_store.specs.BodyOps.{BodyOp}
 use Rattle.ir_store.specs.Bodies.{ops_of}
-use Rattle.ir_store.specs.Symbols.{symbol_place}
+use Rattle.ir_store.specs.Symbols.{symbol_position}
 use Rattle.ir_store.specs.Designs.{StoredModule, numbered_module}
 use Rattle.inline_pass.specs.Flattening.{if_private}
 
@@ -35,4 +35,4 @@ module _ {Z : Type 0} where
 -- the module of a symbol, with the operations that are held for it, if it is private
 abbrev pub received_look : List StoredModule → (ℕ → Option (List BodyOp)) → Name → Option Module
 received_look headers have s =
-    option_and_then (λ q. option_and_then (λ ops. option_and_then (λ (m : StoredModule). if_private (numbered_module (record m { ops = ops }))) (slice_get headers q)) (have q)) (symbol_place s (map (λ (m : StoredModule). m.symbol) headers))
+    option_and_then (λ q. option_and_then (λ ops. option_and_then (λ (m : StoredModule). if_private (numbered_module (record m { ops = ops }))) (slice_get headers q)) (have q)) (symbol_position s (map (λ (m : StoredModule). m.symbol) headers))

@@ -4,10 +4,10 @@ ghost use Rattle.ir_store.specs.Bodies.{ids_of, ops_of};
 ghost use Rattle.body_edits.specs.Views.{HasOp, body_ops};
 ghost use Rattle.inline_laws.specs.Unwire.{unwire};
 ghost use Rattle.inline_pass.specs.MovedOps.{without_id, with_ids, all_put_before, operands_moved, results_replaced};
-ghost use Rattle.inline_pass.specs.Places.{ArePlaces, value_there};
+ghost use Rattle.inline_pass.specs.Destinations.{AreDestinations, value_there};
 ghost use Rattle.body_edits.specs.WiresOut.{StandTogether, first_position, ids_without};
 
-use crate::moved_ops::Places;
+use crate::moved_ops::Destinations;
 use body_edits::wires::carried_value;
 use ir_store::body::Body;
 use ir_store::operation::{NewOp, OpId, Value};
@@ -36,20 +36,20 @@ pub(crate) fn put_all_before(
     Ok(ids)
 }
 
-/// Gives each operand of some operations of a body, which is a value of a module, its place there. On an error, which comes
+/// Gives each operand of some operations of a body, which is a value of a module, its position there. On an error, which comes
 /// where memory that is needed is refused, some of them have theirs.
 pub(crate) fn move_operands(
     alloc: Global,
     body: &mut Body,
-    places: &Places<'_>,
+    destinations: &Destinations<'_>,
     ops: &[OpId],
 ) -> Result<(), AllocError>
-    requires places { ArePlaces places.now }
+    requires destinations { AreDestinations destinations.now }
     requires live { All (HasOp body.old) ops.now }
-    ensures { OnOk result (ops_of body.new ≡ operands_moved (value_there places.now) ops.now (ops_of body.old)) }
+    ensures { OnOk result (ops_of body.new ≡ operands_moved (value_there destinations.now) ops.now (ops_of body.old)) }
 {
     for op in ops {
-        let operands = places.all_moved(alloc, body.op(*op).operands)?;
+        let operands = destinations.all_moved(alloc, body.op(*op).operands)?;
         body.set_operands(*op, operands.as_slice())?;
     }
     Ok(())

@@ -13,7 +13,7 @@ ghost use Rattle.inline_pass.specs.MovedOps.{ArePutBefore};
 
 use crate::body_changes::{move_operands, put_all_before, replace_results, take_wires_out};
 use crate::callees::{Callee, Callees};
-use crate::moved_ops::{Places, moved_ops, values_joined, wires_for};
+use crate::moved_ops::{Destinations, moved_ops, values_joined, wires_for};
 use hw_model::kinds::OpKind;
 use ir_store::body::Body;
 use ir_store::operation::OpId;
@@ -103,14 +103,14 @@ fn put_inlined(
     let positions = positions_of(alloc, moved.ids.as_slice())?;
     let wires = put_all_before(alloc, body, op, wires)?;
     let copies = put_all_before(alloc, body, op, moved.copies)?;
-    let places = Places {
+    let destinations = Destinations {
         joined: joined.as_slice(),
         ids: moved.ids.as_slice(),
         positions: positions.as_slice(),
         copies: copies.as_slice(),
     };
-    move_operands(alloc, body, &places, wires.as_slice())?;
-    move_operands(alloc, body, &places, copies.as_slice())?;
+    move_operands(alloc, body, &destinations, wires.as_slice())?;
+    move_operands(alloc, body, &destinations, copies.as_slice())?;
     Ok(wires)
 }
 

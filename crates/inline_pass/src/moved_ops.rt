@@ -9,7 +9,7 @@ ghost use Rattle.ir_store.specs.Numbered.{position_of};
 ghost use Rattle.hw_model.specs.TypeViews.{type_of};
 ghost use Rattle.body_edits.specs.WiresOut.{value_or_undefined};
 ghost use Rattle.inline_pass.specs.MovedOps.{AreMoved, joined_values, without_id, wire_of, wires_of};
-ghost use Rattle.inline_pass.specs.Places.{ArePlaces, place_ids, value_there};
+ghost use Rattle.inline_pass.specs.Destinations.{AreDestinations, destination_ids, value_there};
 
 use crate::renamed_ops::renamed_op;
 use diag::refusal::Location;
@@ -33,7 +33,7 @@ pub(crate) struct Moved {
 
 /// Where the values of a module are in the place of its instance.
 #[derive(Drop)]
-pub(crate) struct Places<'a> {
+pub(crate) struct Destinations<'a> {
     /// What the instance joins to each port.
     pub(crate) joined: &'a [Value],
     /// The ids of the operations before the output.
@@ -125,14 +125,14 @@ fn wire_for(alloc: Global, ty: &Ty, value: Value, location: Location) -> Result<
     NewOp::of_type(alloc, OpKind::Wire, &[value], ty, location)
 }
 
-impl<'a> Places<'a> {
+impl<'a> Destinations<'a> {
     /// Values of the module in the place of its instance.
     pub(crate) fn all_moved(
         &self,
         alloc: Global,
         values: &[Value],
     ) -> Result<Vec<Value>, AllocError>
-        requires { ArePlaces self.now }
+        requires { AreDestinations self.now }
         ensures { IfOk result (λ all. all.items ≡ map (value_there self.now) values.now) }
     {
         let mut all = Vec::with_capacity(alloc, values.len())?;
@@ -144,7 +144,7 @@ impl<'a> Places<'a> {
 
     /// A value of the module in the place of its instance.
     fn moved_value(&self, value: Value) -> Value
-        requires { ArePlaces self.now }
+        requires { AreDestinations self.now }
         ensures { result ≡ value_there self.now value }
     {
         match value {
@@ -169,16 +169,16 @@ impl<'a> Places<'a> {
 
     /// The copy of an operation of the module before its output.
     fn copy(&self, id: OpId) -> Option<OpId>
-        requires { ArePlaces self.now }
-        ensures { result ≡ slice_get self.now.copies.now (position_of (place_ids self.now) id.index) }
+        requires { AreDestinations self.now }
+        ensures { result ≡ slice_get self.now.copies.now (position_of (destination_ids self.now) id.index) }
     {
         self.copies.get(self.position(id)).copied()
     }
 
     /// The position of an operation before the output; of another one, their number.
     fn position(&self, id: OpId) -> usize
-        requires { ArePlaces self.now }
-        ensures { result ≡ position_of (place_ids self.now) id.index }
+        requires { AreDestinations self.now }
+        ensures { result ≡ position_of (destination_ids self.now) id.index }
     {
         match self.noted_position(id) {
             Some(position) => (position as usize).min(self.ids.len()),

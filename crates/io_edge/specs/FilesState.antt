@@ -8,7 +8,7 @@ use Rattle.io_edge.specs.Writing.{with_file}
 use Rattle.io_edge.specs.declared.file_access.FileFail.{FileFail}
 use Rattle.io_edge.specs.declared.file_access.FileFail.TheVariants.{Failed, NoMemory}
 
--- `failing` are the reads that are to fail, by their places from 0 on, and `reads` is the place of the next read; so too
+-- `failing` are the reads that are to fail, by their positions from 0 on, and `reads` is the position of the next read; so too
 -- for writes
 pub record FilesState : Type 0 where
   pub files : List (List ℕ × List ℕ)
@@ -34,7 +34,7 @@ without_faults files = record {
 -- what the next read is to answer; None is a fault, at a read that is to fail and at an unknown name
 abbrev pub expected_read : FilesState → List ℕ → ℕ → Option (List ℕ)
 expected_read state name limit =
-    if list_any (λ place. place == state.reads) state.failing then None else option_map (take limit) (file_at name state.files)
+    if list_any (λ position. position == state.reads) state.failing then None else option_map (take limit) (file_at name state.files)
 
 -- the files after a read
 abbrev pub after_read : FilesState → List ℕ → ℕ → FilesState
@@ -52,7 +52,7 @@ IsAnswer expected_read (Err NoMemory) = IsSome expected_read
 
 -- whether the next write is to fail
 abbrev pub fails_next : FilesState → Bool
-fails_next state = list_any (λ place. place == state.writes) state.failing_writes
+fails_next state = list_any (λ position. position == state.writes) state.failing_writes
 
 -- the files after a write that answered so
 abbrev pub after_write : {T : Type 0} → FilesState → List ℕ → List ℕ → Result T FileFail → FilesState

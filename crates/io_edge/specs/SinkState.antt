@@ -3,7 +3,7 @@ use Rattle.std.specs.Prelude.{ℕ, ◌+◌, ◌-◌, List, [], ◌++◌, take, l
 use Rattle.std.specs.List.{list_any}
 use Rattle.io_edge.specs.Faults.{next_count}
 
--- `failing` are the puts that are to fail, by their places from 0 on, and `calls` is the place of the next put
+-- `failing` are the puts that are to fail, by their positions from 0 on, and `calls` is the position of the next put
 pub record SinkState : Type 0 where
   pub held : List ℕ
   pub room : ℕ
@@ -17,7 +17,7 @@ empty_sink room = record { held = []; room = room; failing = []; calls = 0; faul
 
 -- whether the next put is to fail
 abbrev pub is_to_fail : SinkState → Bool
-is_to_fail sink = list_any (λ place. place == sink.calls) sink.failing
+is_to_fail sink = list_any (λ position. position == sink.calls) sink.failing
 
 -- what the sink takes of a piece: nothing at a put that is to fail, else as much as there is room for
 abbrev pub taken_of : SinkState → List ℕ → List ℕ

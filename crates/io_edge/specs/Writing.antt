@@ -10,10 +10,10 @@ with_file name bytes [] = (name, bytes) ∷ []
 with_file name bytes (file ∷ files) =
     if pointwise nat_eq file.0 name then (name, bytes) ∷ files else (file ∷ with_file name bytes files)
 
--- the place of the first file of this name, or the place after the last
-abbrev pub place_in : List ℕ → List (List ℕ × List ℕ) → ℕ
-place_in name [] = 0
-place_in name (file ∷ files) = if pointwise nat_eq file.0 name then 0 else suc (place_in name files)
+-- the position of the first file of this name, or the position after the last
+abbrev pub position_in : List ℕ → List (List ℕ × List ℕ) → ℕ
+position_in name [] = 0
+position_in name (file ∷ files) = if pointwise nat_eq file.0 name then 0 else suc (position_in name files)
 
 -- told files after a write: the named one has the bytes; after a fault it is as it was or has a prefix of them; where memory
 -- runs out, and for every other name, nothing changes

@@ -1,7 +1,7 @@
 //! Files in memory.
 ghost use Rattle.std.specs.Prelude.{◌≡◌, ◌≤◌, Some, take, length, option_copied, IfOk, OnOk, OnErr};
 ghost use Rattle.io_edge.specs.Reading.{file_at};
-ghost use Rattle.io_edge.specs.Writing.{with_file, place_in};
+ghost use Rattle.io_edge.specs.Writing.{with_file, position_in};
 ghost use Rattle.io_edge.specs.FilesState.{without_faults, expected_read, after_read, IsAnswer, fails_next, after_write, IsWriteAnswer};
 ghost use Rattle.io_edge.specs.Listed.{file_list};
 
@@ -76,23 +76,23 @@ impl MemoryFiles {
         }
     }
 
-    /// The same files, of which the reads at these places are to fail. Places are counted from 0,
+    /// The same files, of which the reads at these positions are to fail. Positions are counted from 0,
     /// over the reads of all names.
-    pub fn failing_at(self, places: Vec<u64>) -> MemoryFiles
-        ensures { result ≡ record self { failing = places.items } }
+    pub fn failing_at(self, positions: Vec<u64>) -> MemoryFiles
+        ensures { result ≡ record self { failing = positions.items } }
     {
         let mut files = self;
-        files.failing = places;
+        files.failing = positions;
         files
     }
 
-    /// The same files, of which the writes at these places are to fail. Places are counted from 0,
+    /// The same files, of which the writes at these positions are to fail. Positions are counted from 0,
     /// over the writes of all names.
-    pub fn failing_writes_at(self, places: Vec<u64>) -> MemoryFiles
-        ensures { result ≡ record self { failing_writes = places.items } }
+    pub fn failing_writes_at(self, positions: Vec<u64>) -> MemoryFiles
+        ensures { result ≡ record self { failing_writes = positions.items } }
     {
         let mut files = self;
-        files.failing_writes = places;
+        files.failing_writes = positions;
         files
     }
 
@@ -166,24 +166,24 @@ fn put_file(files: &mut Vec<MemoryFile>, file: MemoryFile) -> Result<(), AllocEr
     ensures ok { OnOk result (file_list files.new.items ≡ with_file file.name file.bytes (file_list files.old.items)) }
     ensures err { OnErr result (files.new.items ≡ files.old.items) }
 {
-    let place = place_of(files, file.name.as_bytes());
-    if place == files.len() {
+    let position = position_of(files, file.name.as_bytes());
+    if position == files.len() {
         files.reserve(1)?;
         files.push_reserved(file);
     } else {
-        files[place] = file;
+        files[position] = file;
     }
     Ok(())
 }
 
-// The place of the first file of this name, or the place after the last.
-fn place_of(files: &[MemoryFile], name: &[u8]) -> usize
-    ensures place { result ≡ place_in name.now (file_list files.now) }
+// The position of the first file of this name, or the position after the last.
+fn position_of(files: &[MemoryFile], name: &[u8]) -> usize
+    ensures position { result ≡ position_in name.now (file_list files.now) }
     ensures within { result ≤ length files.now }
 {
-    for (place, one) in files.iter().enumerate() {
+    for (position, one) in files.iter().enumerate() {
         if one.name.as_bytes() == name {
-            return place;
+            return position;
         }
     }
     files.len()

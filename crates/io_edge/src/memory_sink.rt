@@ -50,12 +50,12 @@ impl MemorySink {
         })
     }
 
-    /// The same sink, of which the puts at these places are to fail. Places are counted from 0.
-    pub fn failing_at(self, places: Vec<u64>) -> MemorySink
-        ensures { result ≡ record self { failing = places.items } }
+    /// The same sink, of which the puts at these positions are to fail. Positions are counted from 0.
+    pub fn failing_at(self, positions: Vec<u64>) -> MemorySink
+        ensures { result ≡ record self { failing = positions.items } }
     {
         let mut sink = self;
-        sink.failing = places;
+        sink.failing = positions;
         sink
     }
 

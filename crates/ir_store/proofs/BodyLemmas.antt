@@ -6,7 +6,7 @@ use Rattle.std.proofs.lemmas.Bool.{eqb-true, eqb-false}
 use Rattle.ir_store.specs.declared.operation.OpId.{OpId}
 use Rattle.ir_store.specs.declared.operation.Value.{Value}
 use Rattle.ir_store.specs.OperationViews.{OpParts}
-use Rattle.ir_store.specs.BodyOps.{BodyOp, no_parts, stored_op, op_at, put_before, place_before, operands_at, ids_in, taken_out, operand_count}
+use Rattle.ir_store.specs.BodyOps.{BodyOp, no_parts, stored_op, op_at, put_before, position_before, operands_at, ids_in, taken_out, operand_count}
 use Rattle.linked_lists.specs.Ids.{times, put_at}
 use Rattle.ir_store.specs.declared.body.Body.{Body}
 use Rattle.ir_store.specs.Bodies.{ids_of, op_id}
@@ -59,29 +59,29 @@ stored_same ps qs ls ms id f g (i ∷ ids) e = go (nat_eq i id) refl e (stored_s
 
 -- an id put into the ids puts its operation into the operations
 put_in : (ps : List OpParts) (ls : List (List Value)) (before : Option OpId) (id : ℕ) (ids : List ℕ) →
-    map (stored_op ps ls) (insert ids (place_before before ids) id) ≡ put_before before (stored_op ps ls id) (map (stored_op ps ls) ids)
+    map (stored_op ps ls) (insert ids (position_before before ids) id) ≡ put_before before (stored_op ps ls id) (map (stored_op ps ls) ids)
 put_in ps ls None id [] = refl
 put_in ps ls None id (i ∷ ids) = ap (λ os. stored_op ps ls i ∷ os) (put_in ps ls None id ids)
 put_in ps ls (Some b) id [] = refl
 put_in ps ls (Some b) id (i ∷ ids) = go (nat_eq i b.index) (put_in ps ls (Some b) id ids)
   where
-    go : (t : Bool) → map (stored_op ps ls) (insert ids (place_before (Some b) ids) id) ≡ put_before (Some b) (stored_op ps ls id) (map (stored_op ps ls) ids) →
-        map (stored_op ps ls) (insert (i ∷ ids) (cond t 0 (suc (place_before (Some b) ids))) id)
+    go : (t : Bool) → map (stored_op ps ls) (insert ids (position_before (Some b) ids) id) ≡ put_before (Some b) (stored_op ps ls id) (map (stored_op ps ls) ids) →
+        map (stored_op ps ls) (insert (i ∷ ids) (cond t 0 (suc (position_before (Some b) ids))) id)
         ≡ cond t (stored_op ps ls id ∷ stored_op ps ls i ∷ map (stored_op ps ls) ids) (stored_op ps ls i ∷ put_before (Some b) (stored_op ps ls id) (map (stored_op ps ls) ids))
     go true r = refl
     go false r = ap (λ os. stored_op ps ls i ∷ os) r
 
--- what a read at a place gives, in a list of what is seen
+-- what a read at a position gives, in a list of what is seen
 pub map_read : {X Y : Type 0} (f : X → Y) (xs : List X) (i : ℕ) (x : X) (d : Y) → i < length xs → x ≡ get_or xs i x → get_or (map f xs) i d ≡ f x
 map_read f [] i x d h e = absurd (omega arith)
 map_read f (y ∷ xs) zero x d h e = ap f (sym e)
 map_read f (y ∷ xs) (suc i) x d h e = map_read f xs i x d (omega arith) e
 
 -- an operation put in under an id that is not among the ids, by what each list is afterwards
-pub op_put : (ps qs : List OpParts) (ls ms : List (List Value)) (before : Option OpId) (p : OpParts) (l : List Value) (ids js : List ℕ) (id place : ℕ) →
-    id ≤ length ps → id ≤ length ls → times id ids ≡ 0 → qs ≡ put_at id p ps → ms ≡ put_at id l ls → js ≡ insert ids place id → place ≡ place_before before ids →
+pub op_put : (ps qs : List OpParts) (ls ms : List (List Value)) (before : Option OpId) (p : OpParts) (l : List Value) (ids js : List ℕ) (id position : ℕ) →
+    id ≤ length ps → id ≤ length ls → times id ids ≡ 0 → qs ≡ put_at id p ps → ms ≡ put_at id l ls → js ≡ insert ids position id → position ≡ position_before before ids →
     map (stored_op qs ms) js ≡ put_before before (record { id = id; parts = p; operands = l }) (map (stored_op ps ls) ids)
-op_put ps qs ls ms before p l ids js id place x y z e f g h =
+op_put ps qs ls ms before p l ids js id position x y z e f g h =
     let q : get_or (put_at id p ps) id no_parts ≡ p = get_or-put_at_same id p no_parts ps x in
     let r : get_or (put_at id l ls) id [] ≡ l = get_or-put_at_same id l [] ls y in
     let s = stored_same ps (put_at id p ps) ls (put_at id l ls) id (λ j n. get_or-put_at_other id j p no_parts ps x n) (λ j n. get_or-put_at_other id j l [] ls y n) ids z in
@@ -90,33 +90,33 @@ op_put ps qs ls ms before p l ids js id place x y z e f g h =
 
 -- ---- an operation taken out
 
--- an id that is there has its place
-pub place_within : (ids : List ℕ) (b : OpId) → Contains ids b.index → place_before (Some b) ids < length ids
-place_within [] b (k, l, e) = absurd (omega arith)
-place_within (i ∷ ids) b h = go (nat_eq i b.index) refl h (place_within ids b)
+-- an id that is there has its position
+pub position_within : (ids : List ℕ) (b : OpId) → Contains ids b.index → position_before (Some b) ids < length ids
+position_within [] b (k, l, e) = absurd (omega arith)
+position_within (i ∷ ids) b h = go (nat_eq i b.index) refl h (position_within ids b)
   where
-    go : (t : Bool) → nat_eq i b.index ≡ t → Contains (i ∷ ids) b.index → (Contains ids b.index → place_before (Some b) ids < length ids) →
-        cond t 0 (suc (place_before (Some b) ids)) < suc (length ids)
+    go : (t : Bool) → nat_eq i b.index ≡ t → Contains (i ∷ ids) b.index → (Contains ids b.index → position_before (Some b) ids < length ids) →
+        cond t 0 (suc (position_before (Some b) ids)) < suc (length ids)
     go true t h r = omega arith
     go false t (zero, l, e) r = absurd (eqb-false i b.index t e)
     go false t (suc k, l, e) r = omega (arith, r (k, omega arith, e))
 
--- an id that has a place is there
-pub place_there : (ids : List ℕ) (b : OpId) → place_before (Some b) ids < length ids → Contains ids b.index
-place_there [] b h = absurd (omega arith)
-place_there (i ∷ ids) b h = go (nat_eq i b.index) refl h (place_there ids b)
+-- an id that has a position is there
+pub position_there : (ids : List ℕ) (b : OpId) → position_before (Some b) ids < length ids → Contains ids b.index
+position_there [] b h = absurd (omega arith)
+position_there (i ∷ ids) b h = go (nat_eq i b.index) refl h (position_there ids b)
   where
-    go : (t : Bool) → nat_eq i b.index ≡ t → cond t 0 (suc (place_before (Some b) ids)) < suc (length ids) → (place_before (Some b) ids < length ids → Contains ids b.index) → Contains (i ∷ ids) b.index
+    go : (t : Bool) → nat_eq i b.index ≡ t → cond t 0 (suc (position_before (Some b) ids)) < suc (length ids) → (position_before (Some b) ids < length ids → Contains ids b.index) → Contains (i ∷ ids) b.index
     go true t h r = (0, omega arith, eqb-true i b.index t)
     go false t h r = let q = r (omega (arith, h)) in (suc q.0, omega (arith, q.1), q.2)
 
--- without its first place an id stands there once less
-times-gone : (ids : List ℕ) (b : OpId) → Contains ids b.index → times b.index (remove ids (place_before (Some b) ids)) + 1 ≡ times b.index ids
+-- without its first position an id stands there once less
+times-gone : (ids : List ℕ) (b : OpId) → Contains ids b.index → times b.index (remove ids (position_before (Some b) ids)) + 1 ≡ times b.index ids
 times-gone [] b (k, l, e) = absurd (omega arith)
 times-gone (i ∷ ids) b h = go (nat_eq i b.index) refl h (times-gone ids b)
   where
-    go : (t : Bool) → nat_eq i b.index ≡ t → Contains (i ∷ ids) b.index → (Contains ids b.index → times b.index (remove ids (place_before (Some b) ids)) + 1 ≡ times b.index ids) →
-        times b.index (remove (i ∷ ids) (cond t 0 (suc (place_before (Some b) ids)))) + 1 ≡ cond t (suc (times b.index ids)) (times b.index ids)
+    go : (t : Bool) → nat_eq i b.index ≡ t → Contains (i ∷ ids) b.index → (Contains ids b.index → times b.index (remove ids (position_before (Some b) ids)) + 1 ≡ times b.index ids) →
+        times b.index (remove (i ∷ ids) (cond t 0 (suc (position_before (Some b) ids)))) + 1 ≡ cond t (suc (times b.index ids)) (times b.index ids)
     go true t h r = omega arith
     go false t (zero, l, e) r = absurd (eqb-false i b.index t e)
     go false t (suc k, l, e) r =
@@ -124,24 +124,24 @@ times-gone (i ∷ ids) b h = go (nat_eq i b.index) refl h (times-gone ids b)
 
 -- the operations of the ids that are left
 taken_ids : (ps : List OpParts) (ls : List (List Value)) (b : OpId) (ids : List ℕ) →
-    map (stored_op ps ls) (remove ids (place_before (Some b) ids)) ≡ taken_out b.index (map (stored_op ps ls) ids)
+    map (stored_op ps ls) (remove ids (position_before (Some b) ids)) ≡ taken_out b.index (map (stored_op ps ls) ids)
 taken_ids ps ls b [] = refl
 taken_ids ps ls b (i ∷ ids) = go (nat_eq i b.index) (taken_ids ps ls b ids)
   where
-    go : (t : Bool) → map (stored_op ps ls) (remove ids (place_before (Some b) ids)) ≡ taken_out b.index (map (stored_op ps ls) ids) →
-        map (stored_op ps ls) (remove (i ∷ ids) (cond t 0 (suc (place_before (Some b) ids))))
+    go : (t : Bool) → map (stored_op ps ls) (remove ids (position_before (Some b) ids)) ≡ taken_out b.index (map (stored_op ps ls) ids) →
+        map (stored_op ps ls) (remove (i ∷ ids) (cond t 0 (suc (position_before (Some b) ids))))
         ≡ cond t (map (stored_op ps ls) ids) (stored_op ps ls i ∷ taken_out b.index (map (stored_op ps ls) ids))
     go true r = refl
     go false r = ap (λ os. stored_op ps ls i ∷ os) r
 
 -- an operation taken out, by what each list is afterwards
-pub op_gone : (ps qs : List OpParts) (ls ms : List (List Value)) (b : OpId) (p : OpParts) (l : List Value) (ids js : List ℕ) (place : ℕ) →
-    Contains ids b.index → times b.index ids ≤ 1 → qs ≡ set ps b.index p → ms ≡ set ls b.index l → js ≡ remove ids place → place ≡ place_before (Some b) ids →
+pub op_gone : (ps qs : List OpParts) (ls ms : List (List Value)) (b : OpId) (p : OpParts) (l : List Value) (ids js : List ℕ) (position : ℕ) →
+    Contains ids b.index → times b.index ids ≤ 1 → qs ≡ set ps b.index p → ms ≡ set ls b.index l → js ≡ remove ids position → position ≡ position_before (Some b) ids →
     map (stored_op qs ms) js ≡ taken_out b.index (map (stored_op ps ls) ids)
-op_gone ps qs ls ms b p l ids js place h n e f g k =
-    let z : times b.index (remove ids (place_before (Some b) ids)) ≡ 0 = omega (arith, n, times-gone ids b h) in
+op_gone ps qs ls ms b p l ids js position h n e f g k =
+    let z : times b.index (remove ids (position_before (Some b) ids)) ≡ 0 = omega (arith, n, times-gone ids b h) in
     let s = stored_same ps (set ps b.index p) ls (set ls b.index l) b.index (λ j o. get_or-set_other ps b.index j p no_parts o) (λ j o. get_or-set_other ls b.index j l [] o)
-    (remove ids (place_before (Some b) ids)) z in
+    (remove ids (position_before (Some b) ids)) z in
     rw (e, f, g, k) (s ∙ taken_ids ps ls b ids)
 
 -- how many operands an operation has that is there

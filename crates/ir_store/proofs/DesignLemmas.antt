@@ -11,7 +11,7 @@ use Rattle.hw_model.specs.Design.{same_name, find_module}
 use Rattle.ir_store.specs.declared.design.Module.{Module}
 use Rattle.ir_store.specs.declared.body.Body.{Body}
 use Rattle.ir_store.specs.Bodies.{ops_of}
-use Rattle.ir_store.specs.Symbols.{symbol_place, first_of}
+use Rattle.ir_store.specs.Symbols.{symbol_position, first_of}
 use Rattle.ir_store.specs.Designs.{StoredModule, module_of, numbered_module, with_ops}
 
 -- ---- lists of modules
@@ -48,15 +48,15 @@ shifted None true n = refl
 shifted None false n = refl
 
 -- a symbol at the end is found where none before it is the same
-pub place_push : (q s : Name) (symbols : List Name) → symbol_place q (symbols ++ s ∷ []) ≡ first_of (symbol_place q symbols) (cond (same_name q s) (Some (length symbols)) None)
-place_push q s [] = refl
-place_push q s (t ∷ symbols) = go (same_name q t) (place_push q s symbols)
+pub position_push : (q s : Name) (symbols : List Name) → symbol_position q (symbols ++ s ∷ []) ≡ first_of (symbol_position q symbols) (cond (same_name q s) (Some (length symbols)) None)
+position_push q s [] = refl
+position_push q s (t ∷ symbols) = go (same_name q t) (position_push q s symbols)
   where
-    go : (b : Bool) → symbol_place q (symbols ++ s ∷ []) ≡ first_of (symbol_place q symbols) (cond (same_name q s) (Some (length symbols)) None) →
-        cond b (Some 0) (option_map suc (symbol_place q (symbols ++ s ∷ [])))
-        ≡ first_of (cond b (Some 0) (option_map suc (symbol_place q symbols))) (cond (same_name q s) (Some (suc (length symbols))) None)
+    go : (b : Bool) → symbol_position q (symbols ++ s ∷ []) ≡ first_of (symbol_position q symbols) (cond (same_name q s) (Some (length symbols)) None) →
+        cond b (Some 0) (option_map suc (symbol_position q (symbols ++ s ∷ [])))
+        ≡ first_of (cond b (Some 0) (option_map suc (symbol_position q symbols))) (cond (same_name q s) (Some (suc (length symbols))) None)
     go true r = refl
-    go false r = ap (option_map suc) r ∙ shifted (symbol_place q symbols) (same_name q s) (length symbols)
+    go false r = ap (option_map suc) r ∙ shifted (symbol_position q symbols) (same_name q s) (length symbols)
 
 pub none_copied : (r : Option (Bor ℕ)) (o : Option ℕ) → option_copied r ≡ o → is_some r ≡ false → o ≡ None
 none_copied None o e f = sym e
@@ -81,7 +81,7 @@ module _ {K : Type 0} where
       go true r = refl
       go false r = r
 
--- ---- a symbol's place, and the module that it names
+-- ---- a symbol's position, and the module that it names
 
 pub same_name_back : (a b : Name) → same_name a b ≡ same_name b a
 same_name_back [] [] = refl
@@ -98,32 +98,32 @@ same_name_back (x ∷ a) (y ∷ b) = rw (eqb_back x y, same_name_back a b) refl
         go false s true t = absurd (eqb-false x y s (sym (eqb-true y x t)))
         go false s false t = s ∙ sym t
 
--- the module at a symbol's place is the one that is found
-pub module-symbol_place : (q : Name) (ms : List StoredModule) →
-    option_and_then (slice_get (map numbered_module ms)) (symbol_place q (map (λ (m : StoredModule). m.symbol) ms)) ≡ find_module (map numbered_module ms) q
-module-symbol_place q [] = refl
-module-symbol_place q (m ∷ ms) = rw (same_name_back m.symbol q) (go (same_name q m.symbol) (module-symbol_place q ms))
+-- the module at a symbol's position is the one that is found
+pub module-symbol_position : (q : Name) (ms : List StoredModule) →
+    option_and_then (slice_get (map numbered_module ms)) (symbol_position q (map (λ (m : StoredModule). m.symbol) ms)) ≡ find_module (map numbered_module ms) q
+module-symbol_position q [] = refl
+module-symbol_position q (m ∷ ms) = rw (same_name_back m.symbol q) (go (same_name q m.symbol) (module-symbol_position q ms))
   where
     following : (p : Option ℕ) → option_and_then (slice_get (numbered_module m ∷ map numbered_module ms)) (option_map suc p) ≡ option_and_then (slice_get (map numbered_module ms)) p
     following None = refl
     following (Some n) = refl
 
-    go : (b : Bool) → option_and_then (slice_get (map numbered_module ms)) (symbol_place q (map (λ (m : StoredModule). m.symbol) ms)) ≡ find_module (map numbered_module ms) q →
-        option_and_then (slice_get (numbered_module m ∷ map numbered_module ms)) (cond b (Some 0) (option_map suc (symbol_place q (map (λ (m : StoredModule). m.symbol) ms))))
+    go : (b : Bool) → option_and_then (slice_get (map numbered_module ms)) (symbol_position q (map (λ (m : StoredModule). m.symbol) ms)) ≡ find_module (map numbered_module ms) q →
+        option_and_then (slice_get (numbered_module m ∷ map numbered_module ms)) (cond b (Some 0) (option_map suc (symbol_position q (map (λ (m : StoredModule). m.symbol) ms))))
         ≡ cond b (Some (numbered_module m)) (find_module (map numbered_module ms) q)
     go true r = refl
-    go false r = following (symbol_place q (map (λ (m : StoredModule). m.symbol) ms)) ∙ r
+    go false r = following (symbol_position q (map (λ (m : StoredModule). m.symbol) ms)) ∙ r
 
--- there is a place exactly where there is a module
-pub some-symbol_place : (q : Name) (ms : List StoredModule) → is_some (symbol_place q (map (λ (m : StoredModule). m.symbol) ms)) ≡ is_some (find_module (map numbered_module ms) q)
-some-symbol_place q [] = refl
-some-symbol_place q (m ∷ ms) = rw (same_name_back m.symbol q) (go (same_name q m.symbol) (some-symbol_place q ms))
+-- there is a position exactly where there is a module
+pub some-symbol_position : (q : Name) (ms : List StoredModule) → is_some (symbol_position q (map (λ (m : StoredModule). m.symbol) ms)) ≡ is_some (find_module (map numbered_module ms) q)
+some-symbol_position q [] = refl
+some-symbol_position q (m ∷ ms) = rw (same_name_back m.symbol q) (go (same_name q m.symbol) (some-symbol_position q ms))
   where
     following : (p : Option ℕ) → is_some (option_map suc p) ≡ is_some p
     following None = refl
     following (Some n) = refl
 
-    go : (b : Bool) → is_some (symbol_place q (map (λ (m : StoredModule). m.symbol) ms)) ≡ is_some (find_module (map numbered_module ms) q) →
-        is_some (cond b (Some 0) (option_map suc (symbol_place q (map (λ (m : StoredModule). m.symbol) ms)))) ≡ is_some (cond b (Some (numbered_module m)) (find_module (map numbered_module ms) q))
+    go : (b : Bool) → is_some (symbol_position q (map (λ (m : StoredModule). m.symbol) ms)) ≡ is_some (find_module (map numbered_module ms) q) →
+        is_some (cond b (Some 0) (option_map suc (symbol_position q (map (λ (m : StoredModule). m.symbol) ms)))) ≡ is_some (cond b (Some (numbered_module m)) (find_module (map numbered_module ms) q))
     go true r = refl
-    go false r = following (symbol_place q (map (λ (m : StoredModule). m.symbol) ms)) ∙ r
+    go false r = following (symbol_position q (map (λ (m : StoredModule). m.symbol) ms)) ∙ r

@@ -163,7 +163,7 @@ module _ (values : List Value) (table : ChainTable) (ok : AreIndexed values tabl
       chains ≡ set table.chains s (cut cell (get_or table.chains s [])) → IsAlone cell chains
   alone_after cell s x chains h e d within c = rw c (alone_out (set table.chains s (cut cell (get_or table.chains s []))) heads cell (out_of cell s x h e d within))
 
-  -- a place that has no value yet is in none
+  -- a position that has no value yet is in none
   pub alone_end : (cell : ℕ) → cell ≡ length values → IsAlone cell table.chains
   alone_end cell e = alone_none table.chains heads cell (rw e (heads_end (length table.chains) values)) members
 

@@ -7,7 +7,7 @@ pub mod Indexing
 pub mod Living
 pub mod OrderCalls
 pub mod Ordering
-pub mod PlacesBefore
+pub mod PositionsBefore
 pub mod Numbering
 pub mod PositionTables
 pub mod ReadOps

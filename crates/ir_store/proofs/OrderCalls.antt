@@ -6,11 +6,11 @@ use Rattle.ir_store.specs.declared.operation.OpId.{OpId}
 use Rattle.linked_lists.specs.declared.links.Link.{Link}
 use Rattle.ir_store.specs.declared.order.Order.{Order}
 use Rattle.linked_lists.specs.Ids.{times, put_at}
-use Rattle.ir_store.specs.BodyOps.{place_before}
+use Rattle.ir_store.specs.BodyOps.{position_before}
 use Rattle.linked_lists.specs.Links.{none, new_link, next_at, prev_at, walk, first_of, last_of, linked_in, linked_out, IsOrder}
 use Rattle.ir_store.specs.Orders.{live_ids, free_ids}
 use Rattle.ir_store.proofs.Ordering.{Added, Removed, added, removed, order_of}
-use Rattle.ir_store.proofs.PlacesBefore.{place_prefix, place_back, place_next}
+use Rattle.ir_store.proofs.PositionsBefore.{position_prefix, position_back, position_next}
 use Rattle.linked_lists.proofs.Linking.{length-linked_in, length-linked_out}
 
 length-put_at_least : {A : Type 0} (i : ℕ) (x : A) (xs : List A) → (length xs ≤ length (put_at i x xs)) × (i ≤ length xs → i + 1 ≤ length (put_at i x xs))
@@ -64,18 +64,18 @@ is_added o p prev next id first last free ms small e_prev e_next new known e_ms 
 -- what is so after a removal
 pub record IsRemoved (o : Order) (ms : List Link) (b : OpId) (live first last : ℕ) : Type 0 where
   pub order : IsOrder ms (walk ms live first) (walk ms (length ms - live) b.index) last
-  pub ids : walk ms live first ≡ remove (live_ids o) (place_before (Some b) (live_ids o))
+  pub ids : walk ms live first ≡ remove (live_ids o) (position_before (Some b) (live_ids o))
   pub count : length ms ≡ length o.links.items
 
 pub is_removed : (o : Order) (b : OpId) (prev next live first last : ℕ) (ms : List Link) → Contains (live_ids o) b.index → live + 1 ≡ o.live → prev ≡ prev_at o.links.items b.index → next ≡ next_at o.links.items b.index →
     ms ≡ linked_out b.index prev next o.free o.links.items → first ≡ cond (nat_eq prev none) next o.first → last ≡ cond (nat_eq next none) prev o.last → IsRemoved o ms b live first last
 is_removed o b prev next live first last ms there e_live e_prev e_next e_ms e_first e_last =
-    let p = place_before (Some b) (live_ids o) in
+    let p = position_before (Some b) (live_ids o) in
     let xs = take p (live_ids o) in
     let ys = drop (suc p) (live_ids o) in
-    let whole : xs ++ b.index ∷ ys ≡ live_ids o = ap (λ zs. xs ++ zs) (sym (place_back (live_ids o) b there)) ∙ take-append-drop p (live_ids o) in
-    let prev_is : prev ≡ last_of none xs = e_prev ∙ place_prefix o.links.items none (live_ids o) none b there o.linked in
-    let next_is : next ≡ first_of ys none = e_next ∙ place_next o.links.items none (live_ids o) none b there o.linked in
+    let whole : xs ++ b.index ∷ ys ≡ live_ids o = ap (λ zs. xs ++ zs) (sym (position_back (live_ids o) b there)) ∙ take-append-drop p (live_ids o) in
+    let prev_is : prev ≡ last_of none xs = e_prev ∙ position_prefix o.links.items none (live_ids o) none b there o.linked in
+    let next_is : next ≡ first_of ys none = e_next ∙ position_next o.links.items none (live_ids o) none b there o.linked in
     let ok : IsOrder o.links.items (xs ++ b.index ∷ ys) (walk o.links.items (free_ids o) o.free) o.last = rw whole (order_of o) in
     let count : length ms ≡ length o.links.items = rw e_ms (length-linked_out b.index prev next o.free o.links.items) in
     let walked : walk o.links.items (live + 1) o.first ≡ xs ++ b.index ∷ ys = rw (e_live, whole) refl in

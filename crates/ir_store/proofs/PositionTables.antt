@@ -32,20 +32,20 @@ counted_once (i ∷ ids) q (suc j) at = go (nat_eq i q) (counted_once ids q j at
     go false more = more
 
 -- an id stands at one position
-pub one_place : (ids : List ℕ) (q i j : ℕ) → times q ids ≤ 1 → slice_get ids i ≡ Some q → slice_get ids j ≡ Some q → i ≡ j
-one_place [] q i j once at to = cc
-one_place (x ∷ ids) q zero zero once at to = refl
-one_place (x ∷ ids) q zero (suc j) once at to = absurd (go (nat_eq x q) refl once (counted_once ids q j to))
+pub one_position : (ids : List ℕ) (q i j : ℕ) → times q ids ≤ 1 → slice_get ids i ≡ Some q → slice_get ids j ≡ Some q → i ≡ j
+one_position [] q i j once at to = cc
+one_position (x ∷ ids) q zero zero once at to = refl
+one_position (x ∷ ids) q zero (suc j) once at to = absurd (go (nat_eq x q) refl once (counted_once ids q j to))
   where
     go : (b : Bool) → nat_eq x q ≡ b → cond b (suc (times q ids)) (times q ids) ≤ 1 → 0 < times q ids → ⊥
     go true same few more = omega arith
     go false other few more = let e : x ≡ q = cc in eqb-false x q other e
-one_place (x ∷ ids) q (suc i) zero once at to = absurd (go (nat_eq x q) refl once (counted_once ids q i at))
+one_position (x ∷ ids) q (suc i) zero once at to = absurd (go (nat_eq x q) refl once (counted_once ids q i at))
   where
     go : (b : Bool) → nat_eq x q ≡ b → cond b (suc (times q ids)) (times q ids) ≤ 1 → 0 < times q ids → ⊥
     go true same few more = omega arith
     go false other few more = let e : x ≡ q = cc in eqb-false x q other e
-one_place (x ∷ ids) q (suc i) (suc j) once at to = ap suc (one_place ids q i j (fewer (nat_eq x q) once) at to)
+one_position (x ∷ ids) q (suc i) (suc j) once at to = ap suc (one_position ids q i j (fewer (nat_eq x q) once) at to)
   where
     fewer : (b : Bool) → cond b (suc (times q ids)) (times q ids) ≤ 1 → times q ids ≤ 1
     fewer true few = omega arith
@@ -76,7 +76,7 @@ table_more ids p q positions distinct here table = record {
     known : (j r : ℕ) → j < p + 1 → slice_get ids j ≡ Some r → (b : Bool) → eqb r q ≡ b → slice_get (set positions q p) r ≡ Some j
     known j r below at true same =
         let e : r ≡ q = eqb-true r q same in
-        let there : p ≡ j = one_place ids r p j (distinct r) (here ∙ ap Some (sym e)) at in
+        let there : p ≡ j = one_position ids r p j (distinct r) (here ∙ ap Some (sym e)) at in
         ap (slice_get (set positions q p)) e ∙ slice_get-set_same positions q p inside ∙ ap Some there
     known j r below at false other =
         slice_get-set_other positions q r p (eqb-false r q other) ∙ table.known j r (lower (grind arith)) at

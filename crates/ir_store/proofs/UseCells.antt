@@ -1,16 +1,16 @@
--- The places of cells among the operands of live operations.
+-- The positions of cells among the operands of live operations.
 use Rattle.std.proofs.Common.{◌≡◌, ℕ, zero, suc, ◌+◌, ◌-◌, ◌<◌, ◌≤◌, Bool, true, false, cond, nat_eq, List, [], ◌∷◌, map, take, drop, get_or, refl, ap, sym, ◌∙◌, arith}
 use Rattle.std.specs.Prelude.{Option, Some, None, ◌&&◌, nat_le, nat_lt, is_some, slice_get}
 use Rattle.std.proofs.lemmas.Bool.{eqb-true, le-leb, leb-true, lt-ltb, ltb-true}
 use Rattle.linked_lists.specs.declared.links.Link.{Link}
 use Rattle.ir_store.specs.declared.blocks.Block.{Block}
-use Rattle.ir_store.specs.declared.operation.UsePlace.{UsePlace}
+use Rattle.ir_store.specs.declared.operation.UsePosition.{UsePosition}
 use Rattle.ir_store.specs.declared.operation.Value.{Value}
 use Rattle.linked_lists.specs.Links.{none, is_live_at}
-use Rattle.ir_store.specs.Blocks.{AreBlocks, block_at, block_list, place_within}
-use Rattle.ir_store.specs.Uses.{use_times, use_some, live_use, use_of, live_cells, with_use, places_of}
+use Rattle.ir_store.specs.Blocks.{AreBlocks, block_at, block_list, position_within}
+use Rattle.ir_store.specs.Uses.{use_times, use_some, live_use, use_of, live_cells, with_use, positions_of}
 
--- ---- what a block has at a place
+-- ---- what a block has at a position
 
 get-take : (n : ℕ) (xs : List Value) (k : ℕ) → k < n → slice_get (take n xs) k ≡ slice_get xs k
 get-take zero xs k h = absurd (omega (arith, h))
@@ -59,8 +59,8 @@ test_of b k h =
     let l : b.start ≤ b.start + k = omega arith in
     rw (le-leb b.start (b.start + k) l, lt-ltb (b.start + k - b.start) b.len m) refl
 
-pub place_at : (i : ℕ) (b : Block) (k : ℕ) → k < b.len → place_within i b (b.start + k) ≡ Some (record { op = record { index = i }; at = k })
-place_at i b k h =
+pub position_at : (i : ℕ) (b : Block) (k : ℕ) → k < b.len → position_within i b (b.start + k) ≡ Some (record { op = record { index = i }; at = k })
+position_at i b k h =
     let d : b.start + k - b.start ≡ k = omega arith in
     rw (test_of b k h) (ap (λ m. Some (record { op = record { index = i }; at = m })) d)
 
@@ -68,25 +68,25 @@ module _ (links : List Link) (xs : List Value) (os : List ℕ) (bs : List Block)
   -- a cell of a live operation's block is a use
   pub use_there : (q k : ℕ) → is_live_at links q ≡ true → k < (block_at bs q).len → use_of links os bs ((block_at bs q).start + k) ≡ Some (record { op = record { index = q }; at = k })
   use_there q k l h =
-      ap (λ o. live_use links (place_within o (block_at bs o) ((block_at bs q).start + k))) (ok.own q k h)
-      ∙ (ap (live_use links) (place_at q (block_at bs q) k h) ∙ picked (is_live_at links q) l)
+      ap (λ o. live_use links (position_within o (block_at bs o) ((block_at bs q).start + k))) (ok.own q k h)
+      ∙ (ap (live_use links) (position_at q (block_at bs q) k h) ∙ picked (is_live_at links q) l)
     where
-      picked : (b : Bool) → b ≡ true → cond {A = Option UsePlace} b (Some (record { op = record { index = q }; at = k })) None ≡ Some (record { op = record { index = q }; at = k })
+      picked : (b : Bool) → b ≡ true → cond {A = Option UsePosition} b (Some (record { op = record { index = q }; at = k })) None ≡ Some (record { op = record { index = q }; at = k })
       picked true e = refl
       picked false e = absurd (cc e)
 
-  -- what is so of a cell that is a use of an operation at a place
-  pub record IsUse (p : UsePlace) (c : ℕ) : Type 0 where
+  -- what is so of a cell that is a use of an operation at a position
+  pub record IsUse (p : UsePosition) (c : ℕ) : Type 0 where
     pub lives : is_live_at links p.op.index ≡ true
     pub within : p.at < (block_at bs p.op.index).len
     pub cell : c ≡ (block_at bs p.op.index).start + p.at
 
-  -- how often a place is that of a cell
-  once_of : UsePlace → ℕ → ℕ
+  -- how often a position is that of a cell
+  once_of : UsePosition → ℕ → ℕ
   once_of p c = use_times p (with_use (use_of links os bs c) [])
 
-  -- a cell has the place once or never
-  pub used : (p : UsePlace) (c : ℕ) → {P : Type 0} → (use_times p (with_use (use_of links os bs c) []) ≡ 0 → P) → (IsUse p c → P) → P
+  -- a cell has the position once or never
+  pub used : (p : UsePosition) (c : ℕ) → {P : Type 0} → (use_times p (with_use (use_of links os bs c) []) ≡ 0 → P) → (IsUse p c → P) → P
   used p c {P} f g = tested (nat_le b.start c && nat_lt (c - b.start) b.len) refl
     where
       owner : ℕ
@@ -123,12 +123,12 @@ module _ (links : List Link) (xs : List Value) (os : List ℕ) (bs : List Block)
 pub live_head : (links : List Link) (os : List ℕ) (bs : List Block) (c : ℕ) (cells : List ℕ) → is_some (use_of links os bs c) ≡ true → live_cells links os bs (c ∷ cells) ≡ c ∷ live_cells links os bs cells
 live_head links os bs c cells e = ap (λ b. cond b (c ∷ live_cells links os bs cells) (live_cells links os bs cells)) e
 
--- the places of cells are those of the cells that have one
-pub places_are : (links : List Link) (os : List ℕ) (bs : List Block) (cells : List ℕ) → map use_some (places_of links os bs cells) ≡ map (use_of links os bs) (live_cells links os bs cells)
-places_are links os bs [] = refl
-places_are links os bs (c ∷ cells) = go (use_of links os bs c) refl (places_are links os bs cells)
+-- the positions of cells are those of the cells that have one
+pub positions_are : (links : List Link) (os : List ℕ) (bs : List Block) (cells : List ℕ) → map use_some (positions_of links os bs cells) ≡ map (use_of links os bs) (live_cells links os bs cells)
+positions_are links os bs [] = refl
+positions_are links os bs (c ∷ cells) = go (use_of links os bs c) refl (positions_are links os bs cells)
   where
-    go : (o : Option UsePlace) → use_of links os bs c ≡ o → map use_some (places_of links os bs cells) ≡ map (use_of links os bs) (live_cells links os bs cells) →
-        map use_some (with_use o (places_of links os bs cells)) ≡ map (use_of links os bs) (cond (is_some o) (c ∷ live_cells links os bs cells) (live_cells links os bs cells))
+    go : (o : Option UsePosition) → use_of links os bs c ≡ o → map use_some (positions_of links os bs cells) ≡ map (use_of links os bs) (live_cells links os bs cells) →
+        map use_some (with_use o (positions_of links os bs cells)) ≡ map (use_of links os bs) (cond (is_some o) (c ∷ live_cells links os bs cells) (live_cells links os bs cells))
     go None e r = r
-    go (Some p) e r = ap (λ q. q ∷ map use_some (places_of links os bs cells)) (sym e) ∙ ap (λ qs. use_of links os bs c ∷ qs) r
+    go (Some p) e r = ap (λ q. q ∷ map use_some (positions_of links os bs cells)) (sym e) ∙ ap (λ qs. use_of links os bs c ∷ qs) r

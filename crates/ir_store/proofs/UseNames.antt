@@ -5,7 +5,7 @@ use Rattle.std.proofs.lemmas.Bool.{eqb-true}
 use Rattle.linked_lists.specs.declared.links.Link.{Link}
 use Rattle.ir_store.specs.declared.blocks.Block.{Block}
 use Rattle.ir_store.specs.declared.operation.OpId.{OpId}
-use Rattle.ir_store.specs.declared.operation.UsePlace.{UsePlace}
+use Rattle.ir_store.specs.declared.operation.UsePosition.{UsePosition}
 use Rattle.ir_store.specs.declared.operation.Value.{Value}
 use Rattle.ir_store.specs.declared.operation.Value.TheVariants.{Port, Result, Undefined}
 use Rattle.ir_store.specs.OperationViews.{OpParts}
@@ -22,7 +22,7 @@ use Rattle.ir_store.proofs.UseCells.{lies_in, use_there, block_get, block_past}
 
 -- ---- a list that names an operation
 
--- a value of a list at a place
+-- a value of a list at a position
 pub record NamedAt (id : ℕ) (zs : List Value) : Type 0 where
   pub at : ℕ
   pub value : Value
@@ -93,12 +93,12 @@ module _ (links : List Link) (xs : List Value) (os : List ℕ) (bs : List Block)
           record { op = owner; live = l; named = ap (names_in id) (list_at xs bs owner) ∙ names_by id (block_list xs b) (c - b.start) v there t }
 
       alive : (v : Value) → slice_get xs c ≡ Some v → is_of id v ≡ true → (t : nat_le b.start c && nat_lt (c - b.start) b.len ≡ true) → (l : Bool) → is_live_at links owner ≡ l →
-          is_some {T = UsePlace} (cond l (Some (record { op = record { index = owner }; at = c - b.start })) None) ≡ true → IsNamedLive links (lists_in xs bs) id
+          is_some {T = UsePosition} (cond l (Some (record { op = record { index = owner }; at = c - b.start })) None) ≡ true → IsNamedLive links (lists_in xs bs) id
       alive v g o t true l n = found v g o t l
       alive v g o t false l n = absurd (cc n)
 
       tested : (v : Value) → slice_get xs c ≡ Some v → is_of id v ≡ true → (t : Bool) → nat_le b.start c && nat_lt (c - b.start) b.len ≡ t →
-          is_some {T = UsePlace} (live_use links (cond t (Some (record { op = record { index = owner }; at = c - b.start })) None)) ≡ true → IsNamedLive links (lists_in xs bs) id
+          is_some {T = UsePosition} (live_use links (cond t (Some (record { op = record { index = owner }; at = c - b.start })) None)) ≡ true → IsNamedLive links (lists_in xs bs) id
       tested v g o true t n = alive v g o t (is_live_at links owner) refl n
       tested v g o false t n = absurd (cc n)
 

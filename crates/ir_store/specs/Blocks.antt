@@ -4,7 +4,7 @@ use Rattle.std.specs.Vec.{vec_capacity}
 use Rattle.ir_store.specs.declared.cells.Cells.{Cells}
 use Rattle.ir_store.specs.declared.blocks.Block.{Block}
 use Rattle.ir_store.specs.declared.operation.Value.{Value}
-use Rattle.ir_store.specs.declared.operation.UsePlace.{UsePlace}
+use Rattle.ir_store.specs.declared.operation.UsePosition.{UsePosition}
 use Rattle.linked_lists.specs.Links.{none}
 use Rattle.ir_store.specs.ChainedValues.{ValueChains}
 
@@ -51,10 +51,10 @@ pub record OperandLists : Type 0 where
   pub blocks : List Block
   pub spare : List Value
 
--- the place of a cell in its block, where it is one of a block's cells
-abbrev pub place_within : ℕ → Block → ℕ → Option UsePlace
-place_within i b cell = cond (nat_le b.start cell && nat_lt (cell - b.start) b.len) (Some (record { op = record { index = i }; at = cell - b.start })) None
+-- the position of a cell in its block, where it is one of a block's cells
+abbrev pub position_within : ℕ → Block → ℕ → Option UsePosition
+position_within i b cell = cond (nat_le b.start cell && nat_lt (cell - b.start) b.len) (Some (record { op = record { index = i }; at = cell - b.start })) None
 
--- the place of a cell in the list that has it, if one has it
-abbrev pub place_in : List ℕ → List Block → ℕ → Option UsePlace
-place_in owners blocks cell = place_within (slice_index_or owners cell none) (block_at blocks (slice_index_or owners cell none)) cell
+-- the position of a cell in the list that has it, if one has it
+abbrev pub position_in : List ℕ → List Block → ℕ → Option UsePosition
+position_in owners blocks cell = position_within (slice_index_or owners cell none) (block_at blocks (slice_index_or owners cell none)) cell

@@ -48,11 +48,11 @@ put_before None o ops = ops ++ o ∷ []
 put_before (Some b) o [] = o ∷ []
 put_before (Some b) o (p ∷ ops) = cond (nat_eq p.id b.index) (o ∷ p ∷ ops) (p ∷ put_before (Some b) o ops)
 
--- the place of the named id among ids, or the place after the last
-abbrev pub place_before : Option OpId → List ℕ → ℕ
-place_before None ids = length ids
-place_before (Some b) [] = 0
-place_before (Some b) (i ∷ ids) = cond (nat_eq i b.index) 0 (suc (place_before (Some b) ids))
+-- the position of the named id among ids, or the position after the last
+abbrev pub position_before : Option OpId → List ℕ → ℕ
+position_before None ids = length ids
+position_before (Some b) [] = 0
+position_before (Some b) (i ∷ ids) = cond (nat_eq i b.index) 0 (suc (position_before (Some b) ids))
 
 -- a change of the operands of the operation of an id alone
 abbrev pub operands_at : ℕ → (List Value → List Value) → List BodyOp → List BodyOp
@@ -97,9 +97,9 @@ abbrev pub operand_count : ℕ → List BodyOp → ℕ
 operand_count id [] = 0
 operand_count id (o ∷ ops) = cond (nat_eq o.id id) (length o.operands) (operand_count id ops)
 
--- the operation of an id has a place for one more operand before operand `k`, or after the last
-abbrev pub HasPlace : List BodyOp → ℕ → ℕ → Type 0
-HasPlace ops id k = IfSome (op_at ops id) (λ o. k ≤ length o.operands)
+-- the operation of an id has a position for one more operand before operand `k`, or after the last
+abbrev pub HasPosition : List BodyOp → ℕ → ℕ → Type 0
+HasPosition ops id k = IfSome (op_at ops id) (λ o. k ≤ length o.operands)
 
 -- whether some operand is a result of the operation of an id
 abbrev pub names_in : ℕ → List Value → Bool

@@ -60,7 +60,7 @@ abbrev pub from_cell : ℕ → List ℕ → List ℕ
 from_cell c [] = []
 from_cell c (x ∷ xs) = cond (nat_eq x c) (x ∷ xs) (from_cell c xs)
 
--- the cells from a place on; from none on there are none
+-- the cells from a position on; from none on there are none
 abbrev pub rest_at : Option ℕ → List ℕ → List ℕ
 rest_at None cells = []
 rest_at (Some c) cells = from_cell c cells

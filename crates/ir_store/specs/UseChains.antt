@@ -2,7 +2,7 @@
 use Rattle.std.specs.Prelude.{◌≡◌, ℕ, true, List, [], ◌∷◌, Option, Some, None, map, is_some, option_map, slice_index_or, Contains}
 use Rattle.ir_store.specs.declared.body.Body.{Body}
 use Rattle.ir_store.specs.declared.operation.UseId.{UseId}
-use Rattle.ir_store.specs.declared.operation.UsePlace.{UsePlace}
+use Rattle.ir_store.specs.declared.operation.UsePosition.{UsePosition}
 use Rattle.ir_store.specs.declared.operation.Value.{Value}
 use Rattle.ir_store.specs.declared.operation.Value.TheVariants.{Undefined}
 use Rattle.ir_store.specs.ChainedValues.{cells_of, rest_at}
@@ -12,9 +12,9 @@ use Rattle.ir_store.specs.Uses.{use_of, live_cells}
 abbrev pub used_value : UseId → Body → Value
 used_value u b = slice_index_or b.operands.cells.items u.cell Undefined
 
--- the place of a use, where it is an operand
-abbrev pub use_place : UseId → Body → Option UsePlace
-use_place u b = use_of b.order.links.items b.operands.owners b.operands.blocks u.cell
+-- the position of a use, where it is an operand
+abbrev pub use_position : UseId → Body → Option UsePosition
+use_position u b = use_of b.order.links.items b.operands.owners b.operands.blocks u.cell
 
 -- a use of a cell
 abbrev pub use_id : ℕ → UseId
@@ -36,4 +36,4 @@ first_use_of (u ∷ uses) = Some u
 -- a use of a body as it is
 pub record IsUse (u : UseId) (b : Body) : Type 0 where
   pub there : Contains (cells_of (used_value u b) b.operands.cells) u.cell
-  pub live : is_some (use_place u b) ≡ true
+  pub live : is_some (use_position u b) ≡ true

@@ -1,60 +1,60 @@
--- The places where a value is used.
+-- The positions where a value is used.
 use Rattle.std.specs.Prelude.{◌≡◌, ℕ, suc, Bool, true, false, cond, ◌&&◌, nat_eq, List, [], ◌∷◌, ◌++◌, Option, Some, None, is_some, slice_get, slice_index_or, Contains}
 use Rattle.linked_lists.specs.declared.links.Link.{Link}
 use Rattle.ir_store.specs.declared.blocks.Block.{Block}
-use Rattle.ir_store.specs.declared.operation.UsePlace.{UsePlace}
+use Rattle.ir_store.specs.declared.operation.UsePosition.{UsePosition}
 use Rattle.ir_store.specs.declared.operation.Value.{Value}
 use Rattle.ir_store.specs.declared.operation.Value.TheVariants.{Undefined}
 use Rattle.ir_store.specs.ChainedValues.{cells_of}
 use Rattle.linked_lists.specs.Links.{is_live_at}
-use Rattle.ir_store.specs.Blocks.{OperandLists, place_in}
+use Rattle.ir_store.specs.Blocks.{OperandLists, position_in}
 use Rattle.ir_store.specs.BodyOps.{BodyOp, same_value, is_of, names_in}
 
 -- an operand of an operation, by its id
-abbrev pub use_at : ℕ → ℕ → UsePlace
+abbrev pub use_at : ℕ → ℕ → UsePosition
 use_at id at = record { op = record { index = id }; at = at }
 
--- the places of a value among the operands of an operation from the place `at` on
-abbrev pub places_in : Value → ℕ → ℕ → List Value → List UsePlace
-places_in v id at [] = []
-places_in v id at (x ∷ xs) = cond (same_value v x) (use_at id at ∷ places_in v id (suc at) xs) (places_in v id (suc at) xs)
+-- the positions of a value among the operands of an operation from the position `at` on
+abbrev pub positions_in : Value → ℕ → ℕ → List Value → List UsePosition
+positions_in v id at [] = []
+positions_in v id at (x ∷ xs) = cond (same_value v x) (use_at id at ∷ positions_in v id (suc at) xs) (positions_in v id (suc at) xs)
 
--- the places that name a value, in text order
-abbrev pub uses_in : Value → List BodyOp → List UsePlace
+-- the positions that name a value, in text order
+abbrev pub uses_in : Value → List BodyOp → List UsePosition
 uses_in v [] = []
-uses_in v (o ∷ ops) = places_in v o.id 0 o.operands ++ uses_in v ops
+uses_in v (o ∷ ops) = positions_in v o.id 0 o.operands ++ uses_in v ops
 
--- whether two places are the same
-abbrev pub same_place : UsePlace → UsePlace → Bool
-same_place p q = nat_eq p.op.index q.op.index && nat_eq p.at q.at
+-- whether two positions are the same
+abbrev pub same_position : UsePosition → UsePosition → Bool
+same_position p q = nat_eq p.op.index q.op.index && nat_eq p.at q.at
 
--- how many times a place stands among places
-abbrev pub use_times : UsePlace → List UsePlace → ℕ
+-- how many times a position stands among positions
+abbrev pub use_times : UsePosition → List UsePosition → ℕ
 use_times p [] = 0
-use_times p (q ∷ places) = cond (same_place q p) (suc (use_times p places)) (use_times p places)
+use_times p (q ∷ positions) = cond (same_position q p) (suc (use_times p positions)) (use_times p positions)
 
--- a place, where its operation is live
-abbrev pub live_use : List Link → Option UsePlace → Option UsePlace
+-- a position, where its operation is live
+abbrev pub live_use : List Link → Option UsePosition → Option UsePosition
 live_use links None = None
 live_use links (Some p) = cond (is_live_at links p.op.index) (Some p) None
 
--- the place of a cell among the operands of a live operation, if it is one of them
-abbrev pub use_of : List Link → List ℕ → List Block → ℕ → Option UsePlace
-use_of links owners blocks cell = live_use links (place_in owners blocks cell)
+-- the position of a cell among the operands of a live operation, if it is one of them
+abbrev pub use_of : List Link → List ℕ → List Block → ℕ → Option UsePosition
+use_of links owners blocks cell = live_use links (position_in owners blocks cell)
 
--- a place, where there is one, before others
-abbrev pub with_use : Option UsePlace → List UsePlace → List UsePlace
-with_use None places = places
-with_use (Some p) places = p ∷ places
+-- a position, where there is one, before others
+abbrev pub with_use : Option UsePosition → List UsePosition → List UsePosition
+with_use None positions = positions
+with_use (Some p) positions = p ∷ positions
 
--- a place that is there
-abbrev pub use_some : UsePlace → Option UsePlace
+-- a position that is there
+abbrev pub use_some : UsePosition → Option UsePosition
 use_some p = Some p
 
--- the places of cells
-abbrev pub places_of : List Link → List ℕ → List Block → List ℕ → List UsePlace
-places_of links owners blocks [] = []
-places_of links owners blocks (c ∷ cells) = with_use (use_of links owners blocks c) (places_of links owners blocks cells)
+-- the positions of cells
+abbrev pub positions_of : List Link → List ℕ → List Block → List ℕ → List UsePosition
+positions_of links owners blocks [] = []
+positions_of links owners blocks (c ∷ cells) = with_use (use_of links owners blocks c) (positions_of links owners blocks cells)
 
 -- those of some cells that are operands of live operations
 abbrev pub live_cells : List Link → List ℕ → List Block → List ℕ → List ℕ

@@ -1,10 +1,10 @@
 //! Blocks of cells: lists of operands lie in them.
 ghost use Rattle.std.specs.Prelude.{◌≡◌, ℕ, ◌+◌, ◌≤◌, ◌^◌, [], length};
 ghost use Rattle.std.specs.Vec.{vec_capacity};
-ghost use Rattle.ir_store.specs.Blocks.{AreBlocks, place_within, block_list, block_at, lists_in, total, cell_room};
+ghost use Rattle.ir_store.specs.Blocks.{AreBlocks, position_within, block_list, block_at, lists_in, total, cell_room};
 
 use crate::cells::Cells;
-use crate::operation::{OpId, UsePlace, Value};
+use crate::operation::{OpId, UsePosition, Value};
 
 /// Where the operands of an operation stand: so many cells from one on.
 #[derive(Clone, Copy)]
@@ -13,13 +13,13 @@ pub struct Block {
     pub(crate) len: u32,
 }
 
-/// The place of a cell in a block, where it is one of the block's cells.
-pub(crate) fn place_within(owner: u32, block: Block, cell: u32) -> Option<UsePlace>
-    ensures { result ≡ place_within owner block cell }
+/// The position of a cell in a block, where it is one of the block's cells.
+pub(crate) fn position_within(owner: u32, block: Block, cell: u32) -> Option<UsePosition>
+    ensures { result ≡ position_within owner block cell }
 {
     if block.start <= cell && cell - block.start < block.len {
         let op = OpId { index: owner };
-        return Some(UsePlace {
+        return Some(UsePosition {
             op,
             at: cell - block.start,
         });

@@ -2,12 +2,12 @@
 ghost use Rattle.std.specs.Prelude.{◌≡◌, ℕ, ◌<◌, ◌≤◌, length, min, Some};
 ghost use Rattle.std.specs.Vec.{vec_len, vec_capacity};
 ghost use Rattle.linked_lists.specs.Ids.{put_at};
-ghost use Rattle.ir_store.specs.BodyOps.{place_before};
+ghost use Rattle.ir_store.specs.BodyOps.{position_before};
 
 use crate::dictionary::Dictionary;
 use crate::operands::OperandTable;
 use crate::operation::{
-    NewOp, NewResultList, OpId, Parts, TyList, UseId, UsePlace, Value, copied_parts,
+    NewOp, NewResultList, OpId, Parts, TyList, UseId, UsePosition, Value, copied_parts,
 };
 use crate::ops::Ops;
 use crate::order::Order;
@@ -53,13 +53,13 @@ pub struct Op<'b> {
 
 impl Body {
     ghost use Rattle.std.specs.Prelude.{◌≡◌, ℕ, suc, ◌+◌, ◌<◌, ◌≤◌, ◌^◌, [], ◌∷◌, Some, None, map, min, length, drop, Contains, IfOk, IfSome, IsOk, IsTrue, ◌↔◌, OnOk, OnErr, slice_set, insert, remove};
-    ghost use Rattle.ir_store.specs.BodyOps.{op_at, put_before, place_before, as_new, operands_at, operand_count, HasOperand, HasPlace, IsUnused, all_replaced, taken_out};
+    ghost use Rattle.ir_store.specs.BodyOps.{op_at, put_before, position_before, as_new, operands_at, operand_count, HasOperand, HasPosition, IsUnused, all_replaced, taken_out};
     ghost use Rattle.ir_store.specs.Bodies.{ids_of, ops_of, gaps, spare_ops, spare_uses, read_op, read_parts, op_id, first_id, ids_left};
     ghost use Rattle.ir_store.specs.Numbered.{position_of};
     ghost use Rattle.ir_store.specs.OperationViews.{parts_of};
     ghost use Rattle.ir_store.specs.Orders.{live_ids};
     ghost use Rattle.ir_store.specs.Uses.{uses_in, use_times, use_some};
-    ghost use Rattle.ir_store.specs.UseChains.{IsUse, use_chain, use_left, use_place, used_value, first_use_of};
+    ghost use Rattle.ir_store.specs.UseChains.{IsUse, use_chain, use_left, use_position, used_value, first_use_of};
     ghost use Rattle.ir_store.specs.UsesLeft.{uses_left};
 
     /// The body without operations. It takes no memory.
@@ -149,10 +149,10 @@ impl Body {
         Body::read(parts, operands)
     }
 
-    /// The places that name `value`, each once, in no promised order. Linear in the chain of the value's head.
+    /// The positions that name `value`, each once, in no promised order. Linear in the chain of the value's head.
     pub fn uses(&self, value: Value) -> Uses<'_>
-        ensures uses { (p : UsePlace) → use_times p (uses_left result) ≡ use_times p (uses_in value (ops_of self.now)) }
-        ensures chain { map use_some (uses_left result) ≡ map (λ u. use_place u self.now) (use_chain value self.now) }
+        ensures uses { (p : UsePosition) → use_times p (uses_left result) ≡ use_times p (uses_in value (ops_of self.now)) }
+        ensures chain { map use_some (uses_left result) ≡ map (λ u. use_position u self.now) (use_chain value self.now) }
     {
         Uses::among(value, &self.operands, self.order.links())
     }
@@ -186,12 +186,12 @@ impl Body {
     }
 
     /// Where a use is, in constant time.
-    pub fn use_at(&self, id: UseId) -> UsePlace
+    pub fn use_at(&self, id: UseId) -> UsePosition
         requires { IsUse id self.now }
-        ensures { use_place id self.now ≡ Some result }
+        ensures { use_position id self.now ≡ Some result }
     {
         match self.operands.use_of(id.cell, self.order.links()) {
-            Some(place) => place,
+            Some(position) => position,
             None => unreachable!(),
         }
     }
@@ -238,7 +238,7 @@ impl Body {
     /// is refused, the operations stay. Linear in the operands of `op`, and constant on average in the body.
     pub fn insert_operand(&mut self, op: OpId, at: u32, value: Value) -> Result<(), AllocError>
         requires live { Contains (ids_of self.old) op.index }
-        requires place { HasPlace (ops_of self.old) op.index at }
+        requires position { HasPosition (ops_of self.old) op.index at }
         ensures ok { OnOk result (ops_of self.new ≡ operands_at op.index (λ operands. insert operands at value) (ops_of self.old)) }
         ensures err { OnErr result (ops_of self.new ≡ ops_of self.old) }
         ensures succeeds { 1 ≤ spare_uses self.old → IsOk result }
@@ -253,7 +253,7 @@ impl Body {
     /// Puts `value` in the place `at` of the operands of `op`, in constant time.
     pub fn set_operand(&mut self, op: OpId, at: u32, value: Value)
         requires live { Contains (ids_of self.old) op.index }
-        requires place { HasOperand (ops_of self.old) op.index at }
+        requires position { HasOperand (ops_of self.old) op.index at }
         ensures ops { ops_of self.new ≡ operands_at op.index (λ operands. slice_set operands at value) (ops_of self.old) }
         ensures spare { (spare_ops self.new ≡ spare_ops self.old) × (spare_uses self.new ≡ spare_uses self.old) }
     {
@@ -279,7 +279,7 @@ impl Body {
     /// Takes operand `at` of `op` out. Linear in the operands of `op`.
     pub fn drop_operand(&mut self, op: OpId, at: u32)
         requires live { Contains (ids_of self.old) op.index }
-        requires place { HasOperand (ops_of self.old) op.index at }
+        requires position { HasOperand (ops_of self.old) op.index at }
         ensures ops { ops_of self.new ≡ operands_at op.index (λ operands. remove operands at) (ops_of self.old) }
         ensures spare { (spare_ops self.new ≡ spare_ops self.old) × (spare_uses self.new ≡ spare_uses self.old + 1) }
     {
@@ -340,7 +340,7 @@ impl Body {
 
 /// Puts `one` in the place of the parts `i`, or after the others, where there is room for it.
 fn put_parts(parts: &mut Vec<Parts>, i: usize, one: Parts)
-    requires place { i ≤ length parts.old.items }
+    requires position { i ≤ length parts.old.items }
     requires room { length parts.old.items ≤ i → vec_len parts.old < vec_capacity parts.old }
     ensures items { parts.new.items ≡ put_at i one parts.old.items }
     ensures capacity { vec_capacity parts.new ≡ vec_capacity parts.old }

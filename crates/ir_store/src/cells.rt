@@ -96,7 +96,7 @@ impl Cells {
 
     /// Puts values after the others, another one among them, where there is room for them, in constant time each.
     pub fn push_with(&mut self, list: &[Value], at: usize, value: Value, owner: u32)
-        requires place { at ≤ length list.now }
+        requires position { at ≤ length list.now }
         requires room { length list.now + 1 ≤ cell_room self.old }
         ensures values { self.new.values.items ≡ self.old.values.items ++ insert list.now at value }
         ensures owners { self.new.owners.items ≡ self.old.owners.items ++ replicate (length list.now + 1) owner }

@@ -10,7 +10,7 @@ use std::marker::Model;
 /// The most values that there can be.
 const MOST: usize = u32::MAX as usize;
 
-/// Values in order. The place of each, its cell, is in the chain of the head that follows from the value, so equal
+/// Values in order. The position of each, its cell, is in the chain of the head that follows from the value, so equal
 /// values are in one chain. Contracts see the values, the cells of each head, and for how many more there is room.
 #[derive(Drop)]
 pub struct ChainedValues {

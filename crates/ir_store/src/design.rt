@@ -2,7 +2,7 @@
 ghost use Rattle.std.specs.Prelude.{◌≡◌, ℕ, ◌<◌, ◌+◌, ◌^◌, List, length, map, nat_eq, cond, Some, None, OnOk, OnErr};
 ghost use Rattle.std.specs.Cmp.Lexicographic.{pointwise};
 ghost use Rattle.indexmap.specs.IndexMap.{get_by};
-ghost use Rattle.ir_store.specs.Symbols.{symbol_place, first_of};
+ghost use Rattle.ir_store.specs.Symbols.{symbol_position, first_of};
 
 use crate::body::Body;
 use crate::dictionary::Dictionary;
@@ -56,7 +56,7 @@ pub struct Design {
     modules: Vec<Module>,
     symbols: IndexMap<Vec<u8>, u32>,
     ghost small: { length modules.items < 2 ^ 32 },
-    ghost found: { (q : List ℕ) → get_by (λ (k : _). pointwise nat_eq q k.items) symbols ≡ symbol_place q (map (λ (m : _). m.symbol) modules.items) },
+    ghost found: { (q : List ℕ) → get_by (λ (k : _). pointwise nat_eq q k.items) symbols ≡ symbol_position q (map (λ (m : _). m.symbol) modules.items) },
 }
 
 impl Port {
@@ -132,7 +132,7 @@ impl Module {
 impl Design {
     ghost use Rattle.std.specs.Prelude.{◌≡◌, ◌+◌, ◌<◌, ◌^◌, [], ◌∷◌, ◌++◌, map, length, IfOk, OnErr, is_some, option_and_then, slice_get, slice_set, Some};
     ghost use Rattle.hw_model.specs.Design.{find_module};
-    ghost use Rattle.ir_store.specs.Symbols.{symbol_place};
+    ghost use Rattle.ir_store.specs.Symbols.{symbol_position};
     ghost use Rattle.ir_store.specs.Bodies.{ops_of};
     ghost use Rattle.ir_store.specs.Designs.{design_of, modules_of, module_of, with_ops};
 
@@ -190,7 +190,7 @@ impl Design {
 
     /// The number of the first module of a symbol: none exactly where no module has it.
     pub fn find(&self, symbol: &[u8]) -> Option<u32>
-        ensures place { result ≡ symbol_place symbol.now (map (λ m. m.symbol) (modules_of self.now)) }
+        ensures position { result ≡ symbol_position symbol.now (map (λ m. m.symbol) (modules_of self.now)) }
         ensures module { option_and_then (slice_get (design_of self.now)) result ≡ find_module (design_of self.now) symbol.now }
         ensures some { is_some result ≡ is_some (find_module (design_of self.now) symbol.now) }
     {

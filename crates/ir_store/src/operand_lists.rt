@@ -12,7 +12,7 @@ impl OperandTable {
     /// Puts `list` in the place of list `i`, where there is room for it, or after the others. Linear in both lists, and
     /// constant on average in the number of operands.
     pub fn put(&mut self, i: usize, list: &[Value])
-        requires place { i ≤ length self.old.lists }
+        requires position { i ≤ length self.old.lists }
         requires few { i < 2 ^ 32 }
         requires list_room { length self.old.lists ≤ i → 1 ≤ self.old.list_room }
         requires room { length list.now ≤ self.old.room }
@@ -27,7 +27,7 @@ impl OperandTable {
 
     /// Puts an empty list in the place of list `i`, or after the others.
     fn open(&mut self, i: usize)
-        requires place { i ≤ length self.old.lists }
+        requires position { i ≤ length self.old.lists }
         requires few { i < 2 ^ 32 }
         requires list_room { length self.old.lists ≤ i → 1 ≤ self.old.list_room }
         ensures lists { self.new.lists ≡ put_at i [] self.old.lists }
@@ -68,11 +68,11 @@ impl OperandTable {
         self.live += list.len();
     }
 
-    /// Puts `value` in at the place `at` of list `i`, where there is room for it. Linear in the list, and constant on
+    /// Puts `value` in at the position `at` of list `i`, where there is room for it. Linear in the list, and constant on
     /// average in the number of operands.
     pub fn insert(&mut self, i: usize, at: usize, value: Value)
         requires list { i < length self.old.lists }
-        requires place { at ≤ length (slice_index_or self.old.lists i []) }
+        requires position { at ≤ length (slice_index_or self.old.lists i []) }
         requires room { 1 ≤ self.old.room }
         ensures lists { self.new.lists ≡ slice_set self.old.lists i (insert (slice_index_or self.old.lists i []) at value) }
         ensures list_room { self.new.list_room ≡ self.old.list_room }
@@ -84,7 +84,7 @@ impl OperandTable {
     }
 
     /// Takes the operands of list `i` out and makes room for them and one more after the last cell. They are among those
-    /// that are kept, from the place on that it gives.
+    /// that are kept, from the position on that it gives.
     fn lift(&mut self, i: usize) -> usize
         requires list { i < length self.old.lists }
         requires room { 1 ≤ self.old.room }
@@ -108,12 +108,12 @@ impl OperandTable {
         }
     }
 
-    /// Puts list `i`, which is empty, after the last cell: those that are kept from a place on, and `value` among them.
+    /// Puts list `i`, which is empty, after the last cell: those that are kept from a position on, and `value` among them.
     fn place_with(&mut self, i: usize, start: usize, count: usize, at: usize, value: Value)
         requires list { i < length self.old.lists }
         requires empty { slice_index_or self.old.lists i [] ≡ [] }
         requires within { start + count ≤ length self.old.spare }
-        requires place { at ≤ count }
+        requires position { at ≤ count }
         requires tail { count + 1 ≤ self.old.tail }
         ensures lists { self.new.lists ≡ slice_set self.old.lists i (insert (take count (drop start self.old.spare)) at value) }
         ensures list_room { self.old.list_room ≡ self.new.list_room }
@@ -130,7 +130,7 @@ impl OperandTable {
     /// Takes operand `at` of list `i` out. Linear in the list.
     pub fn remove(&mut self, i: usize, at: usize)
         requires list { i < length self.old.lists }
-        requires place { at < length (slice_index_or self.old.lists i []) }
+        requires position { at < length (slice_index_or self.old.lists i []) }
         ensures lists { self.new.lists ≡ slice_set self.old.lists i (remove (slice_index_or self.old.lists i []) at) }
         ensures list_room { self.new.list_room ≡ self.old.list_room }
         ensures room { self.new.room ≡ self.old.room + 1 }
@@ -170,7 +170,7 @@ impl OperandTable {
     /// Puts `value` in the place `at` of list `i`, in constant time.
     pub fn set(&mut self, i: usize, at: usize, value: Value)
         requires list { i < length self.old.lists }
-        requires place { at < length (slice_index_or self.old.lists i []) }
+        requires position { at < length (slice_index_or self.old.lists i []) }
         ensures lists { self.new.lists ≡ slice_set self.old.lists i (slice_set (slice_index_or self.old.lists i []) at value) }
         ensures room { (self.new.list_room ≡ self.old.list_room) × (self.new.room ≡ self.old.room) }
     {

@@ -1,19 +1,19 @@
 //! The uses of a value among the operands of a body.
-use crate::blocks::place_within;
+use crate::blocks::position_within;
 use crate::operands::OperandTable;
-use crate::operation::{OpId, UsePlace, Value, is_result_of};
+use crate::operation::{OpId, UsePosition, Value, is_result_of};
 use linked_lists::links::{Link, NONE, is_live};
 
 impl OperandTable {
     ghost use Rattle.std.specs.Prelude.{◌≡◌, ℕ, ◌+◌, [], ◌∷◌, ◌++◌, slice_index_or, true, false, ◌&&◌, List, Contains, IfSome, Some};
-    ghost use Rattle.ir_store.specs.Blocks.{place_in};
+    ghost use Rattle.ir_store.specs.Blocks.{position_in};
     ghost use Rattle.linked_lists.specs.Chains.{cell_or_none, once_if};
     ghost use Rattle.ir_store.specs.ChainedValues.{cells_of, has_value, rest_at};
     ghost use Rattle.linked_lists.specs.declared.links.Link.{Link};
-    ghost use Rattle.ir_store.specs.declared.operation.UsePlace.{UsePlace};
+    ghost use Rattle.ir_store.specs.declared.operation.UsePosition.{UsePosition};
     ghost use Rattle.linked_lists.specs.Links.{is_live_at};
     ghost use Rattle.ir_store.specs.declared.operation.Value.TheVariants.{Undefined};
-    ghost use Rattle.ir_store.specs.Uses.{IsNamedLive, IsUseCell, use_times, use_of, places_of, live_cells, names_at};
+    ghost use Rattle.ir_store.specs.Uses.{IsNamedLive, IsUseCell, use_times, use_of, positions_of, live_cells, names_at};
     ghost use Rattle.linked_lists.specs.Ids.{times};
     ghost use Rattle.ir_store.specs.BodyOps.{names_in};
 
@@ -21,7 +21,7 @@ impl OperandTable {
     pub fn first(&self, value: Value) -> Option<u32>
         ensures first { result ≡ cell_or_none (cells_of value self.now.cells) }
         ensures each { (cell : ℕ) → times cell (cells_of value self.now.cells) ≡ once_if (has_value value self.now.cells.items cell) }
-        ensures uses { (links : List Link) (p : UsePlace) → use_times p (places_of links self.now.owners self.now.blocks (cells_of value self.now.cells)) ≡ once_if (is_live_at links p.op.index && has_value value (slice_index_or self.now.lists p.op.index []) p.at) }
+        ensures uses { (links : List Link) (p : UsePosition) → use_times p (positions_of links self.now.owners self.now.blocks (cells_of value self.now.cells)) ≡ once_if (is_live_at links p.op.index && has_value value (slice_index_or self.now.lists p.op.index []) p.at) }
     {
         self.cells.values.first(value)
     }
@@ -108,13 +108,13 @@ impl OperandTable {
         }
     }
 
-    /// The place of a cell among the operands of a live operation, where it is one of them, in constant time.
-    pub fn use_of(&self, cell: u32, links: &[Link]) -> Option<UsePlace>
+    /// The position of a cell among the operands of a live operation, where it is one of them, in constant time.
+    pub fn use_of(&self, cell: u32, links: &[Link]) -> Option<UsePosition>
         ensures { result ≡ use_of links.now self.now.owners self.now.blocks cell }
     {
-        match self.place_of(cell) {
-            Some(place) => if is_live(links, place.op.index) {
-                Some(place)
+        match self.position_of(cell) {
+            Some(position) => if is_live(links, position.op.index) {
+                Some(position)
             } else {
                 None
             },
@@ -122,14 +122,14 @@ impl OperandTable {
         }
     }
 
-    /// The place of a cell in the list that has it, where one has it, in constant time.
-    fn place_of(&self, cell: u32) -> Option<UsePlace>
-        ensures { result ≡ place_in self.now.owners self.now.blocks cell }
+    /// The position of a cell in the list that has it, where one has it, in constant time.
+    fn position_of(&self, cell: u32) -> Option<UsePosition>
+        ensures { result ≡ position_in self.now.owners self.now.blocks cell }
     {
         let owner = match self.cells.owners.get(cell as usize) {
             Some(owner) => *owner,
             None => NONE,
         };
-        place_within(owner, self.block(owner as usize), cell)
+        position_within(owner, self.block(owner as usize), cell)
     }
 }

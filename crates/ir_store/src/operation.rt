@@ -32,9 +32,9 @@ pub enum Value {
     Undefined,
 }
 
-/// A place in a body where a value is used.
+/// A position in a body where a value is used.
 #[derive(Clone, Copy, PartialEq, Eq)]
-pub struct UsePlace {
+pub struct UsePosition {
     /// The operation that uses the value.
     pub op: OpId,
     /// Which of its operands it is.

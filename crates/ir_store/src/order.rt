@@ -29,7 +29,7 @@ impl Order {
     ghost use Rattle.std.specs.Prelude.{◌≡◌, suc, ◌+◌, ◌<◌, ◌≤◌, ◌^◌, [], ◌↔◌, max, length, map, take, drop, insert, remove, Contains, Some, IfSome, IfOk, IsOk, IsTrue, OnOk};
     ghost use Rattle.std.specs.Vec.{vec_capacity};
     ghost use Rattle.linked_lists.specs.Ids.{times};
-    ghost use Rattle.ir_store.specs.BodyOps.{place_before};
+    ghost use Rattle.ir_store.specs.BodyOps.{position_before};
     ghost use Rattle.linked_lists.specs.Links.{none, next_at, first_of, last_of};
     ghost use Rattle.ir_store.specs.Bodies.{op_id, first_id};
     ghost use Rattle.ir_store.specs.Numbered.{position_of};
@@ -138,7 +138,7 @@ impl Order {
         requires there { IfSome before (λ b. Contains (live_ids self.old) b.index) }
         requires small { self.old.live + 1 < 2 ^ 32 }
         requires room { self.old.live < vec_capacity self.old.links }
-        ensures ids { live_ids self.new ≡ insert (live_ids self.old) (place_before before (live_ids self.old)) result }
+        ensures ids { live_ids self.new ≡ insert (live_ids self.old) (position_before before (live_ids self.old)) result }
         ensures live { self.new.live ≡ self.old.live + 1 }
         ensures fresh { times result (live_ids self.old) ≡ 0 }
         ensures next { free_ids self.old ≡ 0 → result ≡ self.old.live }
@@ -160,7 +160,7 @@ impl Order {
     /// Frees a live id, in constant time.
     pub fn remove(&mut self, id: OpId)
         requires { Contains (live_ids self.old) id.index }
-        ensures ids { live_ids self.new ≡ remove (live_ids self.old) (place_before (Some id) (live_ids self.old)) }
+        ensures ids { live_ids self.new ≡ remove (live_ids self.old) (position_before (Some id) (live_ids self.old)) }
         ensures live { self.new.live + 1 ≡ self.old.live }
         ensures count { length self.new.links.items ≡ length self.old.links.items }
         ensures capacity { vec_capacity self.new.links ≡ vec_capacity self.old.links }
@@ -178,8 +178,8 @@ impl Order {
     /// Between which ids one goes that is put in before another, or at the end.
     fn neighbours(&self, before: Option<OpId>) -> (u32, u32)
         requires { IfSome before (λ b. Contains (live_ids self.now) b.index) }
-        ensures prev { result.0 ≡ last_of none (take (place_before before (live_ids self.now)) (live_ids self.now)) }
-        ensures next { result.1 ≡ first_of (drop (place_before before (live_ids self.now)) (live_ids self.now)) none }
+        ensures prev { result.0 ≡ last_of none (take (position_before before (live_ids self.now)) (live_ids self.now)) }
+        ensures next { result.1 ≡ first_of (drop (position_before before (live_ids self.now)) (live_ids self.now)) none }
     {
         match before {
             None => (self.last, NONE),

@@ -1,4 +1,4 @@
--- Ids in a list: how often each stands in it after an edit, and what a list has at a place that is written.
+-- Ids in a list: how often each stands in it after an edit, and what a list has at a position that is written.
 use Rattle.std.proofs.Common.{◌≡◌, ℕ, zero, suc, ◌+◌, ◌<◌, ◌≤◌, Bool, true, false, cond, nat_eq, List, [], ◌∷◌, ◌++◌, map, length, get_or, set, take, drop, refl, ap, sym, arith}
 use Rattle.std.specs.Prelude.{insert, max, Contains}
 use Rattle.std.proofs.lemmas.List.{take-append-drop, set_split}
@@ -49,7 +49,7 @@ pub times-insert : (v p : ℕ) (xs : List ℕ) (x : ℕ) → times v (insert xs 
 times-insert v p xs x =
     omega (arith, times-append v (take p xs) (x ∷ drop p xs), times-append v (x ∷ []) (drop p xs), ap (times v) (take-append-drop p xs), times-append v (take p xs) (drop p xs), times-append v xs (x ∷ []))
 
--- ---- a list that is written at a place, or made longer by one
+-- ---- a list that is written at a position, or made longer by one
 
 module _ {A : Type 0} where
   pub get_or-put_at_same : (i : ℕ) (x d : A) (xs : List A) → i ≤ length xs → get_or (put_at i x xs) i d ≡ x

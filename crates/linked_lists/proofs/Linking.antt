@@ -229,7 +229,7 @@ linked_less ls xs ys id free once bare h =
     let y3 : IsLinked l3 p ys none = linked_same l2 l3 p ys none (λ v t. get_or-set_other l2 id v (free_link free) no_link (apart v id ys t id_y)) y2 in
     linked_join l3 none xs ys none x3 y3
 
--- ---- the place of an id among linked ones
+-- ---- the position of an id among linked ones
 
 pub take_all_end : (xs : List ℕ) → (take (length xs) xs ≡ xs) × (drop (length xs) xs ≡ [])
 take_all_end [] = (refl, refl)

@@ -70,7 +70,7 @@ fn set_prev(links: &mut Vec<Link>, id: u32, prev: u32)
 
 /// Makes an id live between two others: the one after the last, where there is room for it, or one that is free.
 fn put_link(links: &mut Vec<Link>, id: u32, prev: u32, next: u32)
-    requires place { id ≤ length links.old.items }
+    requires position { id ≤ length links.old.items }
     requires room { length links.old.items ≤ id → vec_len links.old < vec_capacity links.old }
     ensures items { links.new.items ≡ put_at id (new_link prev next) links.old.items }
     ensures capacity { vec_capacity links.new ≡ vec_capacity links.old }
@@ -89,7 +89,7 @@ fn put_link(links: &mut Vec<Link>, id: u32, prev: u32, next: u32)
 
 /// Puts an id in between two neighbours, in constant time.
 pub fn link_in(links: &mut Vec<Link>, id: u32, prev: u32, next: u32)
-    requires place { id ≤ length links.old.items }
+    requires position { id ≤ length links.old.items }
     requires room { length links.old.items ≤ id → vec_len links.old < vec_capacity links.old }
     ensures items { links.new.items ≡ linked_in id prev next links.old.items }
     ensures capacity { vec_capacity links.new ≡ vec_capacity links.old }
@@ -101,7 +101,7 @@ pub fn link_in(links: &mut Vec<Link>, id: u32, prev: u32, next: u32)
 
 /// Makes two ids neighbours, and frees the one between them, in constant time.
 pub fn link_out(links: &mut Vec<Link>, id: u32, prev: u32, next: u32, free: u32)
-    requires place { id < length links.old.items }
+    requires position { id < length links.old.items }
     ensures items { links.new.items ≡ linked_out id prev next free links.old.items }
     ensures capacity { vec_capacity links.new ≡ vec_capacity links.old }
 {

@@ -8,7 +8,7 @@ pub mod NamedInstances
 pub mod ForEach
 pub mod ResetOperands
 pub mod IndexBits
-pub mod Places
+pub mod Offsets
 pub mod OwnNames
 pub mod ChoiceSteps
 pub mod TableEntries

@@ -21,13 +21,13 @@ pub named_none : (i : Instance) (m : Option Module) → None ≡ option_map modu
 named_none i None is = refl
 named_none i (Some c) is = cc
 
--- what stands in a place of lists of which one is made of the other
-pub place_same : {A B C : Type 0} (f : A → C) (g : B → C) (xs : List A) (ys : List B) → map f xs ≡ map g ys → (n : ℕ) → option_map f (slice_get xs n) ≡ option_map g (slice_get ys n)
-place_same f g [] [] e n = refl
-place_same f g [] (y ∷ ys) e n = cc
-place_same f g (x ∷ xs) [] e n = cc
-place_same f g (x ∷ xs) (y ∷ ys) e zero = let same : f x ≡ g y = cc in ap Some same
-place_same f g (x ∷ xs) (y ∷ ys) e (suc n) = let rest : map f xs ≡ map g ys = cc in place_same f g xs ys rest n
+-- what stands in a position of lists of which one is made of the other
+pub position_same : {A B C : Type 0} (f : A → C) (g : B → C) (xs : List A) (ys : List B) → map f xs ≡ map g ys → (n : ℕ) → option_map f (slice_get xs n) ≡ option_map g (slice_get ys n)
+position_same f g [] [] e n = refl
+position_same f g [] (y ∷ ys) e n = cc
+position_same f g (x ∷ xs) [] e n = cc
+position_same f g (x ∷ xs) (y ∷ ys) e zero = let same : f x ≡ g y = cc in ap Some same
+position_same f g (x ∷ xs) (y ∷ ys) e (suc n) = let rest : map f xs ≡ map g ys = cc in position_same f g xs ys rest n
 
 -- what is lent of one of these lists is what stands in that place
 lent : {A C : Type 0} (f : A → C) (xs : List A) (n : ℕ) (r : Option (Bor A)) → IsItemAt xs n r → option_map (λ (x : Bor A). f x.now) r ≡ option_map f (slice_get xs n)
@@ -36,4 +36,4 @@ lent f xs n (Some x) h = ap (option_map f) (sym (slice_get_read xs (length xs) n
 
 pub lent_same : {A B C : Type 0} (f : A → C) (g : B → C) (xs : List A) (ys : List B) (n : ℕ) (r : Option (Bor A)) (y : Option B) → IsItemAt xs n r → map f xs ≡ map g ys → slice_get ys n ≡ y
     → option_map (λ (x : Bor A). f x.now) r ≡ option_map g y
-lent_same f g xs ys n r y h same is = lent f xs n r h ∙ place_same f g xs ys same n ∙ ap (option_map g) is
+lent_same f g xs ys n r y h same is = lent f xs n r h ∙ position_same f g xs ys same n ∙ ap (option_map g) is

@@ -75,7 +75,7 @@ leaves_same o rs us vss n skip start (t ∷ ts) same =
     let here : nth_views vss n ≡ map piece_view ps = ap (nth_views vss) from ∙ same 0 in
     let ended : suc (view_end (nth_views vss n)) ≡ suc (joined_end ps) = ap (λ vs. suc (view_end vs)) here ∙ ap suc (end_same ps) in
     ap₂ (λ os k. os ++ leaf_views o rs us vss (suc n) (start + k) ts)
-    (ap (joined_views o rs us t start) here ∙ joined_same o rs us t start ps (pieces_typed us 0 us skip (width t) (λ j. let same_place : j ≡ 0 + j = omega arith in ap (nth_type us) same_place))) ended
+    (ap (joined_views o rs us t start) here ∙ joined_same o rs us t start ps (pieces_typed us 0 us skip (width t) (λ j. let same_position : j ≡ 0 + j = omega arith in ap (nth_type us) same_position))) ended
     ∙ ap (λ os. joined_pieces o rs t start ps ++ os)
     (leaves_same o rs us vss (suc n) (skip + width t) (start + suc (joined_end ps)) ts
     (λ k. let next : suc n + k ≡ n + suc k = omega arith in ap (nth_views vss) next ∙ same (suc k)))
@@ -86,7 +86,7 @@ pub bitcast_made : (o : Op) (rs : List Ref) (us vs : List HwType) (vss : List (L
 bitcast_made o rs us vs vss start ts types cut =
     ap₂ (λ ws xss. leaf_views o rs ws xss 0 start ts) types (cut ∙ ap (λ ws. map (map piece_view) (leaf_pieces_of 0 ws 0 ts)) types)
     ∙ leaves_same o rs us (map (map piece_view) (leaf_pieces_of 0 us 0 ts)) 0 0 start ts
-    (λ k. let same_place : 0 + k ≡ k = omega arith in ap (nth_views (map (map piece_view) (leaf_pieces_of 0 us 0 ts))) same_place)
+    (λ k. let same_position : 0 + k ≡ k = omega arith in ap (nth_views (map (map piece_view) (leaf_pieces_of 0 us 0 ts))) same_position)
 
 -- ---- one step after another
 
@@ -94,8 +94,8 @@ bitcast_made o rs us vs vss start ts types cut =
 pub leaf_more : (o : Op) (rs : List Ref) (us : List HwType) (vss : List (List PieceView)) (now after whole : List Op) (vs : List PieceView) (n m start next count : ℕ) (t : HwType) (ts : List HwType)
     → after ≡ now ++ joined_views o rs us t start vs → vs ≡ nth_views vss n → m ≡ suc n → next ≡ start + count → count ≡ suc (view_end vs)
     → now ++ leaf_views o rs us vss n start (t ∷ ts) ≡ whole → after ++ leaf_views o rs us vss m next ts ≡ whole
-leaf_more o rs us vss now after whole vs n m start next count t ts put own number place counted is =
-    let ended : next ≡ start + suc (view_end (nth_views vss n)) = place ∙ ap (λ k. start + k) (counted ∙ ap (λ ws. suc (view_end ws)) own) in
+leaf_more o rs us vss now after whole vs n m start next count t ts put own number offset counted is =
+    let ended : next ≡ start + suc (view_end (nth_views vss n)) = offset ∙ ap (λ k. start + k) (counted ∙ ap (λ ws. suc (view_end ws)) own) in
     ap₂ (λ os ns. os ++ ns) (put ∙ ap (λ ws. now ++ joined_views o rs us t start ws) own)
     (ap₂ (λ j k. leaf_views o rs us vss j k ts) number ended)
     ∙ append_assoc now (joined_views o rs us t start (nth_views vss n)) (leaf_views o rs us vss (suc n) (start + suc (view_end (nth_views vss n))) ts)

@@ -1,4 +1,4 @@
--- Places of leaves in a row.
+-- Positions of leaves in a row.
 use Rattle.std.proofs.Common.{◌≡◌, ℕ, zero, suc, ◌+◌, ◌*◌, ◌-◌, ◌<◌, List, [], ◌∷◌, ◌++◌, length, map, replicate, refl, sym, ap, ap₂, subst, ◌∙◌, arith, append_assoc}
 use Rattle.std.specs.Prelude.{Result, IfOk}
 use Rattle.std.proofs.lemmas.Result.{IfOk-weaker}
@@ -14,7 +14,7 @@ use Rattle.lowering_rules.specs.declared.shapes.Shape.{Shape}
 use Rattle.lowering_rules.specs.declared.forms.Form.{Form}
 use Rattle.lowering_rules.specs.FormRules.{form_rule}
 use Rattle.lowering_rules.specs.Pieces.{leaf_pieces_of}
-use Rattle.lowering_rules.specs.Shapes.{ends, last_end, HasShape, HasPlaces}
+use Rattle.lowering_rules.specs.Shapes.{ends, last_end, HasShape, HasOffsets}
 
 -- ---- rules
 
@@ -46,7 +46,7 @@ rule_more f xs whole s e lt is =
     ∙ ap (λ n. xs ++ in_row f s n) left
     ∙ is
 
--- ---- places after blocks
+-- ---- positions after blocks
 
 pub ends_rule : (sizes : ℕ → ℕ) (next l k : ℕ) → ends next (in_row sizes l k) ≡ in_row (λ i. next + choice_end sizes l i) 0 k
 ends_rule sizes next l zero = refl
@@ -77,30 +77,30 @@ last_pieces us (t ∷ ts) next skip =
 
 -- ---- shapes
 
-pub shape_by : (rule : Rule) (o : Op) (count : ℕ) (places : List ℕ) (s : Shape) → HasPlaces count places s → count ≡ rule.count → places ≡ in_row rule.place 0 (length (all_leaves o))
+pub shape_by : (rule : Rule) (o : Op) (count : ℕ) (offsets : List ℕ) (s : Shape) → HasOffsets count offsets s → count ≡ rule.count → offsets ≡ in_row rule.position 0 (length (all_leaves o))
     → HasShape rule o s
-shape_by rule o count places s has c p = record { count = has.count_is ∙ c; places = has.places_are ∙ p }
+shape_by rule o count offsets s has c p = record { count = has.count_is ∙ c; offsets = has.positions_are ∙ p }
 
 -- a form has the shape of its rule
-pub shaped : {E : Type 0} (named : Op → Kind) (form f : Form) (o : Op) (count : ℕ) (places : List ℕ) (r : Result Shape E) → form ≡ f → IfOk r (HasPlaces count places)
-    → count ≡ (form_rule named f o).count → places ≡ in_row (form_rule named f o).place 0 (length (all_leaves o)) → IfOk r (HasShape (form_rule named form o) o)
-shaped named form f o count places r is has c p =
+pub shaped : {E : Type 0} (named : Op → Kind) (form f : Form) (o : Op) (count : ℕ) (offsets : List ℕ) (r : Result Shape E) → form ≡ f → IfOk r (HasOffsets count offsets)
+    → count ≡ (form_rule named f o).count → offsets ≡ in_row (form_rule named f o).position 0 (length (all_leaves o)) → IfOk r (HasShape (form_rule named form o) o)
+shaped named form f o count offsets r is has c p =
     subst (λ g. IfOk r (HasShape (form_rule named g o) o)) (sym is)
-    (IfOk-weaker r (HasPlaces count places) (HasShape (form_rule named f o) o) (λ s h. shape_by (form_rule named f o) o count places s h c p) has)
+    (IfOk-weaker r (HasOffsets count offsets) (HasShape (form_rule named f o) o) (λ s h. shape_by (form_rule named f o) o count offsets s h c p) has)
 
 -- ---- blocks after two operations for each of n elements
 
 pub blocks_end : (sizes : ℕ → ℕ) (n k l : ℕ) → k ≡ l → last_end (n + n) (in_row sizes 0 k) ≡ 2 * n + choice_count sizes 0 l
 blocks_end sizes n k l is = let last = last_rule sizes (n + n) 0 k in let same : choice_count sizes 0 k ≡ choice_count sizes 0 l = ap (choice_count sizes 0) is in omega (arith, last, same)
 
-pub blocks_places : (sizes : ℕ → ℕ) (n k l : ℕ) → k ≡ l → ends (n + n) (in_row sizes 0 k) ≡ in_row (λ i. 2 * n + choice_end sizes 0 i) 0 l
-blocks_places sizes n k l is =
+pub blocks_positions : (sizes : ℕ → ℕ) (n k l : ℕ) → k ≡ l → ends (n + n) (in_row sizes 0 k) ≡ in_row (λ i. 2 * n + choice_end sizes 0 i) 0 l
+blocks_positions sizes n k l is =
     ends_rule sizes (n + n) 0 k
     ∙ rule_same (λ i. n + n + choice_end sizes 0 i) (λ i. 2 * n + choice_end sizes 0 i) (λ i. omega arith) 0 k
     ∙ ap (in_row (λ i. 2 * n + choice_end sizes 0 i) 0) is
 
-pub turn_places : (n k l : ℕ) → k ≡ l → in_row (λ i. i) (n + n) k ≡ in_row (λ i. 2 * n + i) 0 l
-turn_places n k l is =
+pub turn_positions : (n k l : ℕ) → k ≡ l → in_row (λ i. i) (n + n) k ≡ in_row (λ i. 2 * n + i) 0 l
+turn_positions n k l is =
     let from : n + n ≡ n + n + 0 = omega arith in
     ap (λ j. in_row (λ i. i) j k) from
     ∙ rule_moved (λ i. i) (n + n) 0 k

@@ -10,9 +10,9 @@ use Rattle.aggregate_laws.specs.Rules.{Rule, Rules, count_by, stays_one, leaf_re
 use Rattle.aggregate_laws.specs.OperationRules.{all_leaves}
 use Rattle.aggregate_laws.specs.Aggregates.{rule_of}
 use Rattle.aggregate_laws.proofs.Lists.{map-in_row}
-use Rattle.lowering_rules.specs.LeafTables.{result_table, body_table, starts_from, ends_from, place_ref, divided}
+use Rattle.lowering_rules.specs.LeafTables.{result_table, body_table, starts_from, ends_from, offset_ref, divided}
 use Rattle.lowering_rules.proofs.Shaping.{rule_same}
-use Rattle.lowering_rules.proofs.SameRules.{same_shape, place_of_one}
+use Rattle.lowering_rules.proofs.SameRules.{same_shape, position_of_one}
 
 -- ---- parts of a rule
 
@@ -38,24 +38,24 @@ divided_rule rule start o i (x ∷ xs) n e =
     ap₂ (λ rs rest. rs ∷ rest) (rule_first (leaf_ref rule start o) i own more n both)
     (ap (divided xs) (rule_rest (leaf_ref rule start o) i own more n both) ∙ divided_rule rule start o (i + own) xs more refl)
 
--- by the places of leaves, whatever the operands
-pub op_table : (named : Op → Kind) (o : Op) (rs : List Ref) (start : ℕ) (places : List ℕ) → places ≡ in_row (rule_of named o o.kind).place 0 (length (all_leaves o))
-    → divided o.results (map (place_ref (stays_one o) start) places) ≡ result_table (rule_of named (record o { operands = rs }) o.kind) start (record o { operands = rs }) 0 o.results
-op_table named o rs start places is =
+-- by the positions of leaves, whatever the operands
+pub op_table : (named : Op → Kind) (o : Op) (rs : List Ref) (start : ℕ) (offsets : List ℕ) → offsets ≡ in_row (rule_of named o o.kind).position 0 (length (all_leaves o))
+    → divided o.results (map (offset_ref (stays_one o) start) offsets) ≡ result_table (rule_of named (record o { operands = rs }) o.kind) start (record o { operands = rs }) 0 o.results
+op_table named o rs start offsets is =
     let n = length (all_leaves o) in
     let rule = rule_of named o o.kind in
     let other = rule_of named (record o { operands = rs }) o.kind in
-    ap (λ is. divided o.results (map (place_ref (stays_one o) start) is)) is
+    ap (λ is. divided o.results (map (offset_ref (stays_one o) start) is)) is
     ∙ ap (divided o.results)
-    (map-in_row (place_ref (stays_one o) start) rule.place 0 n
-    ∙ rule_same (λ i. place_ref (stays_one o) start (rule.place i)) (leaf_ref other start (record o { operands = rs })) (λ i. one (stays_one o) refl i) 0 n)
+    (map-in_row (offset_ref (stays_one o) start) rule.position 0 n
+    ∙ rule_same (λ i. offset_ref (stays_one o) start (rule.position i)) (leaf_ref other start (record o { operands = rs })) (λ i. one (stays_one o) refl i) 0 n)
     ∙ divided_rule other start (record o { operands = rs }) 0 o.results n refl
   where
     one : (b : Bool) → stays_one o ≡ b → (i : ℕ)
-        → cond b (result start ((rule_of named o o.kind).place i)) (result (start + (rule_of named o o.kind).place i) 0)
-        ≡ cond b (result start i) (result (start + (rule_of named (record o { operands = rs }) o.kind).place i) 0)
-    one true h i = ap (result start) (place_of_one named o h i)
-    one false h i = ap (λ p. result (start + p) 0) (sym ((same_shape named o rs o.kind).place i))
+        → cond b (result start ((rule_of named o o.kind).position i)) (result (start + (rule_of named o o.kind).position i) 0)
+        ≡ cond b (result start i) (result (start + (rule_of named (record o { operands = rs }) o.kind).position i) 0)
+    one true h i = ap (result start) (position_of_one named o h i)
+    one false h i = ap (λ p. result (start + p) 0) (sym ((same_shape named o rs o.kind).offset i))
 
 -- ---- one operation more
 

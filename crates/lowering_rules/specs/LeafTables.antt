@@ -70,7 +70,7 @@ abbrev pub starts_from : Rules → ℕ → List Op → List ℕ
 starts_from rules start [] = []
 starts_from rules start (o ∷ os) = start ∷ starts_from rules (start + count_by rules o) os
 
--- so many operations after each of some places
+-- so many operations after each of some positions
 abbrev pub with_counts : Rules → List ℕ → List Op → List ℕ
 with_counts rules [] os = []
 with_counts rules (n ∷ ns) [] = []
@@ -102,9 +102,9 @@ pub record AddsBlock (named : Op → Kind) (o : Op) (start : ℕ) (old new : Blo
 
 -- ---- the leaves of one operation
 
--- the leaf in a place: a result of the operation at a position, or the first result of the one in that place after it
-abbrev pub place_ref : Bool → ℕ → ℕ → Ref
-place_ref one start i = cond one (result start i) (result (start + i) 0)
+-- the leaf in a position: a result of the operation at a position, or the first result of the one in that position after it
+abbrev pub offset_ref : Bool → ℕ → ℕ → Ref
+offset_ref one start i = cond one (result start i) (result (start + i) 0)
 
 -- as many values for each result as it has leaves
 abbrev pub divided : List OpResult → List Ref → List (List Ref)

@@ -12,12 +12,12 @@ use Rattle.aggregate_laws.specs.Aggregates.{array_length, element_type, first_ty
 use Rattle.lowering_rules.specs.Pieces.{leaf_pieces_of}
 use Rattle.lowering_rules.specs.declared.shapes.Shape.{Shape}
 
--- where each leaf stands, `next` being the next place: after so many operations of its own
+-- where each leaf stands, `next` being the next position: after so many operations of its own
 abbrev pub ends : ℕ → List ℕ → List ℕ
 ends next [] = []
 ends next (size ∷ sizes) = (next + size) ∷ ends (next + size + 1) sizes
 
--- the place after the last
+-- the position after the last
 abbrev pub last_end : ℕ → List ℕ → ℕ
 last_end next [] = next
 last_end next (size ∷ sizes) = last_end (next + size + 1) sizes
@@ -25,16 +25,16 @@ last_end next (size ∷ sizes) = last_end (next + size + 1) sizes
 -- the shape is that of the rule, for an operation
 pub record HasShape (rule : Rule) (o : Op) (s : Shape) : Type 0 where
   pub count : s.count ≡ rule.count
-  pub places : s.places.items ≡ in_row rule.place 0 (length (all_leaves o))
+  pub offsets : s.offsets.items ≡ in_row rule.position 0 (length (all_leaves o))
 
--- so many operations, and these places
-pub record HasPlaces (count : ℕ) (places : List ℕ) (s : Shape) : Type 0 where
+-- so many operations, and these positions
+pub record HasOffsets (count : ℕ) (offsets : List ℕ) (s : Shape) : Type 0 where
   pub count_is : s.count ≡ count
-  pub places_are : s.places.items ≡ places
+  pub positions_are : s.offsets.items ≡ offsets
 
 -- those of blocks of operations, one for each leaf, after others
 abbrev pub HasBlocks : ℕ → List ℕ → Shape → Type 0
-HasBlocks first sizes s = HasPlaces (last_end first sizes) (ends first sizes) s
+HasBlocks first sizes s = HasOffsets (last_end first sizes) (ends first sizes) s
 
 -- ---- sizes of blocks
 

@@ -204,8 +204,8 @@ fn put_test(
 fn test_at(start: u32, number: u32) -> Result<Value, AllocError>
     ensures { IfOk result (λ value. new_ref value ≡ test_at start number) }
 {
-    let place = sum(start, sum(sum(number, number)?, 1)?)?;
-    Ok(Value::Result(OpId::nth(place), 0))
+    let offset = sum(start, sum(sum(number, number)?, 1)?)?;
+    Ok(Value::Result(OpId::nth(offset), 0))
 }
 
 // A zero at a position, and after it multiplexers that choose a leaf among the elements from one on.
@@ -243,7 +243,7 @@ impl<'v> Elements<'v> {
         ensures { new_ref result ≡ element_leaf self.entry.length self.entry.leaves (new_refs self.entry.values.now) leaf element }
     {
         let before = self.length.saturating_sub(element.saturating_add(1));
-        let place = u64::from(before) * u64::from(self.leaves) + u64::from(leaf);
-        part(self.values, place as usize)
+        let offset = u64::from(before) * u64::from(self.leaves) + u64::from(leaf);
+        part(self.values, offset as usize)
     }
 }

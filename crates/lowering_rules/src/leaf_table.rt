@@ -13,7 +13,7 @@ ghost use Rattle.aggregate_laws.specs.LeafPorts.{split_ports};
 ghost use Rattle.aggregate_laws.specs.Rules.{stays_one};
 ghost use Rattle.aggregate_laws.specs.Aggregates.{aggregate_rules};
 ghost use Rattle.lowering_rules.specs.Reading.{plain_of, new_refs};
-ghost use Rattle.lowering_rules.specs.LeafTables.{IsLeafTable, IsBlockTable, AddsBlock, or_none, refs_in, results_at, leaves_at, port_table, op_seen, kind_is_one, place_ref, divided};
+ghost use Rattle.lowering_rules.specs.LeafTables.{IsLeafTable, IsBlockTable, AddsBlock, or_none, refs_in, results_at, leaves_at, port_table, op_seen, kind_is_one, offset_ref, divided};
 
 use crate::forms::form_of;
 use crate::shapes::{Shape, shape_of};
@@ -197,7 +197,7 @@ fn leaves_of_results(
     shape: &Shape,
     start: u32,
 ) -> Result<Vec<Vec<Value>>, AllocError>
-    ensures { IfOk result (λ all. refs_in all.items ≡ divided (plain_of op.now).results (map (place_ref (stays_one (plain_of op.now)) start) shape.now.places.items)) }
+    ensures { IfOk result (λ all. refs_in all.items ≡ divided (plain_of op.now).results (map (offset_ref (stays_one (plain_of op.now)) start) shape.now.offsets.items)) }
 {
     let values = if is_one(op.kind) {
         results_of_one(alloc, shape, start)?
@@ -214,24 +214,24 @@ fn is_one(kind: &OpKind) -> bool
     matches!(kind, OpKind::Instance(_) | OpKind::Output)
 }
 
-// Results of one operation, by the places of leaves.
+// Results of one operation, by the positions of leaves.
 fn results_of_one(alloc: Global, shape: &Shape, start: u32) -> Result<Vec<Value>, AllocError>
-    ensures { IfOk result (λ values. new_refs values.items ≡ map (place_ref true start) shape.now.places.items) }
+    ensures { IfOk result (λ values. new_refs values.items ≡ map (offset_ref true start) shape.now.offsets.items) }
 {
-    let mut values = Vec::with_capacity(alloc, shape.places.len())?;
-    for place in &shape.places {
-        values.push(Value::Result(OpId::nth(start), *place))?;
+    let mut values = Vec::with_capacity(alloc, shape.offsets.len())?;
+    for offset in &shape.offsets {
+        values.push(Value::Result(OpId::nth(start), *offset))?;
     }
     Ok(values)
 }
 
 // The first results of operations in the places of leaves.
 fn results_of_many(alloc: Global, shape: &Shape, start: u32) -> Result<Vec<Value>, AllocError>
-    ensures { IfOk result (λ values. new_refs values.items ≡ map (place_ref false start) shape.now.places.items) }
+    ensures { IfOk result (λ values. new_refs values.items ≡ map (offset_ref false start) shape.now.offsets.items) }
 {
-    let mut values = Vec::with_capacity(alloc, shape.places.len())?;
-    for place in &shape.places {
-        let position = sum(start, *place)?;
+    let mut values = Vec::with_capacity(alloc, shape.offsets.len())?;
+    for offset in &shape.offsets {
+        let position = sum(start, *offset)?;
         values.push(Value::Result(OpId::nth(position), 0))?;
     }
     Ok(values)

@@ -6,11 +6,11 @@ ghost use Rattle.aggregate_laws.specs.OperationRules.{literal_numbers, literals_
 use hw_model::kinds::{Integer, Literal};
 use std::alloc::AllocError;
 
-/// The number in a place, or 0.
-pub fn number_at(numbers: &[Integer], place: usize) -> Integer
-    ensures { integer_of result ≡ number_at (map integer_of numbers.now) place }
+/// The number in a position, or 0.
+pub fn number_at(numbers: &[Integer], offset: usize) -> Integer
+    ensures { integer_of result ≡ number_at (map integer_of numbers.now) offset }
 {
-    match numbers.get(place) {
+    match numbers.get(offset) {
         Some(number) => *number,
         None => Integer::NonNegative(0),
     }

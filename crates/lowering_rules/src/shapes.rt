@@ -7,7 +7,7 @@ ghost use Rattle.aggregate_laws.specs.Choices.{element_of};
 ghost use Rattle.lowering_rules.specs.FormRules.{form_rule};
 ghost use Rattle.lowering_rules.specs.Reading.{plain_of};
 ghost use Rattle.lowering_rules.specs.Pieces.{end_of};
-ghost use Rattle.lowering_rules.specs.Shapes.{HasShape, HasPlaces, HasBlocks, test_count, get_sizes, slice_sizes, bitcast_sizes};
+ghost use Rattle.lowering_rules.specs.Shapes.{HasShape, HasOffsets, HasBlocks, test_count, get_sizes, slice_sizes, bitcast_sizes};
 
 use crate::forms::Form;
 use crate::pieces::{Piece, leaf_pieces};
@@ -23,8 +23,8 @@ use std::alloc::{AllocError, Global};
 pub struct Shape {
     /// How many operations there are.
     pub count: u32,
-    /// The places of the leaves, in order.
-    pub places: Vec<u32>,
+    /// The positions of the leaves, in order.
+    pub offsets: Vec<u32>,
 }
 
 /// The shape of what becomes of an operation. The error comes only when out of memory, for which 2^32 operations or more count.
@@ -50,45 +50,45 @@ pub fn shape_of(alloc: Global, op: &Op<'_>, form: &Form<'_>) -> Result<Shape, Al
     }
 }
 
-// Leaves in places one after another, from one on.
+// Leaves in positions one after another, from one on.
 fn in_turn(alloc: Global, first: u32, leaves: u32) -> Result<Shape, AllocError>
-    ensures { IfOk result (HasPlaces (first + leaves) (in_row (λ i. i) first leaves)) }
+    ensures { IfOk result (HasOffsets (first + leaves) (in_row (λ i. i) first leaves)) }
 {
     let count = sum(first, leaves)?;
-    let mut places = Vec::with_capacity(alloc, leaves as usize)?;
-    for place in first..count {
-        places.push(place)?;
+    let mut offsets = Vec::with_capacity(alloc, leaves as usize)?;
+    for offset in first..count {
+        offsets.push(offset)?;
     }
-    Ok(Shape { count, places })
+    Ok(Shape { count, offsets })
 }
 
 // One operation, of which all leaves are.
 fn one_for_all(alloc: Global, leaves: u32) -> Result<Shape, AllocError>
-    ensures { IfOk result (HasPlaces 1 (replicate leaves 0)) }
+    ensures { IfOk result (HasOffsets 1 (replicate leaves 0)) }
 {
-    let places = vec![in alloc; 0u32; leaves as usize]?;
-    Ok(Shape { count: 1, places })
+    let offsets = vec![in alloc; 0u32; leaves as usize]?;
+    Ok(Shape { count: 1, offsets })
 }
 
 // One operation, whose results are the leaves.
 fn together(alloc: Global, leaves: u32) -> Result<Shape, AllocError>
-    ensures { IfOk result (HasPlaces 1 (in_row (λ i. i) 0 leaves)) }
+    ensures { IfOk result (HasOffsets 1 (in_row (λ i. i) 0 leaves)) }
 {
     let turn = in_turn(alloc, 0, leaves)?;
     Ok(Shape {
         count: 1,
-        places: turn.places,
+        offsets: turn.offsets,
     })
 }
 
 // A register for each leaf of the first result.
 fn registers(alloc: Global, op: &Op<'_>, leaves: u32) -> Result<Shape, AllocError>
-    ensures { IfOk result (HasPlaces (length (leaves_of (result_type (plain_of op.now) 0))) (in_row (λ i. i) 0 leaves)) }
+    ensures { IfOk result (HasOffsets (length (leaves_of (result_type (plain_of op.now) 0))) (in_row (λ i. i) 0 leaves)) }
 {
     let turn = in_turn(alloc, 0, leaves)?;
     Ok(Shape {
         count: first_leaf_count(op)?,
-        places: turn.places,
+        offsets: turn.offsets,
     })
 }
 
@@ -106,16 +106,16 @@ fn first_leaf_count(op: &Op<'_>) -> Result<u32, AllocError>
 fn in_blocks(alloc: Global, first: u32, sizes: &[u32]) -> Result<Shape, AllocError>
     ensures { IfOk result (HasBlocks first sizes.now) }
 {
-    let mut places = Vec::with_capacity(alloc, sizes.len())?;
+    let mut offsets = Vec::with_capacity(alloc, sizes.len())?;
     let mut next = first;
     for size in sizes {
         let end = sum(next, *size)?;
-        places.push(end)?;
+        offsets.push(end)?;
         next = sum(end, 1)?;
     }
     Ok(Shape {
         count: next,
-        places,
+        offsets,
     })
 }
 
@@ -178,7 +178,7 @@ pub fn leaf_within(leaves: u32, leaf: u32) -> Result<u32, AllocError>
 
 // Two operations for each element of an array, and then one for each leaf.
 fn array_inject(alloc: Global, op: &Op<'_>, leaves: u32) -> Result<Shape, AllocError>
-    ensures { IfOk result (HasPlaces (test_count (plain_of op.now) + leaves) (in_row (λ i. i) (test_count (plain_of op.now)) leaves)) }
+    ensures { IfOk result (HasOffsets (test_count (plain_of op.now) + leaves) (in_row (λ i. i) (test_count (plain_of op.now)) leaves)) }
 {
     let length = operand_length(op);
     in_turn(alloc, sum(length, length)?, leaves)

@@ -45,8 +45,8 @@ module _ (m : Module) (valid : Valid (m ∷ [])) where
       go : (x : Option Instance) (o : Op) → In o m.body → instance_in o.kind ≡ x → x ≡ None
       go None o here is = refl
       go (Some i) o here is =
-          let place = position_of_In o m.body here in
-          let there = (valid.sound m.symbol m (found_alone m)).instances place.0 o place.1 i is in
+          let position = position_of_In o m.body here in
+          let there = (valid.sound m.symbol m (found_alone m)).instances position.0 o position.1 i is in
           let itself : i.symbol ≡ m.symbol = only_itself i.symbol there.0 there.1 in
           let called : In i.symbol (calls (m ∷ []) m.symbol) = subst (λ x. In i.symbol (callee_symbols (body_of x))) (sym (found_alone m)) (called_here m.body o i here is) in
           absurd (valid.finite m.symbol (zero, (i.symbol, called, itself)))

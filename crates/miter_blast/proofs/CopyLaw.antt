@@ -57,7 +57,7 @@ only_itself d s t (x, is, public) = go (find_module d t) refl (sym (find_marked 
         let same : marked (is_other s) m ≡ x = cc in
         sym (find_symbol d t m some) ∙ name_from m.symbol s (not_false (same_name m.symbol s) (ap (λ (y : Module). y.is_private) same ∙ public))
 
--- the module whose symbol stands at a place among the symbols
+-- the module whose symbol stands at a position among the symbols
 symbol_at : (d : Design) (s : Name) (k : ℕ) → slice_get (symbols d) k ≡ Some s → (m : Module) × (slice_get d k ≡ Some m) × (m.symbol ≡ s)
 symbol_at d s k at = go (slice_get d k) refl (sym (slice_get-map (λ (m : Module). m.symbol) d k) ∙ at)
   where

@@ -37,8 +37,8 @@ module _ (d : Design) (a : Name) (m : Module) (c : Design) (accepted : IsAccepte
 
   keeps : KeepsFlat d m c
   keeps =
-      let place = position_of_In m d (found_module d a m found) in
-      copy_keeps d c place.0 m accepted printable place.1 (subst (λ s. IsFlatCopy d s c) (sym symbol_is) copy)
+      let position = position_of_In m d (found_module d a m found) in
+      copy_keeps d c position.0 m accepted printable position.1 (subst (λ s. IsFlatCopy d s c) (sym symbol_is) copy)
 
   same_machine : Same (machine d a) (machine c a)
   same_machine = subst (λ s. Same (machine d s) (machine c s)) symbol_is keeps.same

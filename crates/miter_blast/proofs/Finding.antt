@@ -24,11 +24,11 @@ stored_at [] n x at = cc
 stored_at (y ∷ ms) zero x at = let same : y ≡ x = cc in ap (λ z. Some (numbered_module z)) same
 stored_at (y ∷ ms) (suc n) x at = stored_at ms n x at
 
--- what is found at a place that is known
+-- what is found at a position that is known
 pub same_there : (d : Design) (n : ℕ) (m k : Module) → slice_get d n ≡ Some m → slice_get d n ≡ Some k → m ≡ k
 same_there d n m k p q = let e : Some m ≡ Some k = sym p ∙ q in cc
 
--- the module at the place of a symbol is the symbol's
+-- the module at the position of a symbol is the symbol's
 pub found_here : (d : Design) (s : Name) (n : ℕ) (k : Module) → IsFoundAt d s (Some n) → slice_get d n ≡ Some k → find_module d s ≡ Some k
 found_here d s n k found at = found.2 ∙ ap (λ z. Some z) (same_there d n found.0 k found.1 at)
 

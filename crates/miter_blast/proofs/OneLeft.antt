@@ -6,7 +6,7 @@ use Rattle.hw_model.specs.Types.{Name}
 use Rattle.hw_model.specs.Design.{Module, Design}
 use Rattle.pass_laws.specs.Remaining.{symbols, AreThose}
 
--- a name stands at no more than one place
+-- a name stands at no more than one position
 abbrev pub IsOnce : Name → List Name → Type 0
 IsOnce s xs = (i j : ℕ) → slice_get xs i ≡ Some s → slice_get xs j ≡ Some s → i ≡ j
 
@@ -28,8 +28,8 @@ module _ (P : Name → Type 0) where
     where
       again : x ≡ s → In s xs → ⊥
       again first there =
-          let place = position_of_In s xs there in
-          let clash : zero ≡ suc place.0 = once zero (suc place.0) (ap (λ z. Some z) first) place.1 in cc
+          let position = position_of_In s xs there in
+          let clash : zero ≡ suc position.0 = once zero (suc position.0) (ap (λ z. Some z) first) position.1 in cc
   one_those s (x ∷ xs) ys (inr (fails, more)) only holds (inl same) once = absurd (fails (subst P same holds))
   one_those s (x ∷ xs) ys (inr (fails, more)) only holds (inr later) once = one_those s xs ys more only holds later (later_once s x xs once)
 

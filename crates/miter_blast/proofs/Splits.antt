@@ -3,7 +3,7 @@ use Rattle.std.proofs.Common.{◌≡◌, ℕ, zero, suc, ◌+◌, ◌<◌, ◌�
 use Rattle.wiring.specs.Lists.{total}
 use Rattle.wiring.specs.Wiring.{In}
 
--- what is left from a place on
+-- what is left from a position on
 pub dropped_at : (ws : List ℕ) (i : ℕ) → i < length ws → drop i ws ≡ get_or ws i 0 ∷ drop (i + 1) ws
 dropped_at [] i below = absurd (omega arith)
 dropped_at (w ∷ ws) zero below = refl

@@ -40,7 +40,7 @@ pub record AreAlone (first second : Design) : Type 0 where
   pub second_plain : IsPlain second two.symbol two
   pub alike : AreAlike first one.symbol one second two.symbol two
 
--- so they are, the registers of the first having these widths
+-- each of two designs is one flat module, both are alike, and the registers of the first one have these widths
 pub record AreReady (first second : Design) (held : List ℕ) : Type 0 where
   pub alone : AreAlone first second
   pub held_are : held ≡ held_widths alone.one.body

@@ -31,7 +31,7 @@ form_price is_async w (Some f) = choice_price f.has_enable w + clock_price is_as
 abbrev pub register_price : Op → ℕ
 register_price o = form_price (has_async_reset o.kind) (held_width o) (register_form o.kind)
 
--- of all registers of a module
+-- the price of all registers of a module
 abbrev pub registers_total : Design → Name → ℕ
 registers_total d s = total (map (λ (r : Slot). register_price r.op) (registers d s))
 

@@ -12,7 +12,7 @@ use Rattle.hw_model.specs.Sound.{input_types, output_types}
 use Rattle.miter_blast.specs.declared.fail.MiterFail.{MiterFail}
 use Rattle.miter_blast.specs.declared.fail.MiterFail.TheVariants.{Refused, NoMemory}
 
--- ---- places of refusals
+-- ---- positions of refusals
 
 -- at the beginning of the text of a number
 abbrev pub at_file : ℕ → Cause → Refusal
@@ -38,7 +38,7 @@ abbrev pub IsFoundAt : Design → Name → Option ℕ → Type 0
 IsFoundAt d s None = find_module d s ≡ None
 IsFoundAt d s (Some n) = (m : Module) × (slice_get d n ≡ Some m) × (find_module d s ≡ Some m)
 
--- at these positions, with the same ports
+-- the modules of two symbols are at these positions, and have the same ports
 pub record IsPair (d : Design) (a : Name) (e : Design) (b : Name) (i j : ℕ) : Type 0 where
   pub left : Module
   pub right : Module

@@ -55,10 +55,10 @@ fn value_width(body: &Typed<'_>, value: Value) -> Result<u32, AllocError>
 }
 
 // The width of an input among ports; 0 of what is none.
-fn port_width(ports: &PortList, place: usize) -> Result<u32, AllocError>
-    ensures { IfOk result (λ w. w ≡ width_of (input_type (slice_get (ports_in ports.now) place))) }
+fn port_width(ports: &PortList, position: usize) -> Result<u32, AllocError>
+    ensures { IfOk result (λ w. w ≡ width_of (input_type (slice_get (ports_in ports.now) position))) }
 {
-    match ports.ports.get(place) {
+    match ports.ports.get(position) {
         Some(port) if !port.out => bits_of(&port.ty),
         _ => Ok(0),
     }

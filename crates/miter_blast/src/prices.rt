@@ -52,9 +52,9 @@ fn whole_price(body: &Typed<'_>, op: &Op<'_>) -> Result<u64, AllocError>
         count: op.operands.len() as u64,
         first: u64::from(first_width(body, op.operands)?),
     };
-    let gate_list = results_price(op.kind, operands, op.results)?;
+    let results = results_price(op.kind, operands, op.results)?;
     let step = register_price(op.kind, u64::from(first_bits(op.results)?));
-    Ok(gate_list.saturating_add(step))
+    Ok(results.saturating_add(step))
 }
 
 // How many operands there are, and how wide the first one is.

@@ -5,7 +5,7 @@ pub mod EntriesKept
 pub mod FormsFit
 pub mod KindsKept
 pub mod OperationsAgain
-pub mod PlacesChosen
+pub mod PositionsChosen
 pub mod PrintedDesigns
 pub mod ViewForms
 pub mod SpellableExample

@@ -49,6 +49,6 @@ dictionary_bytes prefix [] = []
 dictionary_bytes prefix (e ∷ es) = prefix ++ (codes "{" ++ (commas entry_bytes (e ∷ es) ++ codes "}"))
 
 -- how many entries have keys that are less than `name`
-abbrev pub place_of_name : List Entry → ℕ
-place_of_name [] = 0
-place_of_name (e ∷ es) = cond (is_lt (slice_cmp nat_cmp e.key (codes "name"))) (suc (place_of_name es)) 0
+abbrev pub slot_of_name : List Entry → ℕ
+slot_of_name [] = 0
+slot_of_name (e ∷ es) = cond (is_lt (slice_cmp nat_cmp e.key (codes "name"))) (suc (slot_of_name es)) 0

@@ -14,7 +14,7 @@ pub mod Chosen
 pub mod Spelled
 pub mod Choices
 pub mod ChosenViews
-pub mod Places
+pub mod Slots
 pub mod Shown
 pub mod Views
 pub mod Spellable

@@ -126,7 +126,7 @@ abbrev pub MayReset : InherentAttributes → List ValueText → Type 0
 MayReset with_reset os = HasTwoOperands os
 MayReset _ os = ⊤
 
--- also after an asynchronous one
+-- two operands stand after a reset, synchronous or asynchronous
 abbrev pub MaySyncOrAsyncReset : InherentAttributes → List ValueText → Type 0
 MaySyncOrAsyncReset with_reset os = HasTwoOperands os
 MaySyncOrAsyncReset with_async_reset os = HasTwoOperands os
@@ -217,7 +217,7 @@ abbrev pub gathered_reset : InherentAttributes → List ValueText → Gathered �
 gathered_reset with_reset os g = gathered_operands_of_reset with_reset os g
 gathered_reset _ os g = g
 
--- also with an asynchronous one
+-- what is gathered with a reset, synchronous or asynchronous
 abbrev pub gathered_sync_or_async_reset : InherentAttributes → List ValueText → Gathered → Gathered
 gathered_sync_or_async_reset with_reset os g = gathered_operands_of_reset with_reset os g
 gathered_sync_or_async_reset with_async_reset os g = gathered_operands_of_reset with_async_reset os g

@@ -89,4 +89,4 @@ pub record IsSpellable (m : ModuleText) : Type 0 where
 
 -- bytes are read as what modules say, wherever it stands
 abbrev pub AreSpelled : List ℕ → List ModuleText → Type 0
-AreSpelled bytes ms = (ts : List TextToken) × (tokens bytes ≡ map token_of ts) × FilePhrase (λ t place. Unit {0}) (map inherent_view ms) ts
+AreSpelled bytes ms = (ts : List TextToken) × (tokens bytes ≡ map token_of ts) × FilePhrase (λ t slot. Unit {0}) (map inherent_view ms) ts

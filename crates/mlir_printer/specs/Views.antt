@@ -31,7 +31,7 @@ names_held v = names_in v.names
 abbrev pub chosen_names : ValueNames → Chosen
 chosen_names v = chosen_in v.names
 
--- result k of a place
+-- result k of a position
 abbrev pub slot_value : List Name → Slot → ℕ → Shown
 slot_value ns p k =
     cond (nat_lt k p.count)
@@ -51,7 +51,7 @@ port_placed ns (Some (Some n)) = name_value_text (first_name (drop n ns))
 -- a value, as the table of names has it
 unfoldable pub value_held : ValueNames → Value → Shown
 value_held v (Port n) = port_placed (names_held v) (slice_get v.ports.items n)
-value_held v (Result id k) = value_in_slot (names_held v) (slice_get v.places.items id.index) k
+value_held v (Result id k) = value_in_slot (names_held v) (slice_get v.slots.items id.index) k
 value_held v Undefined = no_value
 
 -- what an operation says besides operands and types

@@ -4,7 +4,7 @@ ghost use Rattle.std.specs.Ordering.{nat_cmp, is_lt};
 ghost use Rattle.std.specs.Cmp.Lexicographic.{slice_cmp};
 ghost use Rattle.ir_store.specs.DictionaryViews.{entry_of};
 ghost use Rattle.mlir_printer.specs.Commas.{items_from};
-ghost use Rattle.mlir_printer.specs.Attributes.{entry_bytes, dictionary_bytes, place_of_name};
+ghost use Rattle.mlir_printer.specs.Attributes.{entry_bytes, dictionary_bytes, slot_of_name};
 ghost use Rattle.mlir_printer.specs.Texts.{name_entry, named_entries, names_itself, entries_shown};
 
 use crate::attributes::push_entry;
@@ -53,8 +53,8 @@ fn is_before_name(key: &[u8]) -> bool
 }
 
 // How many entries have keys that are less than `name`.
-fn place_of_name(entries: &[Entry]) -> usize
-    ensures place { result ≡ place_of_name (map entry_of entries.now) }
+fn slot_of_name(entries: &[Entry]) -> usize
+    ensures slot { result ≡ slot_of_name (map entry_of entries.now) }
     ensures within { result ≤ length entries.now }
 {
     for (i, entry) in entries.iter().enumerate() {
@@ -80,12 +80,12 @@ fn push_name_entry(out: &mut Text, name: &[u8]) -> Result<(), AllocError>
 fn push_with_name(out: &mut Text, name: &[u8], entries: &[Entry]) -> Result<(), AllocError>
     ensures { OnOk result (out.new ≡ out.old ++ dictionary_bytes (codes " ") (named_entries name.now (map entry_of entries.now))) }
 {
-    let place = place_of_name(entries);
+    let slot = slot_of_name(entries);
     out.push_bytes(b" {")?;
-    push_entries(out, 0, &entries[..place])?;
-    push_comma(out, place)?;
+    push_entries(out, 0, &entries[..slot])?;
+    push_comma(out, slot)?;
     push_name_entry(out, name)?;
-    push_entries(out, place + 1, &entries[place..])?;
+    push_entries(out, slot + 1, &entries[slot..])?;
     out.push_bytes(b"}")?;
     Ok(())
 }

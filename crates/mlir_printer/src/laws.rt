@@ -18,13 +18,13 @@ pub fn what_is_spellable_is_spelled()
     ensures { (ms : List ModuleText) → Each IsSpellable ms → AreSpelled (file_bytes ms) ms }
 {}
 
-/// Does nothing. Its clause says that the text of a design that can be printed spells that design, but for places.
+/// Does nothing. Its clause says that the text of a design that can be printed spells that design, but for positions.
 pub fn what_is_printable_is_spelled()
     ensures { (d : Design) → Printable d → SpellsUnlocated (ir_text d) d }
 {}
 
 /// Does nothing. Its clause says that the text of a design that can be printed, however long it is, spells a design that is the same but for
-/// places, and that it is read as that one, where it is not too long.
+/// positions, and that it is read as that one, where it is not too long.
 pub fn what_is_printed_is_read_again()
     ensures { (d : Design) → Printable d → (e : Design) × Spells (ir_text d) e × IsSameDesign d e × (length (ir_text d) ≤ text_limit → read (ir_text d) ≡ Ok e) }
 {

@@ -1,6 +1,6 @@
 //! The names of a module's values.
 ghost use Rattle.std.specs.Prelude.{◌≡◌, ℕ, cond, nat_eq, OnOk};
-ghost use Rattle.mlir_printer.specs.Places.{place_for};
+ghost use Rattle.mlir_printer.specs.Slots.{slot_for};
 
 use crate::chosen_names::ChosenNames;
 use crate::strings::{legal_suffix, stands};
@@ -41,7 +41,7 @@ pub struct ValueNames {
     // of each port the number of its name, of an output none
     ports: Vec<Option<u32>>,
     // of each operation, by its number, where its names stand
-    places: Vec<Slot>,
+    slots: Vec<Slot>,
 }
 
 impl ValueNames {
@@ -55,7 +55,7 @@ impl ValueNames {
     ghost use Rattle.mlir_printer.specs.Naming.{input_count, names_given, first_name, value_named};
     ghost use Rattle.printing_laws.specs.NameHints.{constant_name_hint, own_name_hint, instance_name_hints, name_hints, body_name_hints, port_name_hint, port_name_hints};
     ghost use Rattle.mlir_printer.specs.Chosen.{with_name_hint, with_name_hints};
-    ghost use Rattle.mlir_printer.specs.Places.{HavePlaces, place_at, port_places};
+    ghost use Rattle.mlir_printer.specs.Slots.{HaveSlots, slot_at, port_slots};
     ghost use Rattle.mlir_printer.specs.Shown.{parts_in_body};
     ghost use Rattle.mlir_printer.specs.Views.{names_held, chosen_names, value_held, value_of, value_in_slot, port_placed, slot_value};
 
@@ -83,12 +83,12 @@ impl ValueNames {
         ensures names { names_held result ≡ [] }
         ensures numbered { result.names.numbered ≡ 0 }
         ensures ports { result.ports.items ≡ [] }
-        ensures places { result.places.items ≡ [] }
+        ensures slots { result.slots.items ≡ [] }
     {
         ValueNames {
             names: ChosenNames::new(alloc),
             ports: Vec::new(alloc),
-            places: Vec::new(alloc),
+            slots: Vec::new(alloc),
         }
     }
 
@@ -97,19 +97,19 @@ impl ValueNames {
         ensures names { names_held result ≡ [] }
         ensures numbered { result.names.numbered ≡ 0 }
         ensures ports { result.ports.items ≡ [] }
-        ensures places { result.places.items ≡ [] }
+        ensures slots { result.slots.items ≡ [] }
     {
         let ValueNames {
             names,
             mut ports,
-            mut places,
+            mut slots,
         } = self;
         ports.clear();
-        places.clear();
+        slots.clear();
         ValueNames {
             names: names.into_empty(),
             ports,
-            places,
+            slots,
         }
     }
 
@@ -119,7 +119,7 @@ impl ValueNames {
         ensures chosen { OnOk result (chosen_names self.new ≡ with_name_hint (chosen_names self.old) (Some wanted.now)) }
         ensures number { IfOk result (λ n. n ≡ length (names_held self.old)) }
         ensures ports { self.new.ports ≡ self.old.ports }
-        ensures places { self.new.places ≡ self.old.places }
+        ensures slots { self.new.slots ≡ self.old.slots }
     {
         if stands(wanted) {
             return self.names.take_word(wanted);
@@ -132,7 +132,7 @@ impl ValueNames {
     fn take_own(&mut self, alloc: Global, own: &[u8]) -> Result<u32, AllocError>
         ensures chosen { OnOk result (chosen_names self.new ≡ with_name_hint (chosen_names self.old) (own_name_hint own.now)) }
         ensures ports { self.new.ports ≡ self.old.ports }
-        ensures places { self.new.places ≡ self.old.places }
+        ensures slots { self.new.slots ≡ self.old.slots }
     {
         if own.is_empty() {
             self.names.take_number()
@@ -144,8 +144,8 @@ impl ValueNames {
     // Takes the names of ports.
     fn add_ports(&mut self, alloc: Global, ports: &[Port]) -> Result<(), AllocError>
         ensures chosen { OnOk result (chosen_names self.new ≡ with_name_hints (chosen_names self.old) (port_name_hints (map port_of ports.now))) }
-        ensures ports { OnOk result (self.new.ports.items ≡ self.old.ports.items ++ port_places (length (names_held self.old)) (map port_of ports.now)) }
-        ensures places { OnOk result (self.new.places ≡ self.old.places) }
+        ensures ports { OnOk result (self.new.ports.items ≡ self.old.ports.items ++ port_slots (length (names_held self.old)) (map port_of ports.now)) }
+        ensures slots { OnOk result (self.new.slots ≡ self.old.slots) }
     {
         for port in ports {
             let name = self.add_port(alloc, port)?;
@@ -157,9 +157,9 @@ impl ValueNames {
     // Takes the name of a port, where it is an input.
     fn add_port(&mut self, alloc: Global, port: &Port) -> Result<Option<u32>, AllocError>
         ensures chosen { OnOk result (chosen_names self.new ≡ with_name_hints (chosen_names self.old) (port_name_hint (port_of port.now))) }
-        ensures number { IfOk result (λ n. n ∷ [] ≡ port_places (length (names_held self.old)) (port_of port.now ∷ [])) }
+        ensures number { IfOk result (λ n. n ∷ [] ≡ port_slots (length (names_held self.old)) (port_of port.now ∷ [])) }
         ensures ports { self.new.ports ≡ self.old.ports }
-        ensures places { self.new.places ≡ self.old.places }
+        ensures slots { self.new.slots ≡ self.old.slots }
     {
         if port.out {
             return Ok(None);
@@ -169,15 +169,15 @@ impl ValueNames {
 
     // Takes the names of the results of a body.
     fn add_operations(&mut self, alloc: Global, body: &Body) -> Result<(), AllocError>
-        requires { self.old.places.items ≡ [] }
+        requires { self.old.slots.items ≡ [] }
         ensures chosen { OnOk result (chosen_names self.new ≡ with_name_hints (chosen_names self.old) (body_name_hints (parts_in_body (ops_of body.now)))) }
         ensures ports { OnOk result (self.new.ports ≡ self.old.ports) }
-        ensures places { OnOk result (HavePlaces (length (names_held self.old)) (ops_of body.now) self.new.places.items) }
+        ensures slots { OnOk result (HaveSlots (length (names_held self.old)) (ops_of body.now) self.new.slots.items) }
     {
         for id in body.ops() {
             let op = body.op(id);
-            let place = self.add_operation(alloc, &op)?;
-            put_slot(&mut self.places, id.number() as usize, place)?;
+            let slot = self.add_operation(alloc, &op)?;
+            put_slot(&mut self.slots, id.number() as usize, slot)?;
         }
         Ok(())
     }
@@ -185,9 +185,9 @@ impl ValueNames {
     // Takes the names of an operation's results, and gives where they stand.
     fn add_operation(&mut self, alloc: Global, op: &Op<'_>) -> Result<Slot, AllocError>
         ensures chosen { OnOk result (chosen_names self.new ≡ with_name_hints (chosen_names self.old) (name_hints (read_parts op.now))) }
-        ensures place { IfOk result (λ place. place ≡ place_at (length (names_held self.old)) (read_parts op.now)) }
+        ensures slot { IfOk result (λ slot. slot ≡ slot_at (length (names_held self.old)) (read_parts op.now)) }
         ensures ports { self.new.ports ≡ self.old.ports }
-        ensures places { self.new.places ≡ self.old.places }
+        ensures slots { self.new.slots ≡ self.old.slots }
     {
         let first = self.names.count();
         self.take_results(alloc, op)?;
@@ -202,7 +202,7 @@ impl ValueNames {
     fn take_results(&mut self, alloc: Global, op: &Op<'_>) -> Result<(), AllocError>
         ensures chosen { OnOk result (chosen_names self.new ≡ with_name_hints (chosen_names self.old) (name_hints (read_parts op.now))) }
         ensures ports { self.new.ports ≡ self.old.ports }
-        ensures places { self.new.places ≡ self.old.places }
+        ensures slots { self.new.slots ≡ self.old.slots }
     {
         match op.kind {
             OpKind::Constant(value) => {
@@ -238,7 +238,7 @@ impl ValueNames {
     ) -> Result<u32, AllocError>
         ensures chosen { OnOk result (chosen_names self.new ≡ with_name_hint (chosen_names self.old) (constant_name_hint (map type_of types.now) (integer_of value))) }
         ensures ports { self.new.ports ≡ self.old.ports }
-        ensures places { self.new.places ≡ self.old.places }
+        ensures slots { self.new.slots ≡ self.old.slots }
     {
         match types.first() {
             Some(ty) => self.take_typed(alloc, ty, value),
@@ -250,7 +250,7 @@ impl ValueNames {
     fn take_typed(&mut self, alloc: Global, ty: &Ty, value: Integer) -> Result<u32, AllocError>
         ensures chosen { OnOk result (chosen_names self.new ≡ with_name_hint (chosen_names self.old) (constant_name_hint (type_of ty.now ∷ []) (integer_of value))) }
         ensures ports { self.new.ports ≡ self.old.ports }
-        ensures places { self.new.places ≡ self.old.places }
+        ensures slots { self.new.slots ≡ self.old.slots }
     {
         match ty {
             Ty::Int(width) => {
@@ -265,7 +265,7 @@ impl ValueNames {
     fn take_outputs(&mut self, alloc: Global, instance: &Instance) -> Result<(), AllocError>
         ensures chosen { OnOk result (chosen_names self.new ≡ with_name_hints (chosen_names self.old) (instance_name_hints (instance_of instance.now).name (instance_of instance.now).outputs)) }
         ensures ports { self.new.ports ≡ self.old.ports }
-        ensures places { self.new.places ≡ self.old.places }
+        ensures slots { self.new.slots ≡ self.old.slots }
     {
         for port in &instance.outputs {
             let name = instance_name(alloc, instance.name.as_bytes(), port.as_bytes())?;
@@ -292,10 +292,10 @@ impl ValueNames {
     }
 
     // Where the names of the results of an operation of this id stand.
-    fn place(&self, id: OpId) -> Option<Slot>
-        ensures { result ≡ slice_get self.now.places.items id.index }
+    fn slot(&self, id: OpId) -> Option<Slot>
+        ensures { result ≡ slice_get self.now.slots.items id.index }
     {
-        self.places.get(id.number() as usize).copied()
+        self.slots.get(id.number() as usize).copied()
     }
 
     /// A value as it is printed; what nothing defines has the empty name.
@@ -331,10 +331,10 @@ impl ValueNames {
 
     // A result of an operation.
     fn result(&self, id: OpId, number: u32) -> ValueText<'_>
-        ensures { value_of result ≡ value_in_slot (names_held self.now) (slice_get self.now.places.items id.index) number }
+        ensures { value_of result ≡ value_in_slot (names_held self.now) (slice_get self.now.slots.items id.index) number }
     {
-        match self.place(id) {
-            Some(place) => self.slot_name(place, number),
+        match self.slot(id) {
+            Some(slot) => self.slot_name(slot, number),
             None => ValueText {
                 name: &[],
                 number: None,
@@ -342,44 +342,44 @@ impl ValueNames {
         }
     }
 
-    // A result of a place.
-    fn slot_name(&self, place: Slot, number: u32) -> ValueText<'_>
-        ensures { value_of result ≡ slot_value (names_held self.now) place number }
+    // A result of the operation of a slot.
+    fn slot_name(&self, slot: Slot, number: u32) -> ValueText<'_>
+        ensures { value_of result ≡ slot_value (names_held self.now) slot number }
     {
-        if (number as usize) >= place.count {
+        if (number as usize) >= slot.count {
             return ValueText {
                 name: &[],
                 number: None,
             };
         }
-        if place.pack {
+        if slot.pack {
             return ValueText {
-                name: self.nth(place.first as usize),
+                name: self.nth(slot.first as usize),
                 number: Some(number),
             };
         }
         ValueText {
-            name: self.nth(place.first as usize + number as usize),
+            name: self.nth(slot.first as usize + number as usize),
             number: None,
         }
     }
 }
 
-// Puts a place at a position, after empty ones where there are fewer.
-fn put_slot(places: &mut Vec<Slot>, position: usize, place: Slot) -> Result<(), AllocError>
-    ensures { OnOk result ((id : ℕ) → place_for places.new.items id ≡ cond (nat_eq position id) place (place_for places.old.items id)) }
+// Puts a slot at a position, after empty ones where there are fewer.
+fn put_slot(slots: &mut Vec<Slot>, position: usize, slot: Slot) -> Result<(), AllocError>
+    ensures { OnOk result ((id : ℕ) → slot_for slots.new.items id ≡ cond (nat_eq position id) slot (slot_for slots.old.items id)) }
 {
-    for _ in places.len()..position {
-        places.push(Slot {
+    for _ in slots.len()..position {
+        slots.push(Slot {
             first: 0,
             count: 0,
             pack: false,
         })?;
     }
-    if position < places.len() {
-        places[position] = place;
+    if position < slots.len() {
+        slots[position] = slot;
     } else {
-        places.push(place)?;
+        slots.push(slot)?;
     }
     Ok(())
 }

@@ -143,21 +143,17 @@ fn clear_table<'s>(alloc: Global, table: &mut IndexMap<&'s [u8], Defined>)
     }
 }
 
-// Puts what a number stands for at its location, after empty ones where there are fewer.
-fn put(
-    locations: &mut Vec<Option<Defined>>,
-    number: u32,
-    defined: Defined,
-) -> Result<(), AllocError>
-    ensures { OnOk result ((n : ℕ) → meaning_at locations.new.items n ≡ cond (nat_eq number n) (Some defined) (meaning_at locations.old.items n)) }
+// Puts what a number stands for into its slot, after empty ones where there are fewer.
+fn put(slots: &mut Vec<Option<Defined>>, number: u32, defined: Defined) -> Result<(), AllocError>
+    ensures { OnOk result ((n : ℕ) → meaning_at slots.new.items n ≡ cond (nat_eq number n) (Some defined) (meaning_at slots.old.items n)) }
 {
-    let location = number as usize;
-    if location < locations.len() {
-        locations[location] = Some(defined);
+    let slot = number as usize;
+    if slot < slots.len() {
+        slots[slot] = Some(defined);
         return Ok(());
     }
-    locations.resize(location, None)?;
-    locations.push(Some(defined))?;
+    slots.resize(slot, None)?;
+    slots.push(Some(defined))?;
     Ok(())
 }
 

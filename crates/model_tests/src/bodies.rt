@@ -9,7 +9,7 @@ use hw_model::kinds::OpKind;
 use io_edge::byte_text::Text;
 use ir_store::body::Body;
 use ir_store::dictionary::Dictionary;
-use ir_store::operation::{NewOp, NewResultList, OpId, TyList, UsePlace, Value};
+use ir_store::operation::{NewOp, NewResultList, OpId, TyList, UsePosition, Value};
 use smallvec::SmallVec;
 use std::alloc::{AllocError, Global};
 use std::test::Fail;
@@ -141,36 +141,36 @@ fn has_ops(
     Ok(left.next().is_none())
 }
 
-// whether one of the places is this operand
-fn is_among(place: UsePlace, places: &[(u32, u32)]) -> bool {
-    for (op, at) in places {
-        if place.op == OpId::nth(*op) && place.at == *at {
+// whether one of the positions is this operand
+fn is_among(position: UsePosition, positions: &[(u32, u32)]) -> bool {
+    for (op, at) in positions {
+        if position.op == OpId::nth(*op) && position.at == *at {
             return true;
         }
     }
     false
 }
 
-// Whether the value is used at just these places, in some order.
-fn is_used_at(body: &Body, value: Value, places: &[(u32, u32)]) -> bool {
+// Whether the value is used at just these positions, in some order.
+fn is_used_at(body: &Body, value: Value, positions: &[(u32, u32)]) -> bool {
     let mut count = 0usize;
-    for place in body.uses(value) {
-        if !is_among(place, places) {
+    for position in body.uses(value) {
+        if !is_among(position, positions) {
             return false;
         }
         count = count.saturating_add(1);
     }
-    count == places.len()
+    count == positions.len()
 }
 
-// Whether the walk over the uses of a value gives the places that are told at once, in their order.
+// Whether the walk over the uses of a value gives the positions that are told at once, in their order.
 fn is_walked(body: &Body, value: Value) -> bool {
     let mut at = body.first_use(value);
-    for place in body.uses(value) {
+    for position in body.uses(value) {
         let Some(id) = at else {
             return false;
         };
-        if body.use_at(id) != place {
+        if body.use_at(id) != position {
             return false;
         }
         at = body.next_use(id);
@@ -191,9 +191,9 @@ fn body_of(alloc: Global, run: &Run) -> Result<Option<Body>, AllocError> {
 
 // Whether a body is what a run gives.
 fn is_given(alloc: Global, run: &Run, body: &Body) -> Result<bool, AllocError> {
-    for (operand, places) in run.uses {
+    for (operand, positions) in run.uses {
         let value = value_of(*operand);
-        if !is_used_at(body, value, places) || !is_walked(body, value) {
+        if !is_used_at(body, value, positions) || !is_walked(body, value) {
             return Ok(false);
         }
     }

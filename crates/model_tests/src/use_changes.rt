@@ -183,7 +183,7 @@ pub const USES: [Run; 6] = [
             (Port(3), &[(0, 0)]),
         ],
     },
-    // a value in its own place
+    // a value in its own position
     Run {
         changes: &[
             (

@@ -19,10 +19,10 @@ taken_count taken [] = 0
 taken_count taken (w ∷ ws) = cond (is_taken taken w) 1 0 + taken_count taken ws
 
 -- names that are taken, with the positions of the legal ones: all others are reserved words
-pub record IsTable (taken : List Name) (places : List ℕ) : Type 0 where
-  pub within : (i place : ℕ) → slice_get places i ≡ Some place → place < length taken
-  pub alike : AreTakenAlike taken (names_at taken places)
-  pub few : length taken ≤ length places + taken_count taken reserved_words
+pub record IsTable (taken : List Name) (positions : List ℕ) : Type 0 where
+  pub within : (i position : ℕ) → slice_get positions i ≡ Some position → position < length taken
+  pub alike : AreTakenAlike taken (names_at taken positions)
+  pub few : length taken ≤ length positions + taken_count taken reserved_words
 
 -- names that are taken, and a reserved word that would be the free name of a wanted one
 unfoldable pub with_reserved : List Name → Name → List Name

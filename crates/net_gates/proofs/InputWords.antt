@@ -14,7 +14,7 @@ use Rattle.net_gates.specs.NetGateLists.{variables}
 abbrev pub CarriesInputs : (total : ℕ) → Carrying total → Word → Type 0
 CarriesInputs total c word = (k start w : ℕ) → total ≤ k → start + w ≤ length word → CarriesWord c k (first w (drop start word)) (variables start w)
 
--- the first bits of what stands from a place on
+-- the first bits of what stands from a position on
 first_more : (word : Word) (start w : ℕ) → start < length word → first (suc w) (drop start word) ≡ slice_index_or word start false ∷ first w (drop (suc start) word)
 first_more [] start w h = absurd (omega arith)
 first_more (b ∷ word) zero w h = refl
@@ -33,9 +33,9 @@ pub inputs_under : (word rest : Word) → CarriesInputs (length word) (bits_unde
 inputs_under word rest k start zero l within = none
 inputs_under word rest k start (suc w) l within =
     let inside : start < length word = omega arith in
-    let place : suc start - 1 ≡ start = omega arith in
+    let position : suc start - 1 ≡ start = omega arith in
     let bit : beq (variable_bit (word ++ rest) (suc start)) true ≡ slice_index_or word start false =
-    beq_true (variable_bit (word ++ rest) (suc start)) ∙ ap (λ i. slice_index_or (word ++ rest) i false) place ∙ bit_of_first word rest start inside in
+    beq_true (variable_bit (word ++ rest) (suc start)) ∙ ap (λ i. slice_index_or (word ++ rest) i false) position ∙ bit_of_first word rest start inside in
     word_same (bits_under (word ++ rest) (length word)) k _ _ _ (sym (first_more word start w inside))
     (more _ _ _ _ bit (inputs_under word rest k (suc start) w l (omega arith)))
 

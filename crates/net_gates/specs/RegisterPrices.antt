@@ -28,15 +28,15 @@ abbrev pub next_price : ℕ → Option ResetBy → Option Register → ℕ
 next_price w a None = 0
 next_price w a (Some r) = enable_price w r.enable + (any_reset_price w a r.reset + 3 * w)
 
--- of a register, before the nets
+-- the price of what a register loads before the nets are built, by its asynchronous reset
 abbrev pub load_cost : Slot → ℕ
 load_cost s = load_price (held_width s.op) (async_reset_in s.op)
 
--- of a register, after them
+-- the price of a register's step, once the nets are built
 abbrev pub next_cost : Slot → ℕ
 next_cost s = next_price (held_width s.op) (async_reset_in s.op) (register_in s.op)
 
--- of all: for one of w bits 3w, with an asynchronous reset 5w; 3w more with an enable, and with a synchronous reset
+-- the price of all registers: of one of w bits 3w, with an asynchronous reset 5w; 3w more with an enable, and with a synchronous reset
 abbrev pub registers_price : List Slot → ℕ
 registers_price [] = 0
 registers_price (s ∷ ss) = load_cost s + next_cost s + registers_price ss

@@ -39,7 +39,7 @@ two_agreed (a ∷ b ∷ []) t n h =
     let f : b ≡ t = some_from b t (h (Some b) (inr (inl refl))) in cc
 two_agreed (a ∷ b ∷ c ∷ us) t n h = absurd (omega arith)
 
--- lists of one length that differ at no place are one
+-- lists of one length that differ at no position are one
 pub pairwise_agreed : (us ts : List HwType) → length us ≡ length ts → differ (known_types us) (known_types ts) ≡ false → us ≡ ts
 pairwise_agreed [] [] n h = refl
 pairwise_agreed [] (t ∷ ts) n h = absurd (omega arith)
@@ -58,7 +58,7 @@ single (r ∷ []) u t zero n h e =
 single (r ∷ []) u t (suc k) n h e = cc
 single (r ∷ s ∷ rs) u t k n h e = absurd (omega arith)
 
--- a list that differs at no place from the beginning of another
+-- a list that differs at no position from the beginning of another
 pub prefix_agreed : (us ts : List HwType) → length us ≤ length ts → differ (known_types us) (known_types ts) ≡ false → us ≡ take (length us) ts
 prefix_agreed [] ts n h = refl
 prefix_agreed (u ∷ us) [] n h = absurd (omega arith)

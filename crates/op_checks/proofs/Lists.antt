@@ -76,7 +76,7 @@ types_of_items xs l e = ap (map type_of) e
 pub results_of_items : (xs : List NewResult) (l : ShortList NewResult) → xs ≡ short_items l → result_types_in l ≡ map (λ (r : NewResult). type_of r.ty) xs
 results_of_items xs l e = result_types_seen l ∙ ap (map (λ (r : NewResult). type_of r.ty)) (sym e)
 
--- the type at a place of a list that is seen so
+-- the type at a position of a list that is seen so
 pub settled_index : {A : Type 0} (view : A → Option HwType) (xs : List A) (n : ℕ) (x : A) → n < length xs → x ≡ get_or xs n x
     → view x ≡ settled_at (map view xs) n
 settled_index view [] n x h e = absurd (omega arith)

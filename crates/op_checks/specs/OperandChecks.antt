@@ -53,7 +53,7 @@ abbrev pub enable_differs : Bool → List (Option HwType) → Bool
 enable_differs false xs = false
 enable_differs true xs = differs (settled_at xs 2) (Some (int 1))
 
--- whether its reset, at a place, is no i1, or the value that it then takes has another type
+-- whether its reset, at a position, is no i1, or the value that it then takes has another type
 abbrev pub reset_differs : Reset → Option HwType → ℕ → List (Option HwType) → Bool
 reset_differs no_reset t at xs = false
 reset_differs sync_reset t at xs = differs (settled_at xs at) (Some (int 1)) || differs (settled_at xs (at + 1)) t

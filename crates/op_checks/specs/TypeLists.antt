@@ -47,13 +47,13 @@ abbrev pub any_differs : List (Option HwType) → Option HwType → Bool
 any_differs [] y = false
 any_differs (x ∷ xs) y = differs x y || any_differs xs y
 
--- whether two lists differ at a place that both have
+-- whether two lists differ at a position that both have
 abbrev pub differ : List (Option HwType) → List (Option HwType) → Bool
 differ [] ys = false
 differ (x ∷ xs) [] = false
 differ (x ∷ xs) (y ∷ ys) = differs x y || differ xs ys
 
--- the type at a place; none where there is no such place or it is not settled
+-- the type at a position; none where there is no such position or it is not settled
 abbrev pub settled_at : List (Option HwType) → ℕ → Option HwType
 settled_at [] n = None
 settled_at (x ∷ xs) zero = x

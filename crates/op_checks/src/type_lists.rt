@@ -154,7 +154,7 @@ pub fn differs(ty: Option<&Ty>, wanted: Option<&Ty>) -> bool
     }
 }
 
-/// The type at a place, where it is settled.
+/// The type at a position, where it is settled.
 pub fn settled_at<'t>(operands: &[Option<&'t Ty>], at: usize) -> Option<&'t Ty>
     ensures { option_map (λ t. type_of t.now) result ≡ settled_at (map (option_map (λ t. type_of t.now)) operands.now) at }
 {
@@ -196,7 +196,7 @@ pub fn differ_in_three(
         || (differs(settled_at(operands, 1), second) || differs(settled_at(operands, 2), third))
 }
 
-/// Whether the operands' types and the types differ at a place that both have.
+/// Whether the operands' types and the types differ at a position that both have.
 pub fn differ_from_types(operands: &[Option<&Ty>], types: &[Ty]) -> bool
     ensures { result ≡ differ (map (option_map (λ t. type_of t.now)) operands.now) (known_types (map type_of types.now)) }
 {
@@ -208,7 +208,7 @@ pub fn differ_from_types(operands: &[Option<&Ty>], types: &[Ty]) -> bool
     false
 }
 
-/// Whether the operands' types and those of the fields differ at a place that both have.
+/// Whether the operands' types and those of the fields differ at a position that both have.
 pub fn differ_from_fields(operands: &[Option<&Ty>], fields: &[Field]) -> bool
     ensures { result ≡ differ (map (option_map (λ t. type_of t.now)) operands.now) (known_types (field_list (fields_of (map field_of fields.now)))) }
 {
@@ -220,7 +220,7 @@ pub fn differ_from_fields(operands: &[Option<&Ty>], fields: &[Field]) -> bool
     false
 }
 
-/// Whether the results' types and the types differ at a place that both have.
+/// Whether the results' types and the types differ at a position that both have.
 pub fn results_differ_from_types(results: &[NewResult], types: &[Ty]) -> bool
     ensures { result ≡ differ (known_types (map (λ r. type_of r.ty) results.now)) (known_types (map type_of types.now)) }
 {
@@ -232,7 +232,7 @@ pub fn results_differ_from_types(results: &[NewResult], types: &[Ty]) -> bool
     false
 }
 
-/// Whether the results' types and those of the fields differ at a place that both have.
+/// Whether the results' types and those of the fields differ at a position that both have.
 pub fn results_differ_from_fields(results: &[NewResult], fields: &[Field]) -> bool
     ensures { result ≡ differ (known_types (map (λ r. type_of r.ty) results.now)) (known_types (field_list (fields_of (map field_of fields.now)))) }
 {

@@ -1,4 +1,4 @@
--- What an accepted design has; and that places decide nothing of it.
+-- What an accepted design has; and that positions decide nothing of it.
 use Rattle.std.proofs.Common.{◌≡◌, ◌⊎◌, ◌<◌, ◌^◌, ℕ, ℤ, pos, negsuc, List, [], ◌∷◌, map, slice_get, false, is_some, Option, Some, None, option_map, refl, sym, ap, ap₂, subst, ◌∙◌, arith}
 use Rattle.std.proofs.lemmas.Bool.Decides.{nat_tests}
 use Rattle.std.proofs.lemmas.Option.{slice_get-map}
@@ -64,9 +64,9 @@ module _ (d : Design) (accepted : IsAccepted d) where
   pub accepted_resets : ResetsFromPorts d (is_reset_port d)
   accepted_resets = resets_from_ports d no_fault
 
--- ---- designs without places
+-- ---- designs without positions
 
--- what holds of no operation of a design holds of none without places, and back
+-- what holds of no operation of a design holds of none without positions, and back
 module _ (d : Design) (P Q : Module → ℕ → Op → Type 0) where
   no_op_to : ((m : Module) (j : ℕ) (o : Op) → Q (module_without_locations m) j (op_without_location o) → P m j o) → NoOp d P → NoOp (without_locations d) Q
   no_op_to back none n j m' o' at holds =
@@ -116,7 +116,7 @@ accepted_with d a = record {
   no_cycle = no_op_from d (IsOnCycle d) (IsOnCycle (without_locations d)) (λ m j o h. subst (λ f. around_by f j) (sym (needs_unlocated d m.symbol)) h) a.no_cycle;
 }
 
--- places decide nothing
+-- positions decide nothing
 pub same_accepted : (d e : Design) → IsSameDesign d e → IsAccepted d → IsAccepted e
 same_accepted d e same a = accepted_with e (subst IsAccepted same (accepted_without d a))
 

@@ -47,7 +47,7 @@ is_last p es i count less all =
     let size : length (map (op_by p) (map op_in es)) ≡ length es = length-map (map op_in es) (op_by p) ∙ length-map es op_in in
     empty_drop (map (op_by p) (map op_in es)) (i + 1) (rw size (omega (arith, less))) ∙ ap (nat_eq (i + 1)) (size ∙ sym all)
 
--- what a walk over entries that it sees knows at a place: the operations from it on, and whether it is the last
+-- what a walk over entries that it sees knows at a position: the operations from it on, and whether it is the last
 pub seen_at : (p : ℕ → ℕ) (seen es : List Entry) (i count : ℕ) (e : Entry) → seen ≡ es → i < length seen → e ≡ get_or seen i e → count ≡ length seen
     → (drop i (map (op_by p) (map op_in es)) ≡ op_by p (op_in e) ∷ drop (i + 1) (map (op_by p) (map op_in es)))
     × (is_empty (drop (i + 1) (map (op_by p) (map op_in es))) ≡ nat_eq (i + 1) count)

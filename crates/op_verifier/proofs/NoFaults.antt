@@ -1,4 +1,4 @@
--- What a design without a refused module is, by the places of its modules.
+-- What a design without a refused module is, by the positions of its modules.
 use Rattle.std.proofs.Common.{◌≡◌, ℕ, zero, suc, ◌+◌, ◌<◌, Bool, true, false, cond, List, [], ◌∷◌, take, slice_get, Option, Some, None, is_some, refl, sym, ap, ap₂, ◌∙◌, arith}
 use Rattle.std.specs.Cmp.Lexicographic.{same_text}
 use Rattle.hw_model.specs.Types.{Name}

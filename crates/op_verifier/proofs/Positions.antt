@@ -7,7 +7,7 @@ use Rattle.ir_store.proofs.BodyLemmas.{map_read}
 use Rattle.op_verifier.specs.declared.entries.Entry.{Entry}
 use Rattle.op_verifier.specs.Entries.{op_in}
 
--- the id at the place before stands before those from the place on
+-- the id at the position before stands before those from the position on
 at_prefix : (ids : List ℕ) (i id q position : ℕ) → i < length ids → id ≡ get_or ids i 0 → position ≡ suc i + position_of (drop (suc i) ids) q
     → cond (nat_eq id q) i position ≡ i + position_of (drop i ids) q
 at_prefix ids i id q position less is before = rw (drop-cons ids i 0 less, sym is) (go (nat_eq id q))
@@ -16,9 +16,9 @@ at_prefix ids i id q position less is before = rw (drop-cons ids i 0 less, sym i
     go true = omega arith
     go false = omega (arith, before)
 
-pub noted_before : (ids : List ℕ) (place id q position : ℕ) → 0 < place → place ≤ length ids → id ≡ get_or ids (place - 1) 0
-    → position ≡ place + position_of (drop place ids) q
-    → cond (nat_eq id q) (place - 1) position ≡ (place - 1) + position_of (drop (place - 1) ids) q
+pub noted_before : (ids : List ℕ) (next id q position : ℕ) → 0 < next → next ≤ length ids → id ≡ get_or ids (next - 1) 0
+    → position ≡ next + position_of (drop next ids) q
+    → cond (nat_eq id q) (next - 1) position ≡ (next - 1) + position_of (drop (next - 1) ids) q
 noted_before ids zero id q position some within is before = absurd (omega (arith, some))
 noted_before ids (suc i) id q position some within is before =
     let e : suc i - 1 ≡ i = omega arith in

@@ -14,7 +14,7 @@ use Rattle.op_verifier.specs.ResetChecks.{is_no_input, joins_other, has_other_jo
 
 -- ---- one port more
 
--- how many inputs are among the ports before a place
+-- how many inputs are among the ports before a position
 count_more : (qs : List Port) (i : ℕ) (q : Port) → slice_get qs i ≡ Some q → input_count (take (suc i) qs) ≡ input_count (take i qs) + cond q.is_output 0 1
 count_more [] i q there = cc
 count_more (x ∷ qs) zero q there =
@@ -29,7 +29,7 @@ count_more (x ∷ qs) (suc i) q there = go x.is_output (count_more qs i q there)
     go true rest = rest
     go false rest = let e : suc (input_count (take (suc i) qs)) ≡ suc (input_count (take i qs)) + cond q.is_output 0 1 = omega (arith, rest) in e
 
--- the port at a place
+-- the port at a position
 port_there : (ps : List code.Port) (i : ℕ) (p : code.Port) → i < length ps → p ≡ get_or ps i p → slice_get (map port_of ps) i ≡ Some (port_of p)
 port_there ps i p less is = slice_get-map port_of ps i ∙ ap (option_map port_of) (slice_get-get_or ps i p less ∙ ap Some (sym is))
 
@@ -45,7 +45,7 @@ module _ (resets : ℕ → Bool) (own : List Port) (ps : List code.Port) (refs :
   abbrev joins : ℕ → Bool
   joins n = joins_other resets own (port_ref (map port_of ps) refs) n
 
-  -- what is found at some place is found up to each later one
+  -- what is found at some position is found up to each later one
   found_more : (i n : ℕ) → i ≤ n → joins i ≡ true → joins n ≡ true
   found_more i zero within found = let e : i ≡ 0 = omega (arith, within) in ap joins (sym e) ∙ found
   found_more i (suc n) within found = go (nat_eq i (suc n)) refl (λ before. found_more i n before found)
@@ -59,8 +59,8 @@ module _ (resets : ℕ → Bool) (own : List Port) (ps : List code.Port) (refs :
 
   module _ (i inputs : ℕ) (p : code.Port) (is_reset found : Bool) (less : i < length ps) (is : p ≡ get_or ps i p) (counted : inputs ≡ input_count (take i (map port_of ps)))
       (marked : is_reset ≡ resets i) (test : found ≡ (is_reset && is_no_input own (operand_for (Some (port_of p)) refs inputs))) (none : joins i ≡ false) where
-    at_place : joins (i + 1) ≡ found
-    at_place =
+    at_position : joins (i + 1) ≡ found
+    at_position =
         ap joins (add-one i)
         ∙ ap₂ (λ (a : Bool) (x : Option Ref). a || (resets i && is_no_input own x)) none
         (ap (λ (x : Option Port). operand_for x refs (input_count (take i (map port_of ps)))) (port_there ps i p less is)
@@ -68,10 +68,10 @@ module _ (resets : ℕ → Bool) (own : List Port) (ps : List code.Port) (refs :
         ∙ ap (λ (b : Bool). b && is_no_input own (operand_for (Some (port_of p)) refs inputs)) (sym marked) ∙ sym test
 
     pub found_at : found ≡ true → true ≡ joins (length ps)
-    found_at is_true = sym (found_more (i + 1) (length ps) (omega (arith, less)) (at_place ∙ is_true))
+    found_at is_true = sym (found_more (i + 1) (length ps) (omega (arith, less)) (at_position ∙ is_true))
 
     pub none_at : found ≡ false → joins (i + 1) ≡ false
-    none_at is_false = at_place ∙ is_false
+    none_at is_false = at_position ∙ is_false
 
   pub none_joined : (i : ℕ) → length ps ≤ i → joins i ≡ false → false ≡ joins (length ps)
   none_joined i past none = go (joins (length ps)) refl

@@ -1,4 +1,4 @@
--- The places of modules and operations in the source decide nothing of calls, weights and what needs what.
+-- The positions of modules and operations in the source decide nothing of calls, weights and what needs what.
 use Rattle.std.proofs.Common.{◌≡◌, ℕ, zero, suc, ◌+◌, List, [], ◌∷◌, ◌++◌, length, map, Option, Some, None, refl, ap, ◌∙◌, option_map}
 use Rattle.std.proofs.lemmas.List.{length-map}
 use mathlib.Core.Path.{fun_ext}

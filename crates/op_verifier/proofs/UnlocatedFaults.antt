@@ -1,4 +1,4 @@
--- The places of modules and operations in the source decide nothing of whether a header or an operation is refused.
+-- The positions of modules and operations in the source decide nothing of whether a header or an operation is refused.
 use Rattle.std.proofs.Common.{◌≡◌, ℕ, suc, Bool, true, cond, not, ◌&&◌, ◌||◌, nat_eq, List, [], ◌∷◌, length, map, take, slice_get, Option, Some, None, option_map, is_some, refl, ap, ap₂, ◌∙◌, option_and_then}
 use Rattle.std.specs.Prelude.{slice_index_or}
 use Rattle.std.proofs.lemmas.Option.{slice_get-map}

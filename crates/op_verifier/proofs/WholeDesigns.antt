@@ -1,4 +1,4 @@
--- From places in code to operations and modules of a design.
+-- From positions in code to operations and modules of a design.
 use Rattle.std.proofs.Common.{◌≡◌, ℕ, ◌<◌, inl, inr, List, [], map, length, slice_get, Option, Some, None, option_map, is_some, Contains, refl, sym, ap, ◌∙◌, subst, arith}
 use Rattle.std.proofs.lemmas.Option.{slice_get-map, slice_get_within, get_or_from_slice_get}
 use Rattle.diag.specs.declared.cause.Cause.{Cause}
@@ -13,9 +13,9 @@ use Rattle.ir_store.specs.Designs.{StoredModule, module_of, modules_of, numbered
 use Rattle.ir_store.specs.Live.{AreDistinct}
 use Rattle.ir_store.specs.declared.design.Design as code_design
 use Rattle.ir_store.proofs.BodyLemmas.{ids_once}
-use Rattle.design_cycles.specs.declared.place.OpPlace.{OpPlace}
+use Rattle.design_cycles.specs.declared.op_site.OpSite.{OpSite}
 use Rattle.design_cycles.specs.Asked.{Returns, IsRecursiveAt, IsTooLargeAt, IsCyclicAt}
-use Rattle.design_cycles.specs.Places.{ids_of_module, ids_at, IsFirst, Finds, IsFirstNumber, FindsNumber}
+use Rattle.design_cycles.specs.Positions.{ids_of_module, ids_at, IsFirst, Finds, IsFirstNumber, FindsNumber}
 use Rattle.diag.specs.declared.cause.Cause.TheVariants.{RecursiveInstance, TooLarge, CombinationalCycle}
 use Rattle.op_verifier.specs.Faults.{op_refusal, header_refusal, first_fault}
 use Rattle.op_verifier.specs.Verdict.{OpAt, IsEarlier, FirstOp, NoOp, FirstModule, NoModule, IsRecursive, IsTooLarge, IsOnCycle, IsAccepted, IsRefusal}
@@ -31,7 +31,7 @@ some_from {a = a} h = ap (λ (o : Option _). value a o) h
     value d None = d
     value d (Some x) = x
 
--- what a changed list has at a place, the list has too
+-- what a changed list has at a position, the list has too
 pub unmapped : {A B : Type 0} (f : A → B) (xs : List A) (i : ℕ) (y : B) → slice_get (map f xs) i ≡ Some y → (x : A) × (slice_get xs i ≡ Some x) × (f x ≡ y)
 unmapped f xs i y h = go (slice_get xs i) refl (sym (slice_get-map f xs i) ∙ h)
   where
@@ -48,45 +48,45 @@ apart d n m there =
     let x = unmapped module_of d.modules.items n m there in
     subst (λ (one : StoredModule). AreDistinct (ids_in one.ops)) x.2 (ids_once x.0.body)
 
--- ---- an operation at a place
+-- ---- an operation at a position
 
--- the operation at a place that is found
-record Located (modules : List StoredModule) (place : OpPlace) (position : ℕ) : Type 0 where
+-- the operation at a position that is found
+record Located (modules : List StoredModule) (site : OpSite) (position : ℕ) : Type 0 where
   stored : StoredModule
   op : BodyOp
-  has_module : slice_get modules place.module ≡ Some stored
+  has_module : slice_get modules site.module ≡ Some stored
   has_op : slice_get stored.ops position ≡ Some op
-  has_id : op_at stored.ops place.op.index ≡ Some op
+  has_id : op_at stored.ops site.op.index ≡ Some op
 
-located : (modules : List StoredModule) (place : OpPlace) (position : ℕ) → AreApart modules → slice_get (ids_at modules place.module) position ≡ Some place.op.index
-    → Located modules place position
-located modules place position distinct there = go (slice_get modules place.module) refl there
+located : (modules : List StoredModule) (site : OpSite) (position : ℕ) → AreApart modules → slice_get (ids_at modules site.module) position ≡ Some site.op.index
+    → Located modules site position
+located modules site position distinct there = go (slice_get modules site.module) refl there
   where
-    go : (m : Option StoredModule) → slice_get modules place.module ≡ m → slice_get (ids_of_module m) position ≡ Some place.op.index → Located modules place position
+    go : (m : Option StoredModule) → slice_get modules site.module ≡ m → slice_get (ids_of_module m) position ≡ Some site.op.index → Located modules site position
     go None e h = cc
     go (Some m) e h =
-        let x = unmapped (λ (o : BodyOp). o.id) m.ops position place.op.index h in
+        let x = unmapped (λ (o : BodyOp). o.id) m.ops position site.op.index h in
         record {
           stored = m;
           op = x.0;
           has_module = e;
           has_op = x.1;
-          has_id = ap (op_at m.ops) (sym x.2) ∙ found_by_id m.ops (distinct place.module m e) position x.0 x.1;
+          has_id = ap (op_at m.ops) (sym x.2) ∙ found_by_id m.ops (distinct site.module m e) position x.0 x.1;
         }
 
 -- the module is within the design, and the id is one of its body
-pub place_within : (modules : List StoredModule) (P : ℕ → ℕ → Type 0) (place : OpPlace) → IsFirst modules P place → place.module < length modules
-place_within modules P place h = go (slice_get modules place.module) refl h.found.has_id
+pub site_within : (modules : List StoredModule) (P : ℕ → ℕ → Type 0) (site : OpSite) → IsFirst modules P site → site.module < length modules
+site_within modules P site h = go (slice_get modules site.module) refl h.found.has_id
   where
-    go : (m : Option StoredModule) → slice_get modules place.module ≡ m → slice_get (ids_of_module m) h.found.position ≡ Some place.op.index → place.module < length modules
+    go : (m : Option StoredModule) → slice_get modules site.module ≡ m → slice_get (ids_of_module m) h.found.position ≡ Some site.op.index → site.module < length modules
     go None e there = cc
-    go (Some m) e there = slice_get_within modules place.module m e
+    go (Some m) e there = slice_get_within modules site.module m e
 
-pub place_live : (modules : List StoredModule) (P : ℕ → ℕ → Type 0) (place : OpPlace) → IsFirst modules P place → Contains (ids_at modules place.module) place.op.index
-place_live modules P place h =
-    let ids = ids_at modules place.module in
+pub site_live : (modules : List StoredModule) (P : ℕ → ℕ → Type 0) (site : OpSite) → IsFirst modules P site → Contains (ids_at modules site.module) site.op.index
+site_live modules P site h =
+    let ids = ids_at modules site.module in
     let j = h.found.position in
-    (j, slice_get_within ids j place.op.index h.found.has_id, get_or_from_slice_get ids j place.op.index place.op.index h.found.has_id)
+    (j, slice_get_within ids j site.op.index h.found.has_id, get_or_from_slice_get ids j site.op.index site.op.index h.found.has_id)
 
 -- ---- from one form of what is asked to the other
 
@@ -118,22 +118,22 @@ cyclic_forms d = record {
         let e : h.module_there ≡ m = some_from (sym h.has_module ∙ at.module_there) in
         (h.number, subst (λ (x : Module). Depends d x.symbol (net [] (result j h.number)) (net [] (result j h.number))) e h.depends)
 
--- an operation that is found is the first, and its refusal is that of its place
-pub record Found (modules : List StoredModule) (Q : Module → ℕ → Op → Type 0) (place : OpPlace) : Type 0 where
+-- an operation that is found is the first, and its refusal is that of its position
+pub record Found (modules : List StoredModule) (Q : Module → ℕ → Op → Type 0) (site : OpSite) : Type 0 where
   pub position : ℕ
   pub module_found : Module
   pub op_found : Op
-  pub first : FirstOp (map numbered_module modules) Q place.module position module_found op_found
-  pub refusal : (cause : Cause) (r : Refusal) → IsRefusedOp modules place cause r → r ≡ op_refusal op_found cause
+  pub first : FirstOp (map numbered_module modules) Q site.module position module_found op_found
+  pub refusal : (cause : Cause) (r : Refusal) → IsRefusedOp modules site cause r → r ≡ op_refusal op_found cause
 
-pub found_first : (modules : List StoredModule) (P : ℕ → ℕ → Type 0) (Q : Module → ℕ → Op → Type 0) (place : OpPlace) → AreApart modules
-    → Forms (map numbered_module modules) P Q → IsFirst modules P place → Found modules Q place
-found_first modules P Q place distinct forms h =
-    let x = located modules place h.found.position distinct h.found.has_id in
+pub found_first : (modules : List StoredModule) (P : ℕ → ℕ → Type 0) (Q : Module → ℕ → Op → Type 0) (site : OpSite) → AreApart modules
+    → Forms (map numbered_module modules) P Q → IsFirst modules P site → Found modules Q site
+found_first modules P Q site distinct forms h =
+    let x = located modules site h.found.position distinct h.found.has_id in
     let m = numbered_module x.stored in
     let o = op_by (position_of (ids_in x.stored.ops)) x.op in
-    let at : OpAt (map numbered_module modules) place.module h.found.position m o = record {
-      module_there = stored_at modules place.module x.stored (sym x.has_module);
+    let at : OpAt (map numbered_module modules) site.module h.found.position m o = record {
+      module_there = stored_at modules site.module x.stored (sym x.has_module);
       op_there = slice_get-map (op_by (position_of (ids_in x.stored.ops))) x.stored.ops h.found.position ∙ ap (option_map (op_by (position_of (ids_in x.stored.ops)))) x.has_op;
     } in
     record {
@@ -142,13 +142,13 @@ found_first modules P Q place distinct forms h =
       op_found = o;
       first = record {
         there = at;
-        meets = forms.from place.module h.found.position m o at h.found.holds;
+        meets = forms.from site.module h.found.position m o at h.found.holds;
         first = λ n' j' m' o' earlier there q. none_earlier n' j' earlier (forms.to n' j' m' o' there q);
       };
       refusal = λ cause r is. is x.stored x.op x.has_module x.has_id;
     }
   where
-    none_earlier : (n' j' : ℕ) → IsEarlier n' j' place.module h.found.position → P n' j' → ⊥
+    none_earlier : (n' j' : ℕ) → IsEarlier n' j' site.module h.found.position → P n' j' → ⊥
     none_earlier n' j' (inl less) p = let least = h.earlier n' j' p in omega (arith, less, least)
     none_earlier n' j' (inr same) p = let least = h.found.first j' (subst (λ (n : ℕ). P n j') same.0 p) in let less = same.1 in omega (arith, less, least)
 
@@ -187,11 +187,11 @@ found_no_module modules h n m there large = h n (record { module_there = m; has_
 
 -- ---- the refusals of a design as a whole, and none
 
-pub recursive_refusal : (d : code_design.Design) (place : OpPlace) (r : Refusal) → first_fault (design_of d) ≡ None
-    → Finds (modules_of d) (IsRecursiveAt (design_of d)) (Some place) → IsRefusedOp (modules_of d) place RecursiveInstance r → IsRefusal (design_of d) r
-recursive_refusal d place r none found is =
-    let f = found_first (modules_of d) (IsRecursiveAt (design_of d)) (IsRecursive (design_of d)) place (apart d) (recursive_forms (design_of d)) found in
-    subst (IsRefusal (design_of d)) (sym (f.refusal RecursiveInstance r is)) (recursive place.module f.position f.module_found f.op_found none f.first)
+pub recursive_refusal : (d : code_design.Design) (site : OpSite) (r : Refusal) → first_fault (design_of d) ≡ None
+    → Finds (modules_of d) (IsRecursiveAt (design_of d)) (Some site) → IsRefusedOp (modules_of d) site RecursiveInstance r → IsRefusal (design_of d) r
+recursive_refusal d site r none found is =
+    let f = found_first (modules_of d) (IsRecursiveAt (design_of d)) (IsRecursive (design_of d)) site (apart d) (recursive_forms (design_of d)) found in
+    subst (IsRefusal (design_of d)) (sym (f.refusal RecursiveInstance r is)) (recursive site.module f.position f.module_found f.op_found none f.first)
 
 pub large_refusal : (d : code_design.Design) (n : ℕ) (r : Refusal) → first_fault (design_of d) ≡ None → Finds (modules_of d) (IsRecursiveAt (design_of d)) None
     → FindsNumber (IsTooLargeAt (design_of d)) (Some n) → IsRefusedModule (modules_of d) n TooLarge r → IsRefusal (design_of d) r
@@ -200,13 +200,13 @@ large_refusal d n r none no_recursion found is =
     subst (IsRefusal (design_of d)) (sym (f.refusal TooLarge r is))
     (too_large n f.module_found none (found_none (modules_of d) (IsRecursiveAt (design_of d)) (IsRecursive (design_of d)) (recursive_forms (design_of d)) no_recursion) f.first)
 
-pub cyclic_refusal : (d : code_design.Design) (place : OpPlace) (r : Refusal) → first_fault (design_of d) ≡ None → Finds (modules_of d) (IsRecursiveAt (design_of d)) None
-    → FindsNumber (IsTooLargeAt (design_of d)) None → Finds (modules_of d) (IsCyclicAt (design_of d)) (Some place) → IsRefusedOp (modules_of d) place CombinationalCycle r
+pub cyclic_refusal : (d : code_design.Design) (site : OpSite) (r : Refusal) → first_fault (design_of d) ≡ None → Finds (modules_of d) (IsRecursiveAt (design_of d)) None
+    → FindsNumber (IsTooLargeAt (design_of d)) None → Finds (modules_of d) (IsCyclicAt (design_of d)) (Some site) → IsRefusedOp (modules_of d) site CombinationalCycle r
     → IsRefusal (design_of d) r
-cyclic_refusal d place r none no_recursion light found is =
-    let f = found_first (modules_of d) (IsCyclicAt (design_of d)) (IsOnCycle (design_of d)) place (apart d) (cyclic_forms (design_of d)) found in
+cyclic_refusal d site r none no_recursion light found is =
+    let f = found_first (modules_of d) (IsCyclicAt (design_of d)) (IsOnCycle (design_of d)) site (apart d) (cyclic_forms (design_of d)) found in
     subst (IsRefusal (design_of d)) (sym (f.refusal CombinationalCycle r is))
-    (cyclic place.module f.position f.module_found f.op_found none
+    (cyclic site.module f.position f.module_found f.op_found none
     (found_none (modules_of d) (IsRecursiveAt (design_of d)) (IsRecursive (design_of d)) (recursive_forms (design_of d)) no_recursion)
     (found_no_module (modules_of d) light) f.first)
 

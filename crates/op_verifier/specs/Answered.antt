@@ -6,7 +6,7 @@ use Rattle.diag.specs.declared.refusal.Refusal.{Refusal}
 use Rattle.hw_model.specs.Design.{Design}
 use Rattle.ir_store.specs.BodyOps.{BodyOp, op_at}
 use Rattle.ir_store.specs.Designs.{StoredModule, modules_of}
-use Rattle.design_cycles.specs.declared.place.OpPlace.{OpPlace}
+use Rattle.design_cycles.specs.declared.op_site.OpSite.{OpSite}
 use Rattle.op_verifier.specs.declared.accepted.Verified.{Verified}
 use Rattle.op_verifier.specs.declared.verify_fail.VerifyFail.{VerifyFail}
 use Rattle.op_verifier.specs.declared.verify_fail.VerifyFail.TheVariants.{Refused, NoMemory}
@@ -27,6 +27,6 @@ Explains d NoMemory = Unit {0}
 abbrev pub IsRefusedModule : List StoredModule → ℕ → Cause → Refusal → Type 0
 IsRefusedModule modules n cause r = (m : StoredModule) → slice_get modules n ≡ Some m → r ≡ refused_at m.location listed.HwModule cause
 
-abbrev pub IsRefusedOp : List StoredModule → OpPlace → Cause → Refusal → Type 0
-IsRefusedOp modules place cause r = (m : StoredModule) (o : BodyOp) → slice_get modules place.module ≡ Some m → op_at m.ops place.op.index ≡ Some o
+abbrev pub IsRefusedOp : List StoredModule → OpSite → Cause → Refusal → Type 0
+IsRefusedOp modules position cause r = (m : StoredModule) (o : BodyOp) → slice_get modules position.module ≡ Some m → op_at m.ops position.op.index ≡ Some o
     → r ≡ refused_at o.parts.location (opcode_of o.parts.kind) cause

@@ -32,15 +32,15 @@ abbrev pub body_fault : Design → List Port → List Op → List Op → Option 
 body_fault d ports whole [] = None
 body_fault d ports whole (o ∷ os) = or_else (option_map (op_refusal o) (op_cause d ports whole (is_empty os) o)) (body_fault d ports whole os)
 
--- of a module
+-- the first refusal of a module, which is the n-th of the design
 abbrev pub module_fault : Design → ℕ → Module → Option Refusal
 module_fault d n m = or_else (option_map (header_refusal m) (header_cause d n m)) (body_fault d m.ports m.body m.body)
 
--- of modules from a number on
+-- the first refusal of some modules, which are those of the design from the n-th on
 abbrev pub faults_from : Design → ℕ → List Module → Option Refusal
 faults_from d n [] = None
 faults_from d n (m ∷ ms) = or_else (module_fault d n m) (faults_from d (suc n) ms)
 
--- of the design
+-- the first refusal of the design
 abbrev pub first_fault : Design → Option Refusal
 first_fault d = faults_from d 0 d

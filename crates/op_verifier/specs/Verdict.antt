@@ -12,14 +12,14 @@ use Rattle.hw_model.specs.Flat.{net}
 use Rattle.hw_model.specs.Meaning.{Depends}
 use Rattle.op_verifier.specs.Faults.{first_fault, header_refusal, op_refusal}
 
--- ---- places in a design
+-- ---- positions in a design
 
 -- module n of a design, and operation j of its body
 pub record OpAt (d : Design) (n j : ℕ) (m : Module) (o : Op) : Type 0 where
   pub module_there : slice_get d n ≡ Some m
   pub op_there : slice_get m.body j ≡ Some o
 
--- an earlier place in the text: an earlier module, or an earlier operation of the same one
+-- an earlier location in the text: an earlier module, or an earlier operation of the same one
 abbrev pub IsEarlier : ℕ → ℕ → ℕ → ℕ → Type 0
 IsEarlier n' j' n j = (n' < n) ⊎ ((n' ≡ n) × (j' < j))
 

@@ -63,11 +63,11 @@ fn positions(room: Vec<usize>, entries: &[Entry<'_>]) -> Result<Vec<usize>, Allo
 {
     let mut table = room;
     table.clear();
-    let mut place = entries.len();
-    while place > 0 {
-        place -= 1;
-        let number = entries[place].id.number() as usize;
-        note(&mut table, number, place, entries.len())?;
+    let mut position = entries.len();
+    while position > 0 {
+        position -= 1;
+        let number = entries[position].id.number() as usize;
+        note(&mut table, number, position, entries.len())?;
     }
     Ok(table)
 }

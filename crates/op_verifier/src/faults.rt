@@ -72,8 +72,8 @@ fn body_fault(
     ensures { IfOk result (λ fault. fault ≡ body_fault (design_of design.now) (ports_viewed view.now) (body_viewed view.now) (body_viewed view.now)) }
 {
     let count = view.entries.len();
-    for (place, entry) in view.entries.iter().enumerate() {
-        match view.op_cause(alloc, design, resets, entry, place + 1 == count)? {
+    for (position, entry) in view.entries.iter().enumerate() {
+        match view.op_cause(alloc, design, resets, entry, position + 1 == count)? {
             Some(cause) => {
                 let name = entry.op.kind.listed();
                 return Ok(Some(refused_at(entry.op.location, name, cause)));

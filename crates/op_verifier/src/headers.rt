@@ -104,8 +104,8 @@ pub(crate) fn has_twice(alloc: Global, ports: &[Port]) -> Result<bool, AllocErro
 fn has_twice_among_few(ports: &[Port]) -> bool
     ensures { result ≡ has_twice (map (λ q. q.name) (map port_of ports.now)) }
 {
-    for (place, port) in ports.iter().enumerate() {
-        if is_named(&ports[..place], &port.name) {
+    for (position, port) in ports.iter().enumerate() {
+        if is_named(&ports[..position], &port.name) {
             return true;
         }
     }

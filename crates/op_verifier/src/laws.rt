@@ -49,7 +49,7 @@ pub fn resets_come_from_ports()
     ensures { (d : Design) → IsAccepted d → ResetsFromPorts d (is_reset_port d) }
 {}
 
-/// Does nothing. Its clause says that a design that differs from an accepted one in nothing but places is accepted.
+/// Does nothing. Its clause says that a design that differs from an accepted one in nothing but positions is accepted.
 pub fn locations_decide_no_verdict()
     ensures { (d e : Design) → IsSameDesign d e → IsAccepted d → IsAccepted e }
 {}

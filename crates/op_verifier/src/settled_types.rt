@@ -42,7 +42,7 @@ impl<'b> Settled<'b> {
         Ok(Settled::Made(result_types(alloc, op.kind, types, operands)?))
     }
 
-    /// The type in a place, where one is settled there.
+    /// The type in a position, where one is settled there.
     pub(crate) fn at(&self, k: usize) -> Option<&Ty>
         ensures { option_map (λ t. type_of t.now) result ≡ slice_index_or (types_settled self.now) k None }
     {
@@ -63,7 +63,7 @@ fn own_type(results: &[NewResult], k: usize) -> Option<&Ty>
     }
 }
 
-/// The type in a place, where one is settled there.
+/// The type in a position, where one is settled there.
 fn inferred_type_at(types: &[Option<Ty>], k: usize) -> Option<&Ty>
     ensures { option_map (λ t. type_of t.now) result ≡ slice_index_or (map (option_map type_of) types.now) k None }
 {

@@ -1,7 +1,7 @@
 //! The verdict on a design.
 ghost use Rattle.std.specs.Prelude.{◌≡◌, ◌<◌, length, Contains, IfOk, IfErr};
 ghost use Rattle.ir_store.specs.Designs.{design_of, modules_of};
-ghost use Rattle.design_cycles.specs.Places.{ids_at};
+ghost use Rattle.design_cycles.specs.Positions.{ids_at};
 ghost use Rattle.stored_form.specs.Canonical.{IsCanonical};
 ghost use Rattle.op_verifier.specs.Verdict.{IsVerdict};
 ghost use Rattle.op_verifier.specs.Answered.{modules_verified, Explains, IsRefusedModule, IsRefusedOp};
@@ -9,7 +9,7 @@ ghost use Rattle.op_verifier.specs.Answered.{modules_verified, Explains, IsRefus
 use crate::accepted::Verified;
 use crate::faults::{first_fault, refused_at};
 use crate::verify_fail::VerifyFail;
-use design_cycles::{Hierarchy, OpPlace, first_cycle, first_recursive, first_too_large};
+use design_cycles::{Hierarchy, OpSite, first_cycle, first_recursive, first_too_large};
 use diag::cause::Cause;
 use diag::refusal::Refusal;
 use ir_store::design::Design;
@@ -38,14 +38,14 @@ fn verdict(alloc: Global, design: &Design) -> Result<Option<Refusal>, AllocError
         return Ok(Some(refusal));
     }
     let hierarchy = Hierarchy::of(alloc, design)?;
-    if let Some(place) = first_recursive(alloc, design, &hierarchy)? {
-        return Ok(Some(refused_op(design, place, Cause::RecursiveInstance)));
+    if let Some(position) = first_recursive(alloc, design, &hierarchy)? {
+        return Ok(Some(refused_op(design, position, Cause::RecursiveInstance)));
     }
     if let Some(number) = first_too_large(alloc, design, &hierarchy)? {
         return Ok(Some(refused_module(design, number, Cause::TooLarge)));
     }
-    if let Some(place) = first_cycle(alloc, design, &hierarchy)? {
-        return Ok(Some(refused_op(design, place, Cause::CombinationalCycle)));
+    if let Some(position) = first_cycle(alloc, design, &hierarchy)? {
+        return Ok(Some(refused_op(design, position, Cause::CombinationalCycle)));
     }
     Ok(None)
 }
@@ -59,7 +59,7 @@ fn refused_module(design: &Design, number: u32, cause: Cause) -> Refusal
 }
 
 /// The refusal of an operation.
-fn refused_op(design: &Design, at: OpPlace, cause: Cause) -> Refusal
+fn refused_op(design: &Design, at: OpSite, cause: Cause) -> Refusal
     requires within { at.module < length (modules_of design.now) }
     requires live { Contains (ids_at (modules_of design.now) at.module) at.op.index }
     ensures { IsRefusedOp (modules_of design.now) at cause result }

@@ -19,7 +19,7 @@ first_named-name name (listed ∷ others) = go (pointwise nat_eq (name_of_listed
     go true e later = (bytes_decides (name_of_listed listed) name).0 e
     go false e later = later
 
--- the operation at a place of a list
+-- the operation at a position of a list
 abbrev pub operation_at : ℕ → List Listed → Option Listed
 operation_at k [] = None
 operation_at zero (listed ∷ others) = Some listed
@@ -47,49 +47,49 @@ first_named-none name (listed ∷ others) (suc k) other none here =
     go false later found = later found
 
 -- each operation is among them
-pub listed_place : (listed : Listed) → (k : ℕ) × (operation_at k listed_operations ≡ Some listed)
-listed_place HwModule = (0, refl)
-listed_place CombAdd = (1, refl)
-listed_place CombMul = (2, refl)
-listed_place CombAnd = (3, refl)
-listed_place CombOr = (4, refl)
-listed_place CombXor = (5, refl)
-listed_place CombSub = (6, refl)
-listed_place CombDivu = (7, refl)
-listed_place CombModu = (8, refl)
-listed_place CombDivs = (9, refl)
-listed_place CombMods = (10, refl)
-listed_place CombShl = (11, refl)
-listed_place CombShru = (12, refl)
-listed_place CombShrs = (13, refl)
-listed_place CombIcmp = (14, refl)
-listed_place CombParity = (15, refl)
-listed_place CombExtract = (16, refl)
-listed_place CombConcat = (17, refl)
-listed_place CombReplicate = (18, refl)
-listed_place CombMux = (19, refl)
-listed_place HwConstant = (20, refl)
-listed_place HwAggregateConstant = (21, refl)
-listed_place HwArrayCreate = (22, refl)
-listed_place HwArrayConcat = (23, refl)
-listed_place HwArrayGet = (24, refl)
-listed_place HwArraySlice = (25, refl)
-listed_place HwArrayInject = (26, refl)
-listed_place HwStructCreate = (27, refl)
-listed_place HwStructExtract = (28, refl)
-listed_place HwStructInject = (29, refl)
-listed_place HwStructExplode = (30, refl)
-listed_place HwBitcast = (31, refl)
-listed_place HwWire = (32, refl)
-listed_place HwInstance = (33, refl)
-listed_place HwOutput = (34, refl)
-listed_place SeqCompreg = (35, refl)
-listed_place SeqCompregCe = (36, refl)
-listed_place SeqFirreg = (37, refl)
+pub listed_position : (listed : Listed) → (k : ℕ) × (operation_at k listed_operations ≡ Some listed)
+listed_position HwModule = (0, refl)
+listed_position CombAdd = (1, refl)
+listed_position CombMul = (2, refl)
+listed_position CombAnd = (3, refl)
+listed_position CombOr = (4, refl)
+listed_position CombXor = (5, refl)
+listed_position CombSub = (6, refl)
+listed_position CombDivu = (7, refl)
+listed_position CombModu = (8, refl)
+listed_position CombDivs = (9, refl)
+listed_position CombMods = (10, refl)
+listed_position CombShl = (11, refl)
+listed_position CombShru = (12, refl)
+listed_position CombShrs = (13, refl)
+listed_position CombIcmp = (14, refl)
+listed_position CombParity = (15, refl)
+listed_position CombExtract = (16, refl)
+listed_position CombConcat = (17, refl)
+listed_position CombReplicate = (18, refl)
+listed_position CombMux = (19, refl)
+listed_position HwConstant = (20, refl)
+listed_position HwAggregateConstant = (21, refl)
+listed_position HwArrayCreate = (22, refl)
+listed_position HwArrayConcat = (23, refl)
+listed_position HwArrayGet = (24, refl)
+listed_position HwArraySlice = (25, refl)
+listed_position HwArrayInject = (26, refl)
+listed_position HwStructCreate = (27, refl)
+listed_position HwStructExtract = (28, refl)
+listed_position HwStructInject = (29, refl)
+listed_position HwStructExplode = (30, refl)
+listed_position HwBitcast = (31, refl)
+listed_position HwWire = (32, refl)
+listed_position HwInstance = (33, refl)
+listed_position HwOutput = (34, refl)
+listed_position SeqCompreg = (35, refl)
+listed_position SeqCompregCe = (36, refl)
+listed_position SeqFirreg = (37, refl)
 
 pub none_listed : (name : List ℕ) (found : Option Listed) → found ≡ first_named name listed_operations
     → IfNone found ((listed : Listed) → name_of_listed listed ≢ name)
-none_listed name None e = λ listed. first_named-none name listed_operations (listed_place listed).0 listed (sym e) (listed_place listed).1
+none_listed name None e = λ listed. first_named-none name listed_operations (listed_position listed).0 listed (sym e) (listed_position listed).1
 none_listed name (Some found) e = tt
 
 pub some_listed : (name : List ℕ) (found : Option Listed) → found ≡ first_named name listed_operations

@@ -102,7 +102,7 @@ fn elements_with(
     Ok(part)
 }
 
-// element `at`, or the value in its place where it is element `index`
+// element `at`, or the value in its position where it is element `index`
 fn element_or(
     alloc: Global,
     ty: &Ty,

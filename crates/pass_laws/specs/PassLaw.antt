@@ -41,7 +41,7 @@ InstancesStay true d before after = (public : List Name) × AreThose (IsPublic d
 
 -- ---- designs
 
--- a module m of d that remains as n in e: its mark and its place stay, its ports and its registers are those that passes
+-- a module m of d that remains as n in e: its mark and its position stay, its ports and its registers are those that passes
 -- leave, its instances stand in order, and it is no heavier
 pub record IsModuleAfter (passes : List Pass) (d e : Design) (s : Name) (m n : Module) : Type 0 where
   pub mark : n.is_private ≡ m.is_private

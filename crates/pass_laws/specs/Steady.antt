@@ -16,11 +16,11 @@ abbrev pub instance_held : (Name → List (Option HwType)) → Option Instance �
 instance_held inner None = []
 instance_held inner (Some i) = inner i.symbol
 
--- of an operation's content
+-- the types of the content of an operation: of a register its own, of an instance those of its module's registers
 abbrev pub op_held : (Name → List (Option HwType)) → Op → List (Option HwType)
 op_held inner o = cond (is_register o) (result_type o 0 ∷ []) (instance_held inner (instance_in o.kind))
 
--- of a body's content, in order
+-- the types of the content of a body, in text order
 abbrev pub body_held : (Name → List (Option HwType)) → List Op → List (Option HwType)
 body_held inner [] = []
 body_held inner (o ∷ os) = op_held inner o ++ body_held inner os
@@ -32,14 +32,14 @@ pub record SameShape (os os' : List Op) : Type 0 where
 
 -- ---- headers
 
--- a module with the same symbol, private mark, place and ports
+-- a module with the same symbol, private mark, position and ports
 pub record SameHeader (m n : Module) : Type 0 where
   pub symbol : n.symbol ≡ m.symbol
   pub mark : n.is_private ≡ m.is_private
   pub location : n.location ≡ m.location
   pub ports : n.ports ≡ m.ports
 
--- so one by one
+-- the modules of two designs have the same headers, one by one
 abbrev pub SameHeaders : Design → Design → Type 0
 SameHeaders [] [] = ⊤
 SameHeaders (m ∷ d) (n ∷ e) = SameHeader m n × SameHeaders d e

@@ -41,7 +41,7 @@ pub fn steady_designs_compose()
 /// Does nothing. Its clauses say that a body keeps its shape where an operation that is no register, no instance and no
 /// output is changed in place, taken out or put in, and where a register is changed to one of the same type.
 pub fn edits_keep_shape()
-    ensures place { (os : List Op) (i : ℕ) (o new : Op) → slice_get os i ≡ Some o → is_anchor o ≡ false → is_anchor new ≡ false → SameShape os (set os i new) }
+    ensures position { (os : List Op) (i : ℕ) (o new : Op) → slice_get os i ≡ Some o → is_anchor o ≡ false → is_anchor new ≡ false → SameShape os (set os i new) }
     ensures erased { (os : List Op) (i : ℕ) (o : Op) (x : Ref) → slice_get os i ≡ Some o → is_anchor o ≡ false → SameShape os (erase_op i x os) }
     ensures inserted { (os : List Op) (i : ℕ) (o : Op) → is_anchor o ≡ false → SameShape os (insert_op i o os) }
     ensures register { (o new : Op) → is_register o ≡ true → is_register new ≡ true → result_type new 0 ≡ result_type o 0 → (os : List Op) (i : ℕ)

@@ -16,11 +16,11 @@ use Rattle.ir_store.specs.declared.design.Design.{Design as CodeDesign}
 use Rattle.ir_store.specs.Bodies.{ops_of}
 use Rattle.ir_store.specs.Orders.{live_ids}
 use Rattle.ir_store.specs.Numbered.{ops_by_position}
-use Rattle.ir_store.specs.Symbols.{symbol_place}
+use Rattle.ir_store.specs.Symbols.{symbol_position}
 use Rattle.ir_store.specs.Designs.{numbered_module, module_of, modules_of, design_of}
 use Rattle.ir_store.proofs.Ordering.{length-walk}
 use Rattle.design_cycles.specs.Calls.{symbols_in, numbers_of, call_lists}
-use Rattle.design_cycles.proofs.Callees.{from_In-numbers, place_found, acyclic_numbers}
+use Rattle.design_cycles.proofs.Callees.{from_In-numbers, position_found, acyclic_numbers}
 use Rattle.op_verifier.proofs.Distinct.{distinct_symbols}
 use Rattle.acceptance_laws.specs.Keeps.{IsFit}
 
@@ -36,7 +36,7 @@ symbols_few (o ∷ os) = go (instance_in o.kind) (symbols_few os)
 
 numbers_few : (symbols ss : List Name) → length (numbers_of symbols ss) ≤ length ss
 numbers_few symbols [] = omega arith
-numbers_few symbols (s ∷ ss) = go (symbol_place s symbols) (numbers_few symbols ss)
+numbers_few symbols (s ∷ ss) = go (symbol_position s symbols) (numbers_few symbols ss)
   where
     go : (x : Option ℕ) → length (numbers_of symbols ss) ≤ length ss → length (option_to_list x ++ numbers_of symbols ss) ≤ suc (length ss)
     go None rest = omega (arith, rest)
@@ -64,7 +64,7 @@ list_few symbols (m ∷ ms) (suc i) = list_few symbols ms i
 
 -- ---- the lists
 
-in_past : (symbols : List Name) (d : Design) (i k : ℕ) → In k (edges (map (λ (m : Module). numbers_of symbols (callee_symbols m.body)) d) i) → (s : Name) × (symbol_place s symbols ≡ Some k)
+in_past : (symbols : List Name) (d : Design) (i k : ℕ) → In k (edges (map (λ (m : Module). numbers_of symbols (callee_symbols m.body)) d) i) → (s : Name) × (symbol_position s symbols ≡ Some k)
 in_past symbols [] i k here = absurd here
 in_past symbols (m ∷ d) zero k here = let from = from_In-numbers symbols k (callee_symbols m.body) here in (from.0, from.2)
 in_past symbols (m ∷ d) (suc i) k here = in_past symbols d i k here
@@ -77,7 +77,7 @@ fit_callees d lists fit same = subst AreCallees (sym same) (record {
   acyclic = acyclic_numbers (design_of d) (distinct_symbols (design_of d) fit.unrefused) fit.valid.finite;
   within = λ m k here.
       let from = in_past (symbols_in (design_of d)) (design_of d) m k here in
-      let there = place_found (design_of d) from.0 k from.1 in
+      let there = position_found (design_of d) from.0 k from.1 in
       let inside : k < length (design_of d) = slice_get_within (design_of d) k there.0 there.1 in
       omega (arith, inside, lists_length (design_of d));
   modules =

@@ -17,7 +17,7 @@ pub record IsModuleBy (Makes : List Op → List Op → Type 0) (m n : Module) : 
   pub kept : n ≡ record m { body = n.body }
   pub made : Makes m.body n.body
 
--- so are the modules of a design, one by one
+-- each module of the second design is the one of the first at its position, with what is made of its body
 abbrev pub AreModulesBy : (List Op → List Op → Type 0) → Design → Design → Type 0
 AreModulesBy Makes [] [] = ⊤
 AreModulesBy Makes (m ∷ d) (n ∷ e) = IsModuleBy Makes m n × AreModulesBy Makes d e

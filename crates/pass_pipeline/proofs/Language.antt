@@ -252,13 +252,13 @@ module _ (offered : List Pass) where
   unfolding root
   root_forth at s ss out h = go (same_bytes s (codes "builtin.module")) refl h
     where
-      no_place : (x : Option Pass) → After ss out (misplaced at x) → ⊥
-      no_place (Some p) never = never
-      no_place None never = never
+      no_position : (x : Option Pass) → After ss out (misplaced at x) → ⊥
+      no_position (Some p) never = never
+      no_position None never = never
 
       no_name : (b : Bool) → After ss out (cond (not b) (Err (BadText at)) (misplaced at (pass_named offered s))) → ⊥
       no_name false never = never
-      no_name true g = no_place (pass_named offered s) g
+      no_name true g = no_position (pass_named offered s) g
 
       go : (b : Bool) → same_bytes s (codes "builtin.module") ≡ b
           → After ss out (cond b (mark (expected.Opening BuiltinModule)) (cond (not (is_name s)) (Err (BadText at)) (misplaced at (pass_named offered s))))

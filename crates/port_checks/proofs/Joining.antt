@@ -8,17 +8,17 @@ use Rattle.hw_model.specs.Design.{Ref, Port, Op, Module, Design, find_module, in
 use Rattle.hw_model.specs.Design.Ref.{port, result, undefined}
 use Rattle.hw_model.specs.Flat.{ResetBy, async_reset_in, port_ref}
 use Rattle.hw_model.specs.Sound.{ports_of}
-use Rattle.ir_store.specs.Symbols.{symbol_place}
+use Rattle.ir_store.specs.Symbols.{symbol_position}
 use Rattle.diag.specs.declared.cause.Cause.{Cause}
-use Rattle.port_checks.specs.declared.named.PortPlace.{PortPlace}
+use Rattle.port_checks.specs.declared.named.PortPosition.{PortPosition}
 use Rattle.port_checks.specs.InstanceChecks.{instance_cause}
 use Rattle.port_checks.specs.ResetPorts.{IsBitInput, is_bit_input}
 use Rattle.port_checks.specs.Pairs.{Pair, pair_of}
 use Rattle.port_checks.specs.Numbers.{port_number}
-use Rattle.port_checks.specs.Joins.{bit_port, named_port, place_at, place_of, named_in, operand_pairs, found_pairs, called_pairs, instance_pairs, pairs_in, made_from}
+use Rattle.port_checks.specs.Joins.{bit_port, named_port, position_at, position_of, named_in, operand_pairs, found_pairs, called_pairs, instance_pairs, pairs_in, made_from}
 use Rattle.port_checks.proofs.Pairs.{pair_some, some_pair}
 use Rattle.port_checks.proofs.ResetTests.{Names, Joins, bit_input_some, some_bit_input, port_ref_within}
-use Rattle.port_checks.proofs.Symbols.{module_place}
+use Rattle.port_checks.proofs.Symbols.{module_position}
 use Rattle.port_checks.proofs.Making.{made_some, some_made}
 
 -- ---- a port that a value is
@@ -49,18 +49,18 @@ pub record IsNamed (d : Design) (i j : ℕ) : Type 0 where
   pub names : Names j op
   pub is_bit : IsBitInput owner j
 
-in_place : (i : ℕ) (x : Option ℕ) (p : PortPlace) → In p (place_of i x) → (x ≡ Some p.port) × (p.owner ≡ i)
+in_place : (i : ℕ) (x : Option ℕ) (p : PortPosition) → In p (position_of i x) → (x ≡ Some p.port) × (p.owner ≡ i)
 in_place i None p here = absurd here
-in_place i (Some j) p (inl same) = (ap (λ (q : PortPlace). Some q.port) (sym same), ap (λ (q : PortPlace). q.owner) same)
+in_place i (Some j) p (inl same) = (ap (λ (q : PortPosition). Some q.port) (sym same), ap (λ (q : PortPosition). q.owner) same)
 in_place i (Some j) p (inr never) = absurd never
 
-pub named_some : (d : Design) (p : PortPlace) → In p (made_from named_in 0 d) → IsNamed d p.owner p.port
+pub named_some : (d : Design) (p : PortPosition) → In p (made_from named_in 0 d) → IsNamed d p.owner p.port
 named_some d p here =
     let found = made_some named_in 0 d p here in
-    let op = from_In-flat_map (λ (o : Op). place_of (0 + found.0) (named_port found.1.ports o)) p found.1.body found.3 in
-    let place = in_place (0 + found.0) (named_port found.1.ports op.0) p op.2 in
-    let bit = bit_port_some found.1 (option_map (λ (r : ResetBy). r.signal) (async_reset_in op.0)) p.port place.0 in
-    let number : p.owner ≡ found.0 = place.1 ∙ (let e : 0 + found.0 ≡ found.0 = omega arith in e) in
+    let op = from_In-flat_map (λ (o : Op). position_of (0 + found.0) (named_port found.1.ports o)) p found.1.body found.3 in
+    let position = in_place (0 + found.0) (named_port found.1.ports op.0) p op.2 in
+    let bit = bit_port_some found.1 (option_map (λ (r : ResetBy). r.signal) (async_reset_in op.0)) p.port position.0 in
+    let number : p.owner ≡ found.0 = position.1 ∙ (let e : 0 + found.0 ≡ found.0 = omega arith in e) in
     record {
       owner = found.1;
       op = op.0;
@@ -70,11 +70,11 @@ named_some d p here =
       is_bit = bit.1;
     }
 
-pub some_named : (d : Design) (i j : ℕ) → IsNamed d i j → In (place_at i j) (made_from named_in 0 d)
+pub some_named : (d : Design) (i j : ℕ) → IsNamed d i j → In (position_at i j) (made_from named_in 0 d)
 some_named d i j is =
-    some_made named_in 0 d (place_at i j) i i is.owner (let e : i ≡ 0 + i = omega arith in e) is.there
-    (In-flat_map (λ (o : Op). place_of i (named_port is.owner.ports o)) is.op is.owner.body (place_at i j) is.member
-    (subst (λ x. In (place_at i j) (place_of i x)) (sym port_is) (inl refl)))
+    some_made named_in 0 d (position_at i j) i i is.owner (let e : i ≡ 0 + i = omega arith in e) is.there
+    (In-flat_map (λ (o : Op). position_of i (named_port is.owner.ports o)) is.op is.owner.body (position_at i j) is.member
+    (subst (λ x. In (position_at i j) (position_of i x)) (sym port_is) (inl refl)))
   where
     port_is : named_port is.owner.ports is.op ≡ Some j
     port_is =
@@ -92,7 +92,7 @@ pub record IsJoined (d : Design) (i j c k : ℕ) : Type 0 where
   pub there : slice_get d i ≡ Some owner
   pub member : In op owner.body
   pub is_instance : instance_in op.kind ≡ Some named
-  pub place : symbol_place named.symbol (map (λ (m : Module). m.symbol) d) ≡ Some c
+  pub position : symbol_position named.symbol (map (λ (m : Module). m.symbol) d) ≡ Some c
   pub called_there : slice_get d c ≡ Some called
   pub allowed : instance_cause d op.types (instance_in op.kind) ≡ None
   pub is_port : port_ref called.ports op.operands k ≡ Some (port j)
@@ -101,7 +101,7 @@ pub record IsJoined (d : Design) (i j c k : ℕ) : Type 0 where
 pub joins_by : (d : Design) (i j c k : ℕ) (is : IsJoined d i j c k) → Joins d j is.op is.called k
 joins_by d i j c k is = (
   ap (λ x. option_and_then (λ (y : Instance). find_module d y.symbol) x) is.is_instance
-      ∙ sym (module_place is.named.symbol d) ∙ ap (λ x. option_and_then (slice_get d) x) is.place ∙ is.called_there,
+      ∙ sym (module_position is.named.symbol d) ∙ ap (λ x. option_and_then (slice_get d) x) is.position ∙ is.called_there,
   is.allowed,
   is.is_port,
 )
@@ -155,10 +155,10 @@ module _ (d : Design) (starts : List ℕ) where
   instance_some : (i : ℕ) (m : Module) (o : Op) (p : Pair) → slice_get d i ≡ Some m → In o m.body → In p (instance_pairs d starts i m.ports o) → IsPairOf d starts p
   instance_some i m o p there member here = by_cause (instance_cause d o.types (instance_in o.kind)) refl here
     where
-      by_place : (x : Instance) → instance_in o.kind ≡ Some x → instance_cause d o.types (instance_in o.kind) ≡ None
-          → (c : Option ℕ) → symbol_place x.symbol (map (λ (y : Module). y.symbol) d) ≡ c → In p (found_pairs d starts i m.ports o.operands c) → IsPairOf d starts p
-      by_place x is allowed None place inside = absurd inside
-      by_place x is allowed (Some c) place inside = by_module (slice_get d c) refl inside
+      by_position : (x : Instance) → instance_in o.kind ≡ Some x → instance_cause d o.types (instance_in o.kind) ≡ None
+          → (c : Option ℕ) → symbol_position x.symbol (map (λ (y : Module). y.symbol) d) ≡ c → In p (found_pairs d starts i m.ports o.operands c) → IsPairOf d starts p
+      by_position x is allowed None position inside = absurd inside
+      by_position x is allowed (Some c) position inside = by_module (slice_get d c) refl inside
         where
           by_module : (y : Option Module) → slice_get d c ≡ y
               → In p (operand_pairs starts c (ports_of y) i m.ports o.operands (length (ports_of y))) → IsPairOf d starts p
@@ -179,7 +179,7 @@ module _ (d : Design) (starts : List ℕ) where
                   there = there;
                   member = member;
                   is_instance = is;
-                  place = place;
+                  position = position;
                   called_there = at;
                   allowed = allowed;
                   is_port = bit.0;
@@ -192,7 +192,7 @@ module _ (d : Design) (starts : List ℕ) where
       by_kind : (x : Option Instance) → instance_in o.kind ≡ x → instance_cause d o.types (instance_in o.kind) ≡ None
           → In p (called_pairs d starts i m.ports o.operands x) → IsPairOf d starts p
       by_kind None is allowed inside = absurd inside
-      by_kind (Some x) is allowed inside = by_place x is allowed (symbol_place x.symbol (map (λ (y : Module). y.symbol) d)) refl inside
+      by_kind (Some x) is allowed inside = by_position x is allowed (symbol_position x.symbol (map (λ (y : Module). y.symbol) d)) refl inside
 
       by_cause : (x : Option Cause) → instance_cause d o.types (instance_in o.kind) ≡ x
           → In p (cond (is_some x) [] (called_pairs d starts i m.ports o.operands (instance_in o.kind))) → IsPairOf d starts p
@@ -204,7 +204,7 @@ module _ (d : Design) (starts : List ℕ) where
   some_instance i j c k is p to_is port_is =
       subst (λ x. In p (cond (is_some x) [] (called_pairs d starts i is.owner.ports is.op.operands (instance_in is.op.kind)))) (sym is.allowed)
       (subst (λ x. In p (called_pairs d starts i is.owner.ports is.op.operands x)) (sym is.is_instance)
-      (subst (λ x. In p (found_pairs d starts i is.owner.ports is.op.operands x)) (sym is.place) inside))
+      (subst (λ x. In p (found_pairs d starts i is.owner.ports is.op.operands x)) (sym is.position) inside))
     where
       bit : bit_port is.owner.ports (port_ref is.called.ports is.op.operands k) ≡ Some j
       bit = some_bit_port is.owner (port_ref is.called.ports is.op.operands k) j is.is_port is.is_bit

@@ -8,7 +8,7 @@ use Rattle.wiring.proofs.Options.{and_then_some}
 use Rattle.hw_model.specs.Design.{Module, Design}
 use Rattle.port_checks.specs.ResetPorts.{port_count}
 use Rattle.port_checks.specs.Numbers.{AreStarts, port_number, numbers_of}
-use Rattle.port_checks.specs.declared.named.PortPlace.{PortPlace}
+use Rattle.port_checks.specs.declared.named.PortPosition.{PortPosition}
 
 -- ---- how many ports stand before a module
 
@@ -32,7 +32,7 @@ count_within (x ∷ d) (suc i) m j is below =
     let rest : port_count (take i d) + j < port_count d = count_within d i m j is below in
     omega arith
 
--- two ports at one place are the same
+-- two ports at one position are the same
 pub count_once : (d : Design) (i k : ℕ) (m n : Module) (j l : ℕ) → slice_get d i ≡ Some m → slice_get d k ≡ Some n → j < length m.ports → l < length n.ports
     → port_count (take i d) + j ≡ port_count (take k d) + l → (i ≡ k) × (j ≡ l)
 count_once [] i k m n j l is at below within same = cc
@@ -131,7 +131,7 @@ module _ (d : Design) (starts : List ℕ) (are : AreStarts d starts) where
       let second = some_number k l v at in
       count_once d i k first.0 second.0 j l first.1 second.1 first.2 second.2 (sym first.3 ∙ second.3)
 
-numbers_next : (starts : List ℕ) (ps : List PortPlace) (n : ℕ) (p : PortPlace) → n < length ps
+numbers_next : (starts : List ℕ) (ps : List PortPosition) (n : ℕ) (p : PortPosition) → n < length ps
     → numbers_of starts (take (suc n) ps) ≡ numbers_of starts (take n ps) ++ option_to_list (port_number starts (get_or ps n p).owner (get_or ps n p).port)
 numbers_next starts [] n p below = absurd (omega arith)
 numbers_next starts (q ∷ ps) zero p below = append-nil (option_to_list (port_number starts q.owner q.port))
@@ -139,8 +139,8 @@ numbers_next starts (q ∷ ps) (suc n) p below =
     ap (λ ns. option_to_list (port_number starts q.owner q.port) ++ ns) (numbers_next starts ps n p (omega arith))
     ∙ sym (append_assoc (option_to_list (port_number starts q.owner q.port)) (numbers_of starts (take n ps)) (option_to_list (port_number starts (get_or ps n p).owner (get_or ps n p).port)))
 
--- the numbers of one place more
-pub numbers_more : (starts : List ℕ) (ps : List PortPlace) (n : ℕ) (p : PortPlace) → n < length ps
+-- the numbers of one position more
+pub numbers_more : (starts : List ℕ) (ps : List PortPosition) (n : ℕ) (p : PortPosition) → n < length ps
     → numbers_of starts (take (n + 1) ps) ≡ numbers_of starts (take n ps) ++ option_to_list (port_number starts (get_or ps n p).owner (get_or ps n p).port)
 numbers_more starts ps n p below =
     let next : n + 1 ≡ suc n = omega arith in

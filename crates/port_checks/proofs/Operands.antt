@@ -8,7 +8,7 @@ use Rattle.hw_model.specs.Flat.{port_ref, input_count}
 use Rattle.hw_model.specs.Sound.{ports_of}
 use Rattle.ir_store.specs.declared.design.Port.{Port}
 use Rattle.ir_store.specs.Designs.{StoredModule, port_of, numbered_module}
-use Rattle.ir_store.specs.Symbols.{symbol_place}
+use Rattle.ir_store.specs.Symbols.{symbol_position}
 use Rattle.ir_store.proofs.DesignLemmas.{read_get}
 use Rattle.port_checks.specs.Pairs.{pair_of, AddsPairs}
 use Rattle.port_checks.specs.Numbers.{port_number}
@@ -73,19 +73,19 @@ symbols_same [] = refl
 symbols_same (m ∷ ms) = ap (λ ss. m.symbol ∷ ss) (symbols_same ms)
 
 module _ (ms : List StoredModule) (starts : List ℕ) (caller : ℕ) (outer : List hw.Port) (operands : List Ref) (symbol name : Name) (found : Option ℕ)
-    (place : found ≡ symbol_place name (map (λ (m : StoredModule). m.symbol) ms)) (same : name ≡ symbol) where
-  by_place : call_pairs (map numbered_module ms) starts caller outer operands symbol ≡ found_pairs (map numbered_module ms) starts caller outer operands found
-  by_place =
+    (position : found ≡ symbol_position name (map (λ (m : StoredModule). m.symbol) ms)) (same : name ≡ symbol) where
+  by_position : call_pairs (map numbered_module ms) starts caller outer operands symbol ≡ found_pairs (map numbered_module ms) starts caller outer operands found
+  by_position =
       ap (found_pairs (map numbered_module ms) starts caller outer operands)
-      (ap (symbol_place symbol) (symbols_same ms) ∙ ap (λ s. symbol_place s (map (λ (m : StoredModule). m.symbol) ms)) (sym same) ∙ sym place)
+      (ap (symbol_position symbol) (symbols_same ms) ∙ ap (λ s. symbol_position s (map (λ (m : StoredModule). m.symbol) ms)) (sym same) ∙ sym position)
 
   pub call_none : found ≡ None → call_pairs (map numbered_module ms) starts caller outer operands symbol ≡ []
-  call_none is = by_place ∙ ap (found_pairs (map numbered_module ms) starts caller outer operands) is
+  call_none is = by_position ∙ ap (found_pairs (map numbered_module ms) starts caller outer operands) is
 
   pub call_some : (number : ℕ) (m : StoredModule) (ports : List Port) → found ≡ Some number → Some m ≡ slice_get ms number → m.ports ≡ map port_of ports
       → call_pairs (map numbered_module ms) starts caller outer operands symbol ≡ operand_pairs starts number (map port_of ports) caller outer operands (length ports)
   call_some number m ports is there are =
-      by_place ∙ ap (found_pairs (map numbered_module ms) starts caller outer operands) is
+      by_position ∙ ap (found_pairs (map numbered_module ms) starts caller outer operands) is
       ∙ ap (λ x. operand_pairs starts number (ports_of x) caller outer operands (length (ports_of x))) (stored_at ms number m there)
       ∙ ap (λ qs. operand_pairs starts number qs caller outer operands (length qs)) are
       ∙ ap (operand_pairs starts number (map port_of ports) caller outer operands) (length-map ports port_of)

@@ -7,25 +7,25 @@ use Rattle.wiring.proofs.Options.{and_then_some}
 use Rattle.wiring.proofs.Chains.{Chain-append}
 use Rattle.hw_model.specs.Kinds.{Instance}
 use Rattle.hw_model.specs.Design.{Module, Design, find_module, instance_in}
-use Rattle.port_checks.specs.declared.named.PortPlace.{PortPlace}
+use Rattle.port_checks.specs.declared.named.PortPosition.{PortPosition}
 use Rattle.port_checks.specs.ResetPorts.{IsResetPort, port_count, is_reset_port}
 use Rattle.port_checks.specs.ResetPorts.IsResetPort.{named, joined}
 use Rattle.graphs.specs.Graphs.{edges, has_mark, AreReached}
 use Rattle.port_checks.specs.Pairs.{pair, AddsPairs}
 use Rattle.port_checks.specs.Numbers.{AreStarts, port_number, numbers_of}
-use Rattle.port_checks.specs.Joins.{place_at, named_in, pairs_in, made_from}
+use Rattle.port_checks.specs.Joins.{position_at, named_in, pairs_in, made_from}
 use Rattle.port_checks.specs.Marked.{has_mark_at, is_reset_of}
 use Rattle.port_checks.proofs.Booleans.{same_tests}
 use Rattle.port_checks.proofs.ResetTests.{bit_input_within}
 use Rattle.port_checks.proofs.Least.{is_sound, is_complete, reset_some}
-use Rattle.port_checks.proofs.Symbols.{found_place}
+use Rattle.port_checks.proofs.Symbols.{found_position}
 use Rattle.port_checks.proofs.Numbering.{number_some, some_number, number_once, count_within}
 use Rattle.port_checks.proofs.Pairs.{no_edges}
 use Rattle.port_checks.proofs.Joining.{IsNamed, IsJoined, joins_by, named_some, some_named, pairs_some, some_pairs}
 
--- ---- numbers of places
+-- ---- numbers of positions
 
-numbers_some : (starts : List ℕ) (ps : List PortPlace) (v : ℕ) → In v (numbers_of starts ps) → (p : PortPlace) × In p ps × (port_number starts p.owner p.port ≡ Some v)
+numbers_some : (starts : List ℕ) (ps : List PortPosition) (v : ℕ) → In v (numbers_of starts ps) → (p : PortPosition) × In p ps × (port_number starts p.owner p.port ≡ Some v)
 numbers_some starts [] v here = absurd here
 numbers_some starts (q ∷ ps) v here = go (In-append_cases v (option_to_list (port_number starts q.owner q.port)) (numbers_of starts ps) here) (numbers_some starts ps v)
   where
@@ -35,15 +35,15 @@ numbers_some starts (q ∷ ps) v here = go (In-append_cases v (option_to_list (p
     first (Some w) (inr never) = absurd never
 
     go : In v (option_to_list (port_number starts q.owner q.port)) ⊎ In v (numbers_of starts ps)
-        → (In v (numbers_of starts ps) → (p : PortPlace) × In p ps × (port_number starts p.owner p.port ≡ Some v))
-        → (p : PortPlace) × In p (q ∷ ps) × (port_number starts p.owner p.port ≡ Some v)
+        → (In v (numbers_of starts ps) → (p : PortPosition) × In p ps × (port_number starts p.owner p.port ≡ Some v))
+        → (p : PortPosition) × In p (q ∷ ps) × (port_number starts p.owner p.port ≡ Some v)
     go (inl is) rest = (q, inl refl, first (port_number starts q.owner q.port) is)
     go (inr later) rest = let found = rest later in (found.0, inr found.1, found.2)
 
-some_numbers : (starts : List ℕ) (ps : List PortPlace) (p : PortPlace) (v : ℕ) → In p ps → port_number starts p.owner p.port ≡ Some v → In v (numbers_of starts ps)
+some_numbers : (starts : List ℕ) (ps : List PortPosition) (p : PortPosition) (v : ℕ) → In p ps → port_number starts p.owner p.port ≡ Some v → In v (numbers_of starts ps)
 some_numbers starts [] p v here is = absurd here
 some_numbers starts (q ∷ ps) p v (inl same) is =
-    let first : port_number starts q.owner q.port ≡ Some v = ap (λ (x : PortPlace). port_number starts x.owner x.port) (sym same) ∙ is in
+    let first : port_number starts q.owner q.port ≡ Some v = ap (λ (x : PortPosition). port_number starts x.owner x.port) (sym same) ∙ is in
     In-append_left v (option_to_list (port_number starts q.owner q.port)) (numbers_of starts ps) (subst (λ x. In v (option_to_list x)) (sym first) (inl refl))
 some_numbers starts (q ∷ ps) p v (inr here) is =
     In-append_right v (option_to_list (port_number starts q.owner q.port)) (numbers_of starts ps) (some_numbers starts ps p v here is)
@@ -67,9 +67,9 @@ module _ (d : Design) (starts : List ℕ) (are : AreStarts d starts) (fresh list
 
   start_reset : (v : ℕ) → In v numbers → IsResetNumber v
   start_reset v here =
-      let place = numbers_some starts (made_from named_in 0 d) v (subst (In v) from here) in
-      let is = named_some d place.0 place.1 in
-      by_number v place.0.owner place.0.port is.owner place.2 is.there (named is.owner place.0.port is.op is.names.0 is.is_bit is.member is.names.1 is.names.2)
+      let position = numbers_some starts (made_from named_in 0 d) v (subst (In v) from here) in
+      let is = named_some d position.0 position.1 in
+      by_number v position.0.owner position.0.port is.owner position.2 is.there (named is.owner position.0.port is.op is.names.0 is.is_bit is.member is.names.1 is.names.2)
 
   edge_reset : (v w : ℕ) → In w (edges lists v) → IsResetNumber v → IsResetNumber w
   edge_reset v w need reset = go (adds.from v w need)
@@ -112,7 +112,7 @@ module _ (d : Design) (starts : List ℕ) (are : AreStarts d starts) (fresh list
 
   named_marked : (i j : ℕ) → IsNamed d i j → (v : ℕ) → port_number starts i j ≡ Some v → has_mark marks v ≡ true
   named_marked i j is v number =
-      start_marked v (subst (In v) (sym from) (some_numbers starts (made_from named_in 0 d) (place_at i j) v (some_named d i j is) number)) (bound i j v number)
+      start_marked v (subst (In v) (sym from) (some_numbers starts (made_from named_in 0 d) (position_at i j) v (some_named d i j is) number)) (bound i j v number)
 
   joined_marked : (i j c k : ℕ) → IsJoined d i j c k → (u v : ℕ) → port_number starts c k ≡ Some u → has_mark marks u ≡ true → port_number starts i j ≡ Some v
       → has_mark marks v ≡ true
@@ -125,10 +125,10 @@ module _ (d : Design) (starts : List ℕ) (are : AreStarts d starts) (fresh list
       named_marked i j (record { owner = m; op = o; there = there; member = here; names = (r, reset, signal); is_bit = is }) v number
   reset_marked m j (joined _ _ o c k is here found allowed has ref) i there v number =
       let by = and_then_some (instance_in o.kind) (λ (x : Instance). find_module d x.symbol) found in
-      let place = found_place d by.0.symbol c by.2 in
+      let position = found_position d by.0.symbol c by.2 in
       let within : k < length c.ports = reset_within c k has in
-      let to = number_some d starts are place.0 k c place.2 within in
-      joined_marked i j place.0 k
+      let to = number_some d starts are position.0 k c position.2 within in
+      joined_marked i j position.0 k
       (record {
         owner = m;
         op = o;
@@ -137,13 +137,13 @@ module _ (d : Design) (starts : List ℕ) (are : AreStarts d starts) (fresh list
         there = there;
         member = here;
         is_instance = by.1;
-        place = place.1;
-        called_there = place.2;
+        position = position.1;
+        called_there = position.2;
         allowed = allowed;
         is_port = ref;
         is_bit = is;
       })
-      (port_count (take place.0 d) + k) v to (reset_marked c k has place.0 place.2 (port_count (take place.0 d) + k) to) number
+      (port_count (take position.0 d) + k) v to (reset_marked c k has position.0 position.2 (port_count (take position.0 d) + k) to) number
     where
       reset_within : (c : Module) (k : ℕ) → IsResetPort d c k → k < length c.ports
       reset_within c k (named _ _ o r bit here reset signal) = bit_input_within c k bit
@@ -180,12 +180,12 @@ none_reset d none i j = go (slice_get d i) refl
   where
     no_port : (m : Module) (k : ℕ) → IsResetPort d m k → (n : ℕ) → slice_get d n ≡ Some m → ⊥
     no_port m k (named _ _ o r is here reset signal) n there =
-        subst (λ ps. In (place_at n k) ps) (sym none)
+        subst (λ ps. In (position_at n k) ps) (sym none)
         (some_named d n k (record { owner = m; op = o; there = there; member = here; names = (r, reset, signal); is_bit = is }))
     no_port m k (joined _ _ o c l is here found allowed has ref) n there =
         let by = and_then_some (instance_in o.kind) (λ (x : Instance). find_module d x.symbol) found in
-        let place = found_place d by.0.symbol c by.2 in
-        no_port c l has place.0 place.2
+        let position = found_position d by.0.symbol c by.2 in
+        no_port c l has position.0 position.2
 
     go : (y : Option Module) → slice_get d i ≡ y → false ≡ is_reset_of d j y
     go None out = refl

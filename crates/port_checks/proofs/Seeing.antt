@@ -10,7 +10,7 @@ use Rattle.ir_store.specs.declared.operation.Value.{Value}
 use Rattle.ir_store.specs.declared.operation.Value.TheVariants.{Port as APort, Result, Undefined}
 use Rattle.ir_store.specs.BodyOps.{BodyOp}
 use Rattle.ir_store.specs.Numbered.{ref_by, op_by}
-use Rattle.ir_store.specs.Symbols.{symbol_place}
+use Rattle.ir_store.specs.Symbols.{symbol_position}
 use Rattle.port_checks.specs.InstanceChecks.{instance_cause}
 use Rattle.port_checks.specs.Pairs.{pair_of}
 use Rattle.port_checks.specs.Numbers.{port_number}
@@ -67,10 +67,10 @@ pub pairs_seen : (d : Design) (starts : List ℕ) (caller : ℕ) (outer : List P
 pairs_seen d starts caller outer position o =
     ap (cond (is_some (instance_cause d o.parts.types (instance_in o.parts.kind))) []) (by_kind (instance_in o.parts.kind))
   where
-    by_place : (c : Option ℕ) → found_pairs d starts caller outer (map (ref_by position) o.operands) c ≡ found_pairs d starts caller outer (map ref_seen o.operands) c
-    by_place None = refl
-    by_place (Some c) = operands_seen starts c (ports_of (slice_get d c)) caller outer position o.operands (length (ports_of (slice_get d c)))
+    by_position : (c : Option ℕ) → found_pairs d starts caller outer (map (ref_by position) o.operands) c ≡ found_pairs d starts caller outer (map ref_seen o.operands) c
+    by_position None = refl
+    by_position (Some c) = operands_seen starts c (ports_of (slice_get d c)) caller outer position o.operands (length (ports_of (slice_get d c)))
 
     by_kind : (x : Option Instance) → called_pairs d starts caller outer (map (ref_by position) o.operands) x ≡ called_pairs d starts caller outer (map ref_seen o.operands) x
     by_kind None = refl
-    by_kind (Some x) = by_place (symbol_place x.symbol (map (λ (m : Module). m.symbol) d))
+    by_kind (Some x) = by_position (symbol_position x.symbol (map (λ (m : Module). m.symbol) d))

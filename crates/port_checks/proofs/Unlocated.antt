@@ -1,4 +1,4 @@
--- The places of modules and operations in the source decide nothing of instances and reset ports.
+-- The positions of modules and operations in the source decide nothing of instances and reset ports.
 use Rattle.std.proofs.Common.{◌≡◌, ℕ, zero, suc, ◌+◌, Bool, not, ◌&&◌, ◌||◌, List, [], ◌∷◌, length, map, slice_get, Option, Some, None, is_some, refl, sym, ap, ap₂, ◌∙◌, option_map}
 use Rattle.std.specs.List.{list_any}
 use mathlib.Core.Path.{fun_ext}

@@ -6,12 +6,12 @@ use Rattle.hw_model.specs.Design.{Ref, Port, Op, Module, Design, instance_in}
 use Rattle.hw_model.specs.Design.Ref.{port}
 use Rattle.hw_model.specs.Flat.{ResetBy, async_reset_in, port_ref}
 use Rattle.hw_model.specs.Sound.{ports_of}
-use Rattle.ir_store.specs.Symbols.{symbol_place}
+use Rattle.ir_store.specs.Symbols.{symbol_position}
 use Rattle.port_checks.specs.InstanceChecks.{instance_cause}
 use Rattle.port_checks.specs.ResetPorts.{is_bit_input}
 use Rattle.port_checks.specs.Numbers.{port_number}
 use Rattle.port_checks.specs.Pairs.{Pair, pair_of}
-use Rattle.port_checks.specs.declared.named.PortPlace.{PortPlace}
+use Rattle.port_checks.specs.declared.named.PortPosition.{PortPosition}
 
 -- the port that a value is, where that is an input of type i1
 abbrev pub bit_port : List Port → Option Ref → Option ℕ
@@ -30,16 +30,16 @@ abbrev pub named_port : List Port → Op → Option ℕ
 named_port ports o = bit_port ports (option_map (λ (r : ResetBy). r.signal) (async_reset_in o))
 
 -- port j of module i
-abbrev pub place_at : ℕ → ℕ → PortPlace
-place_at i j = record { owner = i; port = j }
+abbrev pub position_at : ℕ → ℕ → PortPosition
+position_at i j = record { owner = i; port = j }
 
-abbrev pub place_of : ℕ → Option ℕ → List PortPlace
-place_of i None = []
-place_of i (Some j) = place_at i j ∷ []
+abbrev pub position_of : ℕ → Option ℕ → List PortPosition
+position_of i None = []
+position_of i (Some j) = position_at i j ∷ []
 
 -- those that the operations of a module name
-abbrev pub named_in : ℕ → Module → List PortPlace
-named_in i m = flat_map (λ (o : Op). place_of i (named_port m.ports o)) m.body
+abbrev pub named_in : ℕ → Module → List PortPosition
+named_in i m = flat_map (λ (o : Op). position_of i (named_port m.ports o)) m.body
 
 -- ---- what instances join
 
@@ -60,14 +60,14 @@ found_pairs d starts caller outer operands (Some called) =
 -- so with the module of a symbol
 abbrev pub call_pairs : Design → List ℕ → ℕ → List Port → List Ref → Name → List Pair
 call_pairs d starts caller outer operands symbol =
-    found_pairs d starts caller outer operands (symbol_place symbol (map (λ (m : Module). m.symbol) d))
+    found_pairs d starts caller outer operands (symbol_position symbol (map (λ (m : Module). m.symbol) d))
 
--- so of an instance; other operations join nothing
+-- the pairs that an operation joins as an instance; other operations join none
 abbrev pub called_pairs : Design → List ℕ → ℕ → List Port → List Ref → Option Instance → List Pair
 called_pairs d starts caller outer operands None = []
 called_pairs d starts caller outer operands (Some i) = call_pairs d starts caller outer operands i.symbol
 
--- so of one that its module does not refuse
+-- the pairs that an operation joins as an instance that its module does not refuse; other operations join none
 abbrev pub instance_pairs : Design → List ℕ → ℕ → List Port → Op → List Pair
 instance_pairs d starts caller outer o =
     cond (is_some (instance_cause d o.types (instance_in o.kind))) [] (called_pairs d starts caller outer o.operands (instance_in o.kind))

@@ -10,7 +10,7 @@ pub fn reset_ports_are_least()
     ensures complete { (d : Design) (m : Module) (j : ℕ) → IsResetPort d m j → is_reset_port d m j ≡ true }
 {}
 
-/// Does nothing. Its clause says that in two designs that differ in nothing but places the modules that do so have the same
+/// Does nothing. Its clause says that in two designs that differ in nothing but positions the modules that do so have the same
 /// reset ports.
 pub fn locations_decide_no_reset_port()
     ensures { (d e : Design) (m n : Module) → IsSameDesign d e → module_without_locations m ≡ module_without_locations n → (j : ℕ)

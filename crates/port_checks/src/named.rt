@@ -2,7 +2,7 @@
 ghost use Rattle.std.specs.Prelude.{◌≡◌, ◌++◌, map, option_map, IfOk, OnOk};
 ghost use Rattle.hw_model.specs.Flat.{ResetBy, async_parts};
 ghost use Rattle.ir_store.specs.Designs.{port_of, module_of, numbered_module, design_of};
-ghost use Rattle.port_checks.specs.Joins.{named_port, place_of, named_in, made_from};
+ghost use Rattle.port_checks.specs.Joins.{named_port, position_of, named_in, made_from};
 ghost use Rattle.port_checks.specs.Seen.{ref_seen, op_seen};
 
 use crate::ports::bit_port;
@@ -14,7 +14,7 @@ use std::alloc::{AllocError, Global};
 
 /// A port of a module of a design.
 #[derive(Clone, Copy, PartialEq, Eq)]
-pub(crate) struct PortPlace {
+pub(crate) struct PortPosition {
     /// The module's number.
     pub(crate) owner: u32,
     /// The port's number in the module.
@@ -22,7 +22,7 @@ pub(crate) struct PortPlace {
 }
 
 /// The i1 inputs of a design's modules that registers name as asynchronous resets. Where none does, it takes no memory.
-pub(crate) fn named_ports(alloc: Global, design: &Design) -> Result<Vec<PortPlace>, AllocError>
+pub(crate) fn named_ports(alloc: Global, design: &Design) -> Result<Vec<PortPosition>, AllocError>
     ensures { IfOk result (λ named. named.items ≡ made_from named_in 0 (design_of design.now)) }
 {
     let mut named = Vec::new(alloc);
@@ -33,7 +33,7 @@ pub(crate) fn named_ports(alloc: Global, design: &Design) -> Result<Vec<PortPlac
 }
 
 /// Appends those that the registers of a module name.
-fn push_named(owner: &Module, number: u32, named: &mut Vec<PortPlace>) -> Result<(), AllocError>
+fn push_named(owner: &Module, number: u32, named: &mut Vec<PortPosition>) -> Result<(), AllocError>
     ensures { OnOk result (named.new.items ≡ named.old.items ++ named_in number (numbered_module (module_of owner.now))) }
 {
     for id in owner.body.ops() {
@@ -44,12 +44,12 @@ fn push_named(owner: &Module, number: u32, named: &mut Vec<PortPlace>) -> Result
 }
 
 /// Appends a port, where there is one.
-fn push_port(owner: u32, port: Option<u32>, named: &mut Vec<PortPlace>) -> Result<(), AllocError>
-    ensures { OnOk result (named.new.items ≡ named.old.items ++ place_of owner port) }
+fn push_port(owner: u32, port: Option<u32>, named: &mut Vec<PortPosition>) -> Result<(), AllocError>
+    ensures { OnOk result (named.new.items ≡ named.old.items ++ position_of owner port) }
 {
     match port {
         Some(port) => {
-            named.push(PortPlace { owner, port })?;
+            named.push(PortPosition { owner, port })?;
             Ok(())
         }
         None => Ok(()),

@@ -5,7 +5,7 @@ ghost use Rattle.graphs.specs.Graphs.{lists_of};
 ghost use Rattle.port_checks.specs.Numbers.{port_number, numbers_of, AreStarts};
 ghost use Rattle.port_checks.specs.ResetPorts.{port_count};
 
-use crate::named::PortPlace;
+use crate::named::PortPosition;
 use graphs::NodeList;
 use ir_store::design::Design;
 use std::alloc::{AllocError, Global};
@@ -84,13 +84,13 @@ pub(crate) fn optional_number(starts: &[u32], owner: usize, port: Option<u32>) -
 pub(crate) fn numbers_of(
     alloc: Global,
     starts: &[u32],
-    places: &[PortPlace],
+    positions: &[PortPosition],
 ) -> Result<Vec<u32>, AllocError>
-    ensures { IfOk result (λ numbers. numbers.items ≡ numbers_of starts.now places.now) }
+    ensures { IfOk result (λ numbers. numbers.items ≡ numbers_of starts.now positions.now) }
 {
-    let mut numbers = Vec::with_capacity(alloc, places.len())?;
-    for place in places {
-        let number = port_number(starts, place.owner as usize, place.port as usize);
+    let mut numbers = Vec::with_capacity(alloc, positions.len())?;
+    for position in positions {
+        let number = port_number(starts, position.owner as usize, position.port as usize);
         push_number(number, &mut numbers)?;
     }
     Ok(numbers)

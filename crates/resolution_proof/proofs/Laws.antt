@@ -17,7 +17,7 @@ use Rattle.resolution_proof.proofs.Sets.{beq-true, same-true, same-refl, literal
 use Rattle.resolution_proof.proofs.Chains.{and-true, and-assoc}
 
 -- the set does not hold a literal and its negation
-abbrev NoClash : List Literal → Type 0
+abbrev pub NoClash : List Literal → Type 0
 NoClash a = (l : Literal) → holds a l ≡ true → holds a (negation l) ≡ true → ⊥
 
 true_same : (bits : List Bool) (a b : Literal) → a.variable ≡ b.variable → is_true bits a ≡ true → is_true bits b ≡ true → a ≡ b
@@ -44,7 +44,7 @@ resolvent_true bits p a b apart clash ta tb =
         let negated : holds a (negation y) ≡ true = sym (beq-true (is_on p y) (holds a (negation y)) against) ∙ ey in
         absurd (apart y (subst (λ (l : Literal). holds a l ≡ true) one hx) negated)
 
-resolvent_apart : (p : ℕ) (a b : List Literal) → NoClash a → NoClash b → is_clash p a b ≡ true → NoClash (resolvent p a b)
+pub resolvent_apart : (p : ℕ) (a b : List Literal) → NoClash a → NoClash b → is_clash p a b ≡ true → NoClash (resolvent p a b)
 resolvent_apart p a b na nb clash l h n =
     let opposed = (and_parts (mentions b p) (opposes p a b) clash).1 in
     let hp = and_parts (not (is_on p l)) (holds a l || holds b l) (sym (holds-resolvent p a b l) ∙ h) in
@@ -66,21 +66,21 @@ resolvent_apart p a b na nb clash l h n =
       ]
     ]
 
-once_no_clash : (c : List Literal) → is_once c ≡ true → NoClash c
+pub once_no_clash : (c : List Literal) → is_once c ≡ true → NoClash c
 once_no_clash c once l h n = once_apart c l once h n
 
 -- a fact of each clause holds of the clause of a number
-number_all : (p : List Literal → Bool) (known : List (List Literal)) (n : ℕ) → list_all p known ≡ true → is_number known n ≡ true → p (clause_at known n) ≡ true
+pub number_all : (p : List Literal → Bool) (known : List (List Literal)) (n : ℕ) → list_all p known ≡ true → is_number known n ≡ true → p (clause_at known n) ≡ true
 number_all p known n h number =
     let parts = and_parts (leb 1 n) (leb n (length known)) number in
     let low = leb-true 1 n parts.0 in
     let high = leb-true n (length known) parts.1 in
-    at_place known (n - 1) (omega (arith, low, high)) h
+    at_position known (n - 1) (omega (arith, low, high)) h
   where
-    at_place : (cs : List (List Literal)) (i : ℕ) → i < length cs → list_all p cs ≡ true → p (get_or cs i []) ≡ true
-    at_place [] i l e = absurd (omega (arith, l))
-    at_place (c ∷ cs) zero l e = (and_parts (p c) (list_all p cs) e).0
-    at_place (c ∷ cs) (suc i) l e = at_place cs i (omega (arith, l)) ((and_parts (p c) (list_all p cs) e).1)
+    at_position : (cs : List (List Literal)) (i : ℕ) → i < length cs → list_all p cs ≡ true → p (get_or cs i []) ≡ true
+    at_position [] i l e = absurd (omega (arith, l))
+    at_position (c ∷ cs) zero l e = (and_parts (p c) (list_all p cs) e).0
+    at_position (c ∷ cs) (suc i) l e = at_position cs i (omega (arith, l)) ((and_parts (p c) (list_all p cs) e).1)
 
 module _ (bits : List Bool) (known : List (List Literal)) (once : list_all is_once known ≡ true) (holds_all : list_all (makes_true bits) known ≡ true) where
   chain_true : (a : List Literal) (hs : List Hint) → NoClash a → makes_true bits a ≡ true → is_chain known a hs ≡ true → makes_true bits (chain_end known a hs) ≡ true

@@ -90,7 +90,7 @@ pigeonhole (suc n) xs d b =
     let long = length-rest_of n xs d in
     omega (arith, ih, long)
 
--- a member stands at some place
+-- a member stands at some position
 pub member_at : (xs : List ℕ) (n : ℕ) → is_member xs n ≡ true → (k : ℕ) × (k < length xs) × (get_or xs k 0 ≡ n)
 member_at [] n h = absurd (false≢true h)
 member_at (x ∷ xs) n h =
@@ -99,7 +99,7 @@ member_at (x ∷ xs) n h =
       | inr there ↦ let r = member_at xs n there in (suc r.0, omega (arith, r.1), r.2)
     ]
 
--- numbers that differ at different places are distinct
+-- numbers that differ at different positions are distinct
 pub distinct_from : (xs : List ℕ) → ((j k : ℕ) → j < length xs → k < length xs → get_or xs j 0 ≡ get_or xs k 0 → j ≡ k) → is_distinct xs ≡ true
 distinct_from [] f = refl
 distinct_from (x ∷ xs) f =

@@ -9,7 +9,7 @@ use Rattle.sched_core.specs.State.{State, callees_of, leaves, is_busy_with, new_
 use Rattle.sched_core.specs.Sound.{Sound}
 use Rattle.sched_core.specs.Counts.{uses_of, untold_of}
 use Rattle.sched_core.specs.Runs.{AreCallees}
-use Rattle.sched_core.specs.Table.{Table, state_of, stage_with_heirs, HasPlaces, IsKept}
+use Rattle.sched_core.specs.Table.{Table, state_of, stage_with_heirs, HasPositions, IsKept}
 use Rattle.sched_core.proofs.SumLemmas.{sum_below-none}
 use Rattle.sched_core.proofs.EdgeSums.{sum_edges-none}
 use Rattle.sched_core.proofs.Draws.{first-sound}
@@ -53,11 +53,11 @@ same_state s u callees stage edge pending_edges leaf worker workers splits =
 
 module _ {A : Type 0} (f : A → List ℕ) (rows : List A) (t : Table) (new : IsNew f rows t) where
   new_row : (c : ℕ) → (n : ℕ) × (get_or t.edges c [] ≡ replicate n new_edge) × (n ≡ length (callees_of t.callees c))
-  new_row c = by_place rows c new.edges new.callees
+  new_row c = by_position rows c new.edges new.callees
     where
-      by_place : (xs : List A) (k : ℕ) → t.edges ≡ map (λ row. replicate (length (f row)) new_edge) xs → t.callees ≡ map f xs
+      by_position : (xs : List A) (k : ℕ) → t.edges ≡ map (λ row. replicate (length (f row)) new_edge) xs → t.callees ≡ map f xs
           → (n : ℕ) × (get_or t.edges k [] ≡ replicate n new_edge) × (n ≡ length (callees_of t.callees k))
-      by_place xs k edges callees =
+      by_position xs k edges callees =
           let found = at xs k in
           (found.0, ap (λ es. get_or es k []) edges ∙ found.1, found.2 ∙ ap (λ cs. length (callees_of cs k)) (sym callees))
         where
@@ -90,8 +90,8 @@ module _ {A : Type 0} (f : A → List ℕ) (rows : List A) (t : Table) (new : Is
   new-state = same_state (state_of t) (first (map f rows)) new.callees (fun_ext new_stage) (fun_ext (λ c. fun_ext (new_edges c))) (fun_ext new_pending)
       new.leaf new_workers (ap (λ n. n + 1) new.splits) new.splits
 
-  new_places : AreCallees (map f rows) → HasPlaces t
-  new_places are =
+  new_positions : AreCallees (map f rows) → HasPositions t
+  new_positions are =
       let count : length t.callees ≡ length rows = ap length new.callees ∙ length-map rows f in
       record {
         stages = ap length new.stages ∙ length-replicate (length rows) Waiting ∙ sym count;
@@ -111,7 +111,7 @@ module _ {A : Type 0} (f : A → List ℕ) (rows : List A) (t : Table) (new : Is
   new-kept are =
       let count : length t.callees ≡ length rows = ap length new.callees ∙ length-map rows f in
       record {
-        places = new_places are;
+        positions = new_positions are;
         sound = subst Sound (sym new-state) (first-sound (map f rows));
         leaf_modules = new.leaf_modules ∙ ap leaves (sym new.callees);
         uses = λ m below. new.uses m (omega arith) ∙ ap (λ cs. uses_of cs m) (sym new.callees);

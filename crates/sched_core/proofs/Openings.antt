@@ -85,6 +85,6 @@ report_last-read t w c i u b p old kept may is_untold is_busy is_pending last is
 pub untold-fits : (t : Table) (w m : ℕ) → IsKept t → May (state_of t) (PutDone w m) → untold_of (state_of t) w + uses_of t.callees m < 2 ^ 64
 untold-fits t w m kept may =
     let bound : untold_of (state_of t) w + uses_of t.callees m ≤ length t.callees * 4294967295 = untold-uses-le t w m kept (ap is_done may.0) in
-    let size : length t.callees < 2 ^ 32 = kept.places.modules in
+    let size : length t.callees < 2 ^ 32 = kept.positions.modules in
     let most : length t.callees * 4294967295 ≤ 4294967295 * 4294967295 = mul-le-mul_right {m = length t.callees} {n = 4294967295} 4294967295 (omega arith) in
     omega arith

@@ -1,4 +1,4 @@
--- Tables after a write: they have the same places, and are kept where their state is the event's.
+-- Tables after a write: they have the same positions, and are kept where their state is the event's.
 use Rattle.std.proofs.Common.{◌≡◌, ◌≢◌, ℕ, ◌+◌, ◌-◌, ◌<◌, ◌≤◌, ◌⊎◌, true, false, List, [], ◌∷◌, length, set, get_or, sym, ap, subst, ◌∙◌, inl, inr, arith}
 use Rattle.std.proofs.lemmas.Bool.{true≢false, cases_lt, cases_eq}
 use Rattle.std.proofs.lemmas.List.{get_or-set_same, get_or-set_other}
@@ -10,7 +10,7 @@ use Rattle.sched_core.specs.State.{leaves, leaves_from, is_waiting, is_held_by, 
 use Rattle.sched_core.specs.Events.{May, step}
 use Rattle.sched_core.specs.Sound.{Sound, passed_workers}
 use Rattle.sched_core.specs.Counts.{uses_of, busy_of, untold_of}
-use Rattle.sched_core.specs.Table.{Table, state_of, stage_with_heirs, HasPlaces, IsKept}
+use Rattle.sched_core.specs.Table.{Table, state_of, stage_with_heirs, HasPositions, IsKept}
 use Rattle.sched_core.proofs.SumLemmas.{sum_below-le, one_if-le}
 use Rattle.sched_core.proofs.Keeping.{step-sound}
 use Rattle.sched_core.proofs.Reading.{get_or-past, parts-set}
@@ -23,7 +23,7 @@ pub record Writes (t after : Table) (e : Event) : Type 0 where
 
 -- what a write leaves, and what is left to show of the counts
 pub record Counted (t after : Table) (e : Event) : Type 0 where
-  pub places : HasPlaces after
+  pub positions : HasPositions after
   pub state : state_of after ≡ step (state_of t) e
   pub leaf_modules : after.leaf_modules ≡ leaves after.callees
   pub uses : (m : ℕ) → m < length after.callees → get_or after.uses m 0 ≡ uses_of after.callees m
@@ -35,7 +35,7 @@ pub counted : (t after : Table) (e : Event) → IsKept t → May (state_of t) e 
 counted t after e kept may count = record {
   state = count.state;
   kept = record {
-    places = count.places;
+    positions = count.positions;
     sound = subst Sound (sym count.state) (step-sound (state_of t) e kept.sound may);
     leaf_modules = count.leaf_modules;
     uses = count.uses;
@@ -59,7 +59,7 @@ pub state-stage : (t : Table) (m : ℕ) (x : Stage) → m < length t.stages
     → state_of (record t { stages = set t.stages m x }) ≡ record (state_of t) { stage = put m (stage_with_heirs t.heirs x) (state_of t).stage }
 state-stage t m x within = ap (λ f. record (state_of t) { stage = f }) (parts-set (stage_with_heirs t.heirs) Waiting t.stages m x within)
 
--- a module that does not wait has a place
+-- a module that does not wait has a position
 pub stage-within : (t : Table) (m : ℕ) → is_waiting ((state_of t).stage m) ≡ false → m < length t.stages
 stage-within t m is = go (cases_lt m (length t.stages))
   where

@@ -32,14 +32,14 @@ free-test t w n kept there is = (forth, back)
     count = is ∙ kept.busy w (there-lt t w kept there)
 
     forth : IsTrue (n == 0) → IsFree (state_of t) w
-    forth zero_count m = by_place (cases_lt m (length t.callees))
+    forth zero_count m = by_position (cases_lt m (length t.callees))
       where
         none : busy_of (state_of t) w ≡ 0
         none = sym count ∙ is_zero n zero_count
 
-        by_place : (m < length t.callees) ⊎ (length t.callees ≤ m) → is_busy_with w ((state_of t).stage m) ≡ false
-        by_place (inl within) = free_of_busy (state_of t) w none m within
-        by_place (inr past) = ap (λ x. is_busy_with w (stage_with_heirs t.heirs x)) (get_or-past t.stages m Waiting (let places : length t.stages ≡ length t.callees = kept.places.stages in omega arith))
+        by_position : (m < length t.callees) ⊎ (length t.callees ≤ m) → is_busy_with w ((state_of t).stage m) ≡ false
+        by_position (inl within) = free_of_busy (state_of t) w none m within
+        by_position (inr past) = ap (λ x. is_busy_with w (stage_with_heirs t.heirs x)) (get_or-past t.stages m Waiting (let positions : length t.stages ≡ length t.callees = kept.positions.stages in omega arith))
 
     back : IsFree (state_of t) w → IsTrue (n == 0)
     back free = zero_is n (count ∙ busy-free (state_of t) w free)
@@ -74,7 +74,7 @@ pub emptied-test : (t : Table) (m : ℕ) (b : Bool) → IsKept t → b ≡ list_
 emptied-test t m b kept is = (forth, back)
   where
     count : length (get_or t.edges m []) ≡ length (callees_of t.callees m)
-    count = kept.places.rows m
+    count = kept.positions.rows m
 
     all : IsTrue (list_all (λ e. is_emptied e.fill) (get_or t.edges m [])) ↔ ((i : ℕ) → i < length (get_or t.edges m []) → is_emptied (get_or (get_or t.edges m []) i new_edge).fill ≡ true)
     all = all-test (λ e. is_emptied e.fill) (get_or t.edges m []) new_edge

@@ -12,7 +12,7 @@ use Rattle.sched_core.specs.Sums.{put}
 use Rattle.sched_core.specs.State.{State, leaves, new_worker, no_worker}
 use Rattle.sched_core.specs.Events.{May, step, draw_leaf, reassign}
 use Rattle.sched_core.specs.Counts.{busy_of, untold_of}
-use Rattle.sched_core.specs.Table.{Table, state_of, stage_with_heirs, heir_after, HasPlaces, IsKept}
+use Rattle.sched_core.specs.Table.{Table, state_of, stage_with_heirs, heir_after, HasPositions, IsKept}
 use Rattle.sched_core.proofs.Puts.{put_keeps}
 use Rattle.sched_core.proofs.Busy.{busy-reassign}
 use Rattle.sched_core.proofs.Untold.{untold-reassign}
@@ -25,27 +25,27 @@ pub state-worker : (t : Table) (w : ℕ) (x : Worker) → w < length t.workers �
 state-worker t w x within = ap (λ f. record (state_of t) { worker = f }) (parts-set (λ y. y) no_worker t.workers w x within)
 
 -- the tables with other workers and heirs, another number of draws and of splits
-workers-places : (t : Table) (workers : List Worker) (heirs : List ℕ) (leaf splits : ℕ) → length workers ≡ 64 → length heirs ≡ 64 → HasPlaces t
-    → HasPlaces (record t { workers = workers; heirs = heirs; leaf = leaf; splits = splits })
-workers-places t workers heirs leaf splits size many places = record {
-  stages = places.stages;
-  edges = places.edges;
-  rows = places.rows;
-  pending_edges = places.pending_edges;
-  uses = places.uses;
+workers-positions : (t : Table) (workers : List Worker) (heirs : List ℕ) (leaf splits : ℕ) → length workers ≡ 64 → length heirs ≡ 64 → HasPositions t
+    → HasPositions (record t { workers = workers; heirs = heirs; leaf = leaf; splits = splits })
+workers-positions t workers heirs leaf splits size many positions = record {
+  stages = positions.stages;
+  edges = positions.edges;
+  rows = positions.rows;
+  pending_edges = positions.pending_edges;
+  uses = positions.uses;
   workers = size;
   heirs = many;
-  busy = places.busy;
-  untold = places.untold;
-  modules = places.modules;
-  entries = places.entries;
+  busy = positions.busy;
+  untold = positions.untold;
+  modules = positions.modules;
+  entries = positions.entries;
 }
 
 pub pass-writes : (t : Table) (w : ℕ) (old : Worker) → IsKept t → May (state_of t) (Claim w) → slice_get (leaves t.callees) t.leaf ≡ None → old ≡ (state_of t).worker w
     → Writes t (record t { workers = set t.workers w (record old { passed = true }); leaf = t.leaf + 1 }) (Claim w)
 pass-writes t w old kept may drawn is = subst (λ y. Writes t (record t { workers = set t.workers w (record y { passed = true }); leaf = t.leaf + 1 }) (Claim w)) (sym is)
     (counted t (record t { workers = set t.workers w passing; leaf = t.leaf + 1 }) (Claim w) kept may (record {
-      places = workers-places t (set t.workers w passing) t.heirs (t.leaf + 1) t.splits (length-set t.workers w passing ∙ kept.places.workers) kept.places.heirs kept.places;
+      positions = workers-positions t (set t.workers w passing) t.heirs (t.leaf + 1) t.splits (length-set t.workers w passing ∙ kept.positions.workers) kept.positions.heirs kept.positions;
       state = ap (λ (s : State). record s { leaf = t.leaf + 1 }) (state-worker t w passing within) ∙ is_claim;
       leaf_modules = kept.leaf_modules;
       uses = kept.uses;
@@ -58,14 +58,14 @@ pass-writes t w old kept may drawn is = subst (λ y. Writes t (record t { worker
     passing = record ((state_of t).worker w) { passed = true }
 
     within : w < length t.workers
-    within = let few : w < 64 = there-lt t w kept may.0 in let size : length t.workers ≡ 64 = kept.places.workers in omega arith
+    within = let few : w < 64 = there-lt t w kept may.0 in let size : length t.workers ≡ 64 = kept.positions.workers in omega arith
 
     is_claim : draw_leaf (state_of t) w None ≡ step (state_of t) (Claim w)
     is_claim = ap (draw_leaf (state_of t) w) (sym drawn)
 
 pub split-writes : (t : Table) → IsKept t → May (state_of t) Split → Writes t (record t { splits = t.splits + 1; workers = set t.workers (t.splits + 1) new_worker }) Split
 split-writes t kept may = counted t (record t { splits = t.splits + 1; workers = set t.workers (t.splits + 1) new_worker }) Split kept may (record {
-  places = workers-places t (set t.workers (t.splits + 1) new_worker) t.heirs t.leaf (t.splits + 1) (length-set t.workers (t.splits + 1) new_worker ∙ kept.places.workers) kept.places.heirs kept.places;
+  positions = workers-positions t (set t.workers (t.splits + 1) new_worker) t.heirs t.leaf (t.splits + 1) (length-set t.workers (t.splits + 1) new_worker ∙ kept.positions.workers) kept.positions.heirs kept.positions;
   state = ap (λ (s : State). record s { workers = t.splits + 1 + 1; splits = t.splits + 1 }) (state-worker t (t.splits + 1) new_worker within);
   leaf_modules = kept.leaf_modules;
   uses = kept.uses;
@@ -77,7 +77,7 @@ split-writes t kept may = counted t (record t { splits = t.splits + 1; workers =
 })
   where
     within : t.splits + 1 < length t.workers
-    within = let room : t.splits < 63 = may.1 in let size : length t.workers ≡ 64 = kept.places.workers in omega arith
+    within = let room : t.splits < 63 = may.1 in let size : length t.workers ≡ 64 = kept.positions.workers in omega arith
 
 -- what is inherited afterwards is what was inherited, passed on
 inherited-after : (heirs : List ℕ) (keeps gone : ℕ) (x : Stage) → gone < 64 → stage_with_heirs (map (heir_after keeps gone) heirs) x ≡ reassign keeps gone (stage_with_heirs heirs x)
@@ -98,8 +98,8 @@ pub join-writes : (t : Table) (keeps gone : ℕ) (old : Worker) → IsKept t →
     → Writes t (record t { workers = set t.workers gone (record old { gone = true }); heirs = map (heir_after keeps gone) t.heirs }) (Join keeps gone)
 join-writes t keeps gone old kept may is = subst (λ y. Writes t (record t { workers = set t.workers gone (record y { gone = true }); heirs = map (heir_after keeps gone) t.heirs }) (Join keeps gone)) (sym is)
     (counted t (record t { workers = set t.workers gone going; heirs = map (heir_after keeps gone) t.heirs }) (Join keeps gone) kept may (record {
-      places = workers-places t (set t.workers gone going) (map (heir_after keeps gone) t.heirs) t.leaf t.splits (length-set t.workers gone going ∙ kept.places.workers)
-          (length-map t.heirs (heir_after keeps gone) ∙ kept.places.heirs) kept.places;
+      positions = workers-positions t (set t.workers gone going) (map (heir_after keeps gone) t.heirs) t.leaf t.splits (length-set t.workers gone going ∙ kept.positions.workers)
+          (length-map t.heirs (heir_after keeps gone) ∙ kept.positions.heirs) kept.positions;
       state = ap (λ f. record (state_of (record t { workers = set t.workers gone going })) { stage = f }) (fun_ext (λ m. inherited-after t.heirs keeps gone (get_or t.stages m Waiting) few))
           ∙ ap (λ (s : State). record s { stage = λ m. reassign keeps gone ((state_of t).stage m) }) (state-worker t gone going within);
       leaf_modules = kept.leaf_modules;
@@ -116,11 +116,11 @@ join-writes t keeps gone old kept may is = subst (λ y. Writes t (record t { wor
     few = there-lt t gone kept may.2
 
     within : gone < length t.workers
-    within = let size : length t.workers ≡ 64 = kept.places.workers in omega (arith, few)
+    within = let size : length t.workers ≡ 64 = kept.positions.workers in omega (arith, few)
 
     own : (v : ℕ) → v < 64 → (v < t.splits + 1 → (get_or (set t.workers gone going) v no_worker).gone ≡ false) → get_or (map (heir_after keeps gone) t.heirs) v 64 ≡ v
     own v below stays =
-        get_or-map (heir_after keeps gone) t.heirs v 64 64 (let size : length t.heirs ≡ 64 = kept.places.heirs in omega arith)
+        get_or-map (heir_after keeps gone) t.heirs v 64 64 (let size : length t.heirs ≡ 64 = kept.positions.heirs in omega arith)
         ∙ ap (heir_after keeps gone) was ∙ cond-false (v == gone) keeps v (ne_eqb v gone apart)
       where
         apart : v ≢ gone

@@ -60,9 +60,9 @@ state_of t = record {
   splits = t.splits;
 }
 
--- the tables have a place for each module, each edge and each of 64 workers, and there are fewer than 2^32 modules and
+-- the tables have a position for each module, each edge and each of 64 workers, and there are fewer than 2^32 modules and
 -- entries of each
-pub record HasPlaces (t : Table) : Type 0 where
+pub record HasPositions (t : Table) : Type 0 where
   pub stages : length t.stages ≡ length t.callees
   pub edges : length t.edges ≡ length t.callees
   pub rows : (c : ℕ) → length (slice_index_or t.edges c []) ≡ length (callees_of t.callees c)
@@ -77,7 +77,7 @@ pub record HasPlaces (t : Table) : Type 0 where
 
 -- what holds of the tables at every moment
 pub record IsKept (t : Table) : Type 0 where
-  pub places : HasPlaces t
+  pub positions : HasPositions t
   -- the state is sound
   pub sound : Sound (state_of t)
   -- the leaves and the uses are those of the callees

@@ -5,7 +5,7 @@
 //! `specs/` has the definitions: the state, the events with when each may come and what it changes, what a sound state
 //! is, and runs of events. [`every_run_is_sound`] states the theorem on all runs. [`Sched`] is the machine in code. Each
 //! call is a few reads and writes of its tables, but that the test of a finished module goes over its edges, and a join
-//! over the 64 places of workers.
+//! over the 64 positions of workers.
 #![tactic(auto)]
 
 mod event;

@@ -112,7 +112,7 @@ fn no_workers(alloc: Global) -> Result<Vec<Worker>, AllocError>
     Ok(workers)
 }
 
-/// The first worker, and places for 63 others.
+/// The first worker, and positions for 63 others.
 pub(crate) fn first_worker(alloc: Global) -> Result<Vec<Worker>, AllocError>
     ensures { IfOk result (λ v. v.items ≡ slice_set (replicate 64 no_worker) 0 new_worker) }
 {

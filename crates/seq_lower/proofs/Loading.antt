@@ -108,8 +108,8 @@ module _ (b b1 : Body) (op id : OpId) (found : ReadOp) (at : op_at (ops_of b) op
           replaced.ops
           ∙ ap₂ (λ os z. set os (position_in b1 op) z) put_seen register_seen
           ∙ ap₂ (λ j z. set (insert_op (position_in b op) (mux_for z (value_ref b loaded.condition) (value_ref b loaded.high) (value_ref b loaded.low)) (body_ops b)) j
-          (plain_register z (result (position_in b op) 0) (up_ref (position_in b op) (value_ref b clock)))) put.place (seen_is b op found at o there);
-      rest = ap (drop (suc (suc (position_in b op)))) (replaced.ids ∙ ap₂ (λ ids j. set ids j replaced.fresh) put.ids put.place)
+          (plain_register z (result (position_in b op) 0) (up_ref (position_in b op) (value_ref b clock)))) put.position (seen_is b op found at o there);
+      rest = ap (drop (suc (suc (position_in b op)))) (replaced.ids ∙ ap₂ (λ ids j. set ids j replaced.fresh) put.ids put.position)
           ∙ drop_set (insert (ids_of b) (position_in b op) id.index) (suc (position_in b op)) replaced.fresh
           ∙ drop_insert (ids_of b) (position_in b op) id.index;
     }
@@ -131,7 +131,7 @@ module _ (b b1 : Body) (op id : OpId) (found : ReadOp) (at : op_at (ops_of b) op
         (insert_op (position_in b op) (mux_for (op_seen b found) (value_ref b loaded.condition) (value_ref b loaded.high) (value_ref b loaded.low)) (body_ops b))
     both_seen =
         again.ops
-        ∙ ap₂ (λ j z. insert_op j z (body_ops b1)) put.place second_seen
+        ∙ ap₂ (λ j z. insert_op j z (body_ops b1)) put.position second_seen
         ∙ ap (insert_op (suc (position_in b op))
         (mux_for (op_seen b found) (up_ref (position_in b op) (value_ref b reset.signal)) (up_ref (position_in b op) (value_ref b reset.value)) (result (position_in b op) 0))) put_seen
 
@@ -142,10 +142,10 @@ module _ (b b1 : Body) (op id : OpId) (found : ReadOp) (at : op_at (ops_of b) op
       last_seen =
           ap (λ (p : OpParts). record (plain_op p) { operands = map (value_ref b2) (Result id2 0 ∷ clock ∷ []) }) register_is
           ∙ ap₂ (λ x y. plain_register (op_seen b found) x y) again.own (again.values clock (put.may clock clock_may))
-          ∙ ap₂ (λ j y. plain_register (op_seen b found) (result j 0) (up_ref j y)) put.place (put.values clock clock_may)
+          ∙ ap₂ (λ j y. plain_register (op_seen b found) (result j 0) (up_ref j y)) put.position (put.values clock clock_may)
 
-      place_then : position_in b2 op ≡ suc (suc (position_in b op))
-      place_then = again.place ∙ ap suc put.place
+      position_then : position_in b2 op ≡ suc (suc (position_in b op))
+      position_then = again.position ∙ ap suc put.position
 
       pub loaded_by_two : IsLoadedByTwo b b3 op loaded reset clock
       loaded_by_two = record {
@@ -156,9 +156,9 @@ module _ (b b1 : Body) (op id : OpId) (found : ReadOp) (at : op_at (ops_of b) op
             (mux_for z (up_ref (position_in b op) (value_ref b reset.signal)) (up_ref (position_in b op) (value_ref b reset.value)) (result (position_in b op) 0))
             (insert_op (position_in b op) (mux_for z (value_ref b loaded.condition) (value_ref b loaded.high) (value_ref b loaded.low)) (body_ops b))) j
             (plain_register z (result (suc (position_in b op)) 0) (up_ref (suc (position_in b op)) (up_ref (position_in b op) (value_ref b clock)))))
-            place_then (seen_is b op found at o there);
+            position_then (seen_is b op found at o there);
         rest = ap (drop (suc (suc (suc (position_in b op)))))
-            (replaced.ids ∙ ap₂ (λ ids j. set ids j replaced.fresh) (again.ids ∙ ap₂ (λ j ids. insert ids j id2.index) put.place put.ids) place_then)
+            (replaced.ids ∙ ap₂ (λ ids j. set ids j replaced.fresh) (again.ids ∙ ap₂ (λ j ids. insert ids j id2.index) put.position put.ids) position_then)
             ∙ drop_set (insert (insert (ids_of b) (position_in b op) id.index) (suc (position_in b op)) id2.index) (suc (suc (position_in b op))) replaced.fresh
             ∙ drop_insert (insert (ids_of b) (position_in b op) id.index) (suc (position_in b op)) id2.index
             ∙ drop_insert (ids_of b) (position_in b op) id.index;

@@ -94,9 +94,9 @@ module _ (b b1 : Body) (op id : OpId) (new : NewOp) (ready : IsReady b op) (may 
       subst (λ ids. Contains ids v) (sym (ap ids_in added))
       (still_contained (ids_of b) (ids_in (put_before (Some op) (as_new id new) (ops_of b))) (λ w. omega (arith, times-put_before w (Some op) (as_new id new) (ops_of b))) v here)
 
-  put_place : position_in b1 op ≡ suc (position_in b op)
+  put_position : position_in b1 op ≡ suc (position_in b op)
   unfolding position_in
-  put_place = ap (λ ops. position_of (ids_in ops) op.index) added ∙ position_after op (as_new id new) (ops_of b) ready.there other
+  put_position = ap (λ ops. position_of (ids_in ops) op.index) added ∙ position_after op (as_new id new) (ops_of b) ready.there other
 
   put_ids : ids_of b1 ≡ insert (ids_of b) (position_in b op) id.index
   unfolding position_in
@@ -125,7 +125,7 @@ module _ (b b1 : Body) (op id : OpId) (new : NewOp) (ready : IsReady b op) (may 
   put_ready = record {
     there = still_in op.index ready.there;
     live = subst AreLive (sym added) (added_live (Some op) (as_new id new) (ops_of b) ready.live own_live);
-    alone = subst (λ i. HaveNoFurther i (body_ops b1)) (sym put_place)
+    alone = subst (λ i. HaveNoFurther i (body_ops b1)) (sym put_position)
         (subst (HaveNoFurther (suc (position_in b op))) (sym put_ops)
         (alone_put (position_in b op) (new_with b new new.operands.items) (body_ops b) ready.alone (operands_alone b op new new.operands.items may)));
   }
@@ -133,7 +133,7 @@ module _ (b b1 : Body) (op id : OpId) (new : NewOp) (ready : IsReady b op) (may 
   put_may : (v : Value) → MayBeOperand b op v → MayBeOperand b1 op v
   put_may v m = record {
     live = still_live (ids_of b) (ids_of b1) still_in v m.live;
-    alone = subst (λ i. IsNoFurther i (value_ref b1 v)) (sym put_place)
+    alone = subst (λ i. IsNoFurther i (value_ref b1 v)) (sym put_position)
         (subst (IsNoFurther (suc (position_in b op))) (sym (put_values v m.live)) (no_further_up (position_in b op) (value_ref b v) m.alone));
   }
 
@@ -145,7 +145,7 @@ module _ (b b1 : Body) (op id : OpId) (new : NewOp) (ready : IsReady b op) (may 
   was_put here ops_left uses_left = record {
     ops = put_ops;
     ids = put_ids;
-    place = put_place;
+    position = put_position;
     ready = put_ready;
     may = put_may;
     values = λ v m. put_values v m.live;

@@ -22,21 +22,21 @@ use Rattle.seq_lower.specs.Puts.{IsReady, MayBeOperands, new_with, IsPutBefore}
 use Rattle.seq_lower.proofs.PutBefore.{own_live, operands_alone}
 
 -- an id put in before another one, which goes
-in_its_place : (ids : List ℕ) (i id : ℕ) → i < length ids → remove (insert ids i id) (suc i) ≡ set ids i id
-in_its_place [] i id within = absurd (omega (arith, within))
-in_its_place (x ∷ ids) zero id within = refl
-in_its_place (x ∷ ids) (suc i) id within = ap (λ js. x ∷ js) (in_its_place ids i id (omega (arith, within)))
+in_its_position : (ids : List ℕ) (i id : ℕ) → i < length ids → remove (insert ids i id) (suc i) ≡ set ids i id
+in_its_position [] i id within = absurd (omega (arith, within))
+in_its_position (x ∷ ids) zero id within = refl
+in_its_position (x ∷ ids) (suc i) id within = ap (λ js. x ∷ js) (in_its_position ids i id (omega (arith, within)))
 
-place_within : (b : Body) (op : OpId) → HasOp b op → position_in b op < length (ids_of b)
+op_within : (b : Body) (op : OpId) → HasOp b op → position_in b op < length (ids_of b)
 unfolding position_in
-place_within b op there = position_within (ids_of b) op.index there
+op_within b op there = position_within (ids_of b) op.index there
 
 module _ (b b1 : Body) (op id : OpId) (new : NewOp) (ready : IsReady b op) (may : MayBeOperands b op new.operands.items) (fresh : Contains (ids_of b) id.index → ⊥)
     (added : ops_of b1 ≡ put_before (Some op) (as_new id new) (ops_of b)) (o : Op) (n : ℕ) (put : IsPutBefore b b1 op id o n) where
   may_stand : MayStand (body_ops b1) (position_in b1 op) (value_ref b1 (Result id 0))
   may_stand = record {
     other = λ k is.
-        let same : result (position_in b op) 0 ≡ result (suc (position_in b op)) k = sym put.own ∙ is ∙ ap (λ i. result i k) put.place in
+        let same : result (position_in b op) 0 ≡ result (suc (position_in b op)) k = sym put.own ∙ is ∙ ap (λ i. result i k) put.position in
         let clash : position_in b op ≡ suc (position_in b op) = cc in
         absurd (omega (arith, clash));
     no_further = put.ready.alone;
@@ -64,8 +64,8 @@ module _ (b b1 : Body) (op id : OpId) (new : NewOp) (ready : IsReady b op) (may 
       set_ids : ids_of b3 ≡ set (ids_of b) (position_in b op) id.index
       set_ids =
           ids_stood_in op (Result id 0) b1 b2 b3 replaced gone
-          ∙ ap (remove (ids_of b1)) put.place ∙ ap (λ ids. remove ids (suc (position_in b op))) put.ids
-          ∙ in_its_place (ids_of b) (position_in b op) id.index (place_within b op ready.there)
+          ∙ ap (remove (ids_of b1)) put.position ∙ ap (λ ids. remove ids (suc (position_in b op))) put.ids
+          ∙ in_its_position (ids_of b) (position_in b op) id.index (op_within b op ready.there)
 
       pub was_replaced : IsReplaced b b3 (position_in b op) (new_with b new new.operands.items)
       was_replaced = record { ops = set_ops; fresh = id.index; is_fresh = fresh; ids = set_ids }

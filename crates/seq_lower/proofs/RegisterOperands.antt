@@ -42,8 +42,8 @@ use Rattle.seq_lower.proofs.RegisterFacts.{AreParts, form_of, only_type, is_regi
 register_alone : (d : Design) (fit : IsFit d) (k : ℕ) (md : Module) (at : slice_get d k ≡ Some md) (i : ℕ) (o : Op) (there : slice_get md.body i ≡ Some o) (r : Register)
     → clocked_register o ≡ Some r → HaveNoFurther i md.body
 register_alone d fit k md at i o there r clocked y in_body q here n is =
-    let place = position_of_In y md.body in_body in
-    let some : is_some (type_in md.ports md.body (result i (suc n))) ≡ true = ap (λ x. is_some (type_in md.ports md.body x)) (sym is) ∙ operand_there d fit k md at place.0 y q place.1 here in
+    let position = position_of_In y md.body in_body in
+    let some : is_some (type_in md.ports md.body (result i (suc n))) ≡ true = ap (λ x. is_some (type_in md.ports md.body x)) (sym is) ∙ operand_there d fit k md at position.0 y q position.1 here in
     let none : type_in md.ports md.body (result i (suc n)) ≡ None =
     ap (λ x. option_and_then (λ (z : Op). result_type z (suc n)) x) there
     ∙ ap (λ (rs : List OpResult). option_map (λ (x : OpResult). x.type) (slice_get rs (suc n))) (is_register_of d fit k md at i o there r clocked).results in

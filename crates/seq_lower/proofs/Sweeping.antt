@@ -111,21 +111,21 @@ module _ (first body : Body) (op : OpId) (way : IsOnWay first body (Some op)) wh
   split : drop way.position (ids_of body) ≡ op.index ∷ drop (suc way.position) (ids_of body)
   split = split_at (ids_of body) way.position op way.at_is
 
-  place : position_in body op ≡ way.position
-  place = position_is body op ∙ position_at op.index (ids_of body) way.position (drop (suc way.position) (ids_of body)) (ids_once body op.index) split
+  stands : position_in body op ≡ way.position
+  stands = position_is body op ∙ position_at op.index (ids_of body) way.position (drop (suc way.position) (ids_of body)) (ids_once body op.index) split
 
   pub has_op : HasOp body op
   has_op = let more = times_after op.index (ids_of body) way.position (drop (suc way.position) (ids_of body)) split in times_contained (ids_of body) op.index more
 
   module _ (after : Body) (next : Option OpId) (is : next ≡ first_id (map op_id (drop (suc (position_of (ids_of body) op.index)) (ids_of body)))) (one : IsLoweredIn body after op) where
     ops_here : body_ops after ≡ lowered_at way.position (body_ops body)
-    ops_here = one.ops ∙ ap (λ n. lowered_at n (body_ops body)) place
+    ops_here = one.ops ∙ ap (λ n. lowered_at n (body_ops body)) stands
 
     rest_here : drop (next_position way.position (body_ops body)) (ids_of after) ≡ drop (suc way.position) (ids_of body)
-    rest_here = subst (λ n. drop (next_position n (body_ops body)) (ids_of after) ≡ drop (suc n) (ids_of body)) place one.rest
+    rest_here = subst (λ n. drop (next_position n (body_ops body)) (ids_of after) ≡ drop (suc n) (ids_of body)) stands one.rest
 
     next_here : next ≡ first_id (map op_id (drop (next_position way.position (body_ops body)) (ids_of after)))
-    next_here = is ∙ ap (λ n. first_id (map op_id (drop (suc n) (ids_of body)))) (sym (position_is body op) ∙ place) ∙ ap (λ ids. first_id (map op_id ids)) (sym rest_here)
+    next_here = is ∙ ap (λ n. first_id (map op_id (drop (suc n) (ids_of body)))) (sym (position_is body op) ∙ stands) ∙ ap (λ ids. first_id (map op_id ids)) (sym rest_here)
 
     leads_here : Lowers (body_ops first) (body_ops after)
     leads_here = record { count = suc way.leads.count; leads = (body_ops body, way.leads.leads, (way.position, ops_here)) }

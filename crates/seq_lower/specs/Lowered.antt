@@ -32,7 +32,7 @@ plain_kind kind = kind
 abbrev pub plain_register : Op → Ref → Ref → Op
 plain_register o next clock = record o { kind = plain_kind o.kind; operands = next ∷ clock ∷ [] }
 
--- the mux that gives one of two values of a register's type, at the place of the register in the source
+-- the mux that gives one of two values of a register's type, at the position of the register in the source
 abbrev pub mux_for : Op → Ref → Ref → Ref → Op
 mux_for o condition high low = record {
   kind = mux;

@@ -12,7 +12,7 @@ abbrev pub is_clocked_kind : Kind → Bool
 is_clocked_kind (register f r) = true
 is_clocked_kind _ = false
 
--- a mux of a register's type, at its place in the source, but for its operands
+-- a mux of a register's type, at its location in the source, but for its operands
 abbrev pub mux_parts : OpParts → OpParts
 mux_parts p = record {
   kind = mux;

@@ -44,7 +44,7 @@ new_with b new vs = record (plain_op (new_parts new)) { operands = map (value_re
 pub record IsPutBefore (before after : Body) (op id : OpId) (o : Op) (n : ℕ) : Type 0 where
   pub ops : body_ops after ≡ insert_op (position_in before op) o (body_ops before)
   pub ids : ids_of after ≡ insert (ids_of before) (position_in before op) id.index
-  pub place : position_in after op ≡ suc (position_in before op)
+  pub position : position_in after op ≡ suc (position_in before op)
   pub ready : IsReady after op
   pub may : (v : Value) → MayBeOperand before op v → MayBeOperand after op v
   pub values : (v : Value) → MayBeOperand before op v → value_ref after v ≡ up_ref (position_in before op) (value_ref before v)

@@ -43,7 +43,7 @@ pub fn plain_operands(alloc: Global, next: Value, clock: Value) -> SmallVec<Valu
     SmallVec::from_buf_and_len(alloc, values, 2)
 }
 
-/// A `comb.mux` of the type of a register, at its place in the source. The error comes only when out of memory.
+/// A `comb.mux` of the type of a register, at its location in the source. The error comes only when out of memory.
 pub fn new_mux(alloc: Global, register: &Op<'_>) -> Result<NewOp, AllocError>
     ensures parts { IfOk result (λ new. new_parts new ≡ mux_parts (read_parts register.now)) }
 {

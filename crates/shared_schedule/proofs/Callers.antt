@@ -43,7 +43,7 @@ edge_times-append (x ∷ xs) ys a b =
 edge_times-last : (xs : List (ℕ × ℕ)) (c i a b : ℕ) → edge_times (xs ++ (c, i) ∷ []) a b ≡ edge_times xs a b + one_if ((a == c) && (b == i))
 edge_times-last xs c i a b = edge_times-append xs ((c, i) ∷ []) a b ∙ ap (λ n. edge_times xs a b + n) (let e : one_if ((a == c) && (b == i)) + 0 ≡ one_if ((a == c) && (b == i)) = omega arith in e)
 
--- the places below i, and then that of i as well
+-- the positions below i, and then that of i as well
 one-more : (x q : Bool) (b i : ℕ) (here : Bool) → (b ≡ i → here ≡ q) → one_if (x && (nat_lt b i && q)) + one_if (x && ((b == i) && here)) ≡ one_if (x && (nat_lt b (i + 1) && q))
 one-more false q b i here same = refl
 one-more true q b i here same = by_order (grind arith)
@@ -109,6 +109,6 @@ callers-all callees n m a b is = by_order (grind arith)
     by_order (inl below) = ap (λ z. z && goes_from callees m a b) (lt-ltb a n below)
     by_order (inr past) =
         let none : callees_of callees a ≡ [] = get_or-past callees a [] (omega arith) in
-        let no_place : nat_lt b (length (callees_of callees a)) ≡ false = le-ltb b (length (callees_of callees a)) (let z : length (callees_of callees a) ≡ 0 = ap length none in omega arith) in
-        let fails : goes_from callees m a b ≡ false = ap (λ z. z && (callee callees a b == m)) no_place in
+        let no_position : nat_lt b (length (callees_of callees a)) ≡ false = le-ltb b (length (callees_of callees a)) (let z : length (callees_of callees a) ≡ 0 = ap length none in omega arith) in
+        let fails : goes_from callees m a b ≡ false = ap (λ z. z && (callee callees a b == m)) no_position in
         ap (λ z. z && goes_from callees m a b) (le-ltb a n past) ∙ sym fails

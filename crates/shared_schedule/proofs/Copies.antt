@@ -15,7 +15,7 @@ module _ {B : Type 0} where
     where
       go : ((i < length xs) × (slice_get xs i ≡ Some x)) ⊎ ((i ≡ length xs) × (o ≡ x)) → copied (k i) x
       go (inl (within, before)) = each i x before
-      go (inr (place, same)) = subst (copied (k i)) same (subst (λ j. copied (k j) o) (sym (place ∙ many)) here)
+      go (inr (position, same)) = subst (copied (k i)) same (subst (λ j. copied (k j) o) (sym (position ∙ many)) here)
 
   pub one-more : (xs ys : List (Option B)) (o : Option B) (n : ℕ) → length xs ≡ n → ys ≡ xs ++ o ∷ [] → length ys ≡ n + 1
   one-more xs ys o n many is = ap length is ∙ length-append xs (o ∷ []) ∙ ap (λ j. j + 1) many

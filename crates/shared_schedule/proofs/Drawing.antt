@@ -22,7 +22,7 @@ use Rattle.shared_schedule.specs.declared.view.View.{View}
 use Rattle.shared_schedule.specs.Views.{callees_in, hold_of, Tells}
 use Rattle.shared_schedule.specs.Rule.{BodyFits, Shows, Rule}
 use Rattle.shared_schedule.specs.Plays.{drawn, Draws}
-use Rattle.shared_schedule.proofs.Lookups.{place-lt}
+use Rattle.shared_schedule.proofs.Lookups.{position-lt}
 use Rattle.shared_schedule.proofs.Staying.{Quiet, tells_still, tells_of, told_by, body_still, edge_still, goes}
 use Rattle.shared_schedule.proofs.Stages.{owed-other, quiet-stage, tells-owed}
 
@@ -65,7 +65,7 @@ module _ {P B : Type 0} (first finished : P → ℕ → B → Type 0) (copied : 
 
   -- the worker is there
   pub there-now : (plan : Plan P) (t : table.State (Slot B) (View P)) (s : State) (w : ℕ) (v : View P) → Shows first finished copied plan t s → v.plan ≡ Some plan → get_elem? t.views w ≡ some v → IsThere s w
-  there-now plan t s w v shows mine at = ((let below : w < length t.views = place-lt t.views w v at in omega (arith, shows.come)), (tells-now plan t s w v shows mine at).here)
+  there-now plan t s w v shows mine at = ((let below : w < length t.views = position-lt t.views w v at in omega (arith, shows.come)), (tells-now plan t s w v shows mine at).here)
 
   pub draws : (plan : Plan P) (slots w : ℕ) (me : Me (Slot B) (View P)) → me.0.plan ≡ Some plan → me.0.passed ≡ false → me.0.out ≡ Nowhere
       → Allows (Rule first finished copied plan) slots w me 0 (λ n. (n + 1) % 18446744073709551616) (Draws first copied (step slots 0 1 0 none) me)

@@ -25,10 +25,10 @@ use Rattle.shared_schedule.proofs.Joining.{IsRest, free-of, done-over}
 
 module _ {A : Type 0} (f : A → ℕ) where
   -- an element counts in the sum
-  place-le : (xs : List A) (k : ℕ) (x : A) → get_elem? xs k ≡ some x → f x ≤ sum_by f xs
-  place-le [] k x at = absurd (some-ne-none x (sym at))
-  place-le (y ∷ ys) zero x at = let same : f y ≡ f x = ap f (some-injective y x at) in omega (arith, sum_by-cons f y ys)
-  place-le (y ∷ ys) (suc k) x at = let rest : f x ≤ sum_by f ys = place-le ys k x at in omega (arith, sum_by-cons f y ys)
+  position-le : (xs : List A) (k : ℕ) (x : A) → get_elem? xs k ≡ some x → f x ≤ sum_by f xs
+  position-le [] k x at = absurd (some-ne-none x (sym at))
+  position-le (y ∷ ys) zero x at = let same : f y ≡ f x = ap f (some-injective y x at) in omega (arith, sum_by-cons f y ys)
+  position-le (y ∷ ys) (suc k) x at = let rest : f x ≤ sum_by f ys = position-le ys k x at in omega (arith, sum_by-cons f y ys)
 
   -- where the first element counts for all, the others count for nothing
   pub first-alone : (xs : List A) (v : A) (k : ℕ) (x : A) → get_elem? xs 0 ≡ some v → sum_by f xs ≡ f v → get_elem? xs k ≡ some x → k ≢ 0 → f x ≡ 0
@@ -36,14 +36,14 @@ module _ {A : Type 0} (f : A → ℕ) where
   first-alone (y ∷ ys) v zero x first sum at ne = absurd (ne refl)
   first-alone (y ∷ ys) v (suc k) x first sum at ne =
       let same : f y ≡ f v = ap f (some-injective y v first) in
-      let rest : f x ≤ sum_by f ys = place-le ys k x at in
+      let rest : f x ≤ sum_by f ys = position-le ys k x at in
       omega (arith, sum_by-cons f y ys)
 
--- a place within a list has something
-at-place : {A : Type 0} (xs : List A) (k : ℕ) → k < length xs → (x : A) × (get_elem? xs k ≡ some x)
-at-place [] k below = absurd (omega arith)
-at-place (x ∷ xs) zero below = (x, refl)
-at-place (x ∷ xs) (suc k) below = at-place xs k (omega arith)
+-- a position within a list has something
+at-position : {A : Type 0} (xs : List A) (k : ℕ) → k < length xs → (x : A) × (get_elem? xs k ≡ some x)
+at-position [] k below = absurd (omega arith)
+at-position (x ∷ xs) zero below = (x, refl)
+at-position (x ∷ xs) (suc k) below = at-position xs k (omega arith)
 
 -- a busy worker, or one that did a module, holds it
 busy-held : (w : ℕ) (x : Stage) → is_busy_with w x ≡ true → is_held_by w x ≡ true
@@ -99,7 +99,7 @@ module _ {P B : Type 0} (first finished : P → ℕ → B → Type 0) (copied : 
 
           by_worker : (u ≡ 0) ⊎ (u ≢ 0) → u ≡ 0
           by_worker (inl e) = e
-          by_worker (inr ne) = let x = at-place t.views u (let come : u < s.workers = here.0 in omega (arith, shows.come)) in absurd (true≢false (sym (other u x.0 ne x.1).0 ∙ here.1))
+          by_worker (inr ne) = let x = at-position t.views u (let come : u < s.workers = here.0 in omega (arith, shows.come)) in absurd (true≢false (sym (other u x.0 ne x.1).0 ∙ here.1))
 
       rest : (k : ℕ) → IsRest 0 (s.stage k)
       rest k h is = ended.over k h (tells.moves k ∙ is)

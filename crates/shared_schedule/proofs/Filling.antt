@@ -12,7 +12,7 @@ use Rattle.shared_schedule.specs.Plays.{cleared}
 use Rattle.shared_schedule.specs.declared.view.TableSlot.TheVariants.{Nowhere}
 use Rattle.shared_schedule.proofs.Lookups.{edge-here, edge-other}
 use Rattle.shared_schedule.proofs.Staying.{Quiet}
-use Rattle.shared_schedule.proofs.Places.{edge-cases, put_edge-here, put_edge-other}
+use Rattle.shared_schedule.proofs.Positions.{edge-cases, put_edge-here, put_edge-other}
 
 -- another worker, to which the edge was and is the same
 pub quiet-edge : (s : State) (c i : ℕ) (e : Edge) (u : ℕ)

@@ -16,7 +16,7 @@ use Rattle.shared_schedule.specs.declared.view.View.{View}
 use Rattle.shared_schedule.specs.Views.{callees_in, new_view, ToldBy}
 use Rattle.shared_schedule.specs.Rule.{edge_slot, slots_of, home, Rule}
 use Rattle.shared_schedule.specs.Opened.{AreFirstWords, AreFirstSlots}
-use Rattle.shared_schedule.proofs.Places.{edge_slot-lt}
+use Rattle.shared_schedule.proofs.Positions.{edge_slot-lt}
 
 module _ {P B : Type 0} (first finished : P → ℕ → B → Type 0) (copied : P → ℕ → Option B → Type 0) where
   pub opens : (plan : Plan P) (words : List ℕ) (slots : List (Slot B)) → AreCallees (callees_in plan) → AreFirstWords (callees_in plan) words → AreFirstSlots first (callees_in plan) plan.pieces slots
@@ -69,10 +69,10 @@ module _ {A : Type 0} where
   bare-at (y ∷ ys) n x zero past below = absurd (omega arith)
   bare-at (y ∷ ys) n x (suc k) past below = bare-at ys n x k (omega arith) (omega arith)
 
-  has-place : (xs : List A) (k : ℕ) → k < length xs → (x : A) × (slice_get xs k ≡ Some x) × (get_elem? xs k ≡ some x)
-  has-place [] k below = absurd (omega arith)
-  has-place (x ∷ xs) zero below = (x, refl, refl)
-  has-place (x ∷ xs) (suc k) below = has-place xs k (omega arith)
+  has-position : (xs : List A) (k : ℕ) → k < length xs → (x : A) × (slice_get xs k ≡ Some x) × (get_elem? xs k ≡ some x)
+  has-position [] k below = absurd (omega arith)
+  has-position (x ∷ xs) zero below = (x, refl, refl)
+  has-position (x ∷ xs) (suc k) below = has-position xs k (omega arith)
 
 -- the slots, from the bodies
 pub first-slots : {P B : Type 0} (first : P → ℕ → B → Type 0) (callees : List (List ℕ)) (p : P) (bodies : List B) (slots : List (Slot B)) (edges : ℕ) → slots ≡ map Stored bodies ++ replicate edges Bare
@@ -80,7 +80,7 @@ pub first-slots : {P B : Type 0} (first : P → ℕ → B → Type 0) (callees :
 first-slots {B = B} first callees p bodies slots edges is as_many all each = record {
   long = ap length is ∙ length-append (map Stored bodies) (replicate edges Bare) ∙ (let one : length (map Stored bodies)
       ≡ length bodies = length-map bodies Stored in let two : length (replicate {A = Slot B} edges Bare) ≡ edges = length-replicate edges Bare in omega arith);
-  stored = λ m within. let body = has-place bodies m (omega arith) in
+  stored = λ m within. let body = has-position bodies m (omega arith) in
       (body.0, ap (λ s. get_elem? s m) is ∙ at_longer (map Stored bodies) (replicate edges Bare) m (Stored body.0) (at_map Stored bodies m body.0 body.2), each m body.0 body.1);
   bare = λ k past below. ap (λ s. get_elem? s k) is ∙ bare-at (map Stored bodies) edges Bare k (let one : length (map Stored bodies) ≡ length bodies = length-map bodies Stored in omega arith)
       (let one : length (map Stored bodies) ≡ length bodies = length-map bodies Stored in omega arith);
@@ -94,7 +94,7 @@ if-ok (Err e) step holds = tt
 pub made-same : {B : Type 0} {b c : B} → Made b ≡ Made c → b ≡ c
 made-same same = cc
 
--- what stands at a place of a list with one more element
+-- what stands at a position of a list with one more element
 pub get-last : {B : Type 0} (xs : List B) (x y : B) (k : ℕ) → slice_get (xs ++ x ∷ []) k ≡ Some y → ((k < length xs) × (slice_get xs k ≡ Some y)) ⊎ ((k ≡ length xs) × (x ≡ y))
 get-last [] x y zero at = inr (refl, cc)
 get-last [] x y (suc k) at = absurd (cc)
@@ -117,8 +117,8 @@ module _ {A B E : Type 0} (f : A → List B) (slot : Slot B) (n : ℕ) where
       → IfOk after (λ v. (k : ℕ) (b : B) → slice_get (f v) k ≡ Some b → (k < n + 1) × (get_elem? items k ≡ some (Made b)))
   pushed-bodies items before (Err e) here pushed long each = tt
   pushed-bodies items (Err e) (Ok v) here pushed long each = absurd pushed
-  pushed-bodies items (Ok old) (Ok v) here pushed long each = λ k b at. by_place k b (get-last (f old) pushed.0 b k (ap (λ l. slice_get l k) (sym pushed.2) ∙ at))
+  pushed-bodies items (Ok old) (Ok v) here pushed long each = λ k b at. by_position k b (get-last (f old) pushed.0 b k (ap (λ l. slice_get l k) (sym pushed.2) ∙ at))
     where
-      by_place : (k : ℕ) (b : B) → ((k < length (f old)) × (slice_get (f old) k ≡ Some b)) ⊎ ((k ≡ length (f old)) × (pushed.0 ≡ b)) → (k < n + 1) × (get_elem? items k ≡ some (Made b))
-      by_place k b (inl (below, is)) = let e = each k b is in (omega (arith, long), e.1)
-      by_place k b (inr (last, is)) = (omega (arith, long), ap (get_elem? items) (last ∙ long) ∙ here ∙ ap some (pushed.1 ∙ ap (λ (z : B). Made z) is))
+      by_position : (k : ℕ) (b : B) → ((k < length (f old)) × (slice_get (f old) k ≡ Some b)) ⊎ ((k ≡ length (f old)) × (pushed.0 ≡ b)) → (k < n + 1) × (get_elem? items k ≡ some (Made b))
+      by_position k b (inl (below, is)) = let e = each k b is in (omega (arith, long), e.1)
+      by_position k b (inr (last, is)) = (omega (arith, long), ap (get_elem? items) (last ∙ long) ∙ here ∙ ap some (pushed.1 ∙ ap (λ (z : B). Made z) is))

@@ -23,11 +23,11 @@ use Rattle.shared_schedule.specs.declared.view.View.{View}
 use Rattle.shared_schedule.specs.Views.{hold_of, is_held, is_over, Tells, ToldBy, new_view}
 use Rattle.shared_schedule.specs.Rule.{handles_edge, handles_body, Lies, home, out, BodyFits, EdgeFits, Rule}
 use Rattle.shared_schedule.specs.Plays.{split_view}
-use Rattle.shared_schedule.proofs.Lookups.{place-lt, sum-changed}
+use Rattle.shared_schedule.proofs.Lookups.{position-lt, sum-changed}
 use Rattle.shared_schedule.proofs.Staying.{told_by, told_still, lies_still}
 use Rattle.shared_schedule.proofs.Drawing.{nowhere-body, nowhere-edge, tells-now, there-now}
 
--- what stands at a place of a list with one more element stood there before, or is that element
+-- what stands at a position of a list with one more element stood there before, or is that element
 at-end : {A : Type 0} (xs : List A) (x y : A) (k : ℕ) → get_elem? (xs ++ x ∷ []) k ≡ some y → ((k < length xs) × (get_elem? xs k ≡ some y)) ⊎ ((x ≡ y) × (k ≡ length xs))
 at-end [] x y zero at = inr (some-injective x y at, refl)
 at-end [] x y (suc k) at = absurd (some-ne-none y (sym at))
@@ -39,8 +39,8 @@ at-end {A = A} (z ∷ zs) x y (suc k) at = further (at-end zs x y k at)
     further (inr (is, last)) = inr (is, ap suc last)
 
 -- a slot lies where it lay, where a worker comes
-lies_longer : {S P : Type 0} {fits : S → Type 0} {handles : ℕ → Bool} {place : TableSlot} {homes : List (mathlib.Core.Option.Option S)} {k : ℕ} {views : List (View P)} (x : View P)
-    → Lies fits handles place homes k views → Lies fits handles place homes k (views ++ x ∷ [])
+lies_longer : {S P : Type 0} {fits : S → Type 0} {handles : ℕ → Bool} {position : TableSlot} {homes : List (mathlib.Core.Option.Option S)} {k : ℕ} {views : List (View P)} (x : View P)
+    → Lies fits handles position homes k views → Lies fits handles position homes k (views ++ x ∷ [])
 lies_longer x (home y at fit) = home y at fit
 lies_longer {views = views} x (out at u v there is may) = out at u v (at_longer views (x ∷ []) u v there) is may
 
@@ -76,7 +76,7 @@ module _ {P B : Type 0} (first finished : P → ℕ → B → Type 0) (copied : 
           let sum : sum_by (λ z. z.shares) (set t.views 0 (split_view v)) + v.shares ≡ sum_by (λ z. z.shares) t.views + v.shares = sum-changed (λ (z : View P). z.shares) t.views 0 v (split_view v) at in
           let old : sum_by (λ z. z.shares) t.views ≡ s.workers = shows.shares in
           omega arith;
-      told = λ u x here. by_place u x (at-end (set t.views 0 (split_view v)) (new_view v.plan) x u here);
+      told = λ u x here. by_position u x (at-end (set t.views 0 (split_view v)) (new_view v.plan) x u here);
       homes = shows.homes;
       bodies = λ m within. lies_longer (new_view v.plan) (lies_still (BodyFits first finished copied plan.pieces m (s.stage m)) (handles_body s m) t.homes 0 v (split_view v)
           (shows.bodies m within) at (nowhere-body v m idle) (λ y fit. fit) refl (λ u ne may. may));
@@ -97,16 +97,16 @@ module _ {P B : Type 0} (first finished : P → ℕ → B → Type 0) (copied : 
       splits-room : s.splits < 63
       splits-room = omega (arith, tells.splits refl)
 
-      by_place : (u : ℕ) (x : View P) → ((u < length (set t.views 0 (split_view v))) × (get_elem? (set t.views 0 (split_view v)) u ≡ some x))
+      by_position : (u : ℕ) (x : View P) → ((u < length (set t.views 0 (split_view v))) × (get_elem? (set t.views 0 (split_view v)) u ≡ some x))
           ⊎ ((new_view v.plan ≡ x) × (u ≡ length (set t.views 0 (split_view v)))) → ToldBy plan (step s Split) u x x.plan
-      by_place u x (inl (below, here)) = by_worker (cases_eq u 0)
+      by_position u x (inl (below, here)) = by_worker (cases_eq u 0)
         where
           apart : u ≢ s.workers
           apart = λ same. omega (arith, length-set t.views 0 (split_view v), shows.come)
 
           by_worker : (u ≡ 0) ⊎ (u ≢ 0) → ToldBy plan (step s Split) u x x.plan
           by_worker (inl e) =
-              let is : split_view v ≡ x = some-injective (split_view v) x (sym (set_here t.views 0 (split_view v) (place-lt t.views 0 v at)) ∙ ap (get_elem? (set t.views 0 (split_view v))) (sym e) ∙ here) in
+              let is : split_view v ≡ x = some-injective (split_view v) x (sym (set_here t.views 0 (split_view v) (position-lt t.views 0 v at)) ∙ ap (get_elem? (set t.views 0 (split_view v))) (sym e) ∙ here) in
               subst (λ n. ToldBy plan (step s Split) n x x.plan) (sym e) (subst (λ z. ToldBy plan (step s Split) 0 z z.plan) is (told_by plan plan (step s Split) 0 (split_view v) v.plan mine refl (record {
                 moves = tells.moves;
                 once = tells.once;
@@ -123,7 +123,7 @@ module _ {P B : Type 0} (first finished : P → ℕ → B → Type 0) (copied : 
           by_worker (inr ne) = told_still plan s (step s Split) u x x.plan refl
               (record { holds = λ k. refl; emptied = λ c i edge. refl; told = λ c i edge. refl; worker = put-other s.workers new_worker s.worker u apart; splits = λ first_one. absurd (ne first_one) })
               (shows.told u x (sym (set_else t.views 0 u (split_view v) ne) ∙ here))
-      by_place u x (inr (is, last)) =
+      by_position u x (inr (is, last)) =
           let number : u ≡ s.workers = last ∙ length-set t.views 0 (split_view v) ∙ shows.come in
           subst (λ n. ToldBy plan (step s Split) n x x.plan) (sym number) (subst (λ z. ToldBy plan (step s Split) s.workers z z.plan) is (told_by plan plan (step s Split) s.workers (new_view v.plan) v.plan mine refl (record {
             moves = λ m. sym (nothing m);

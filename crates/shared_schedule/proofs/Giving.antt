@@ -30,7 +30,7 @@ use Rattle.shared_schedule.specs.Plays.{moved, cleared, GivesBody, GivesEdge}
 use Rattle.shared_schedule.proofs.Staying.{Quiet, told_by, body_still, edge_still, goes}
 use Rattle.shared_schedule.proofs.Stages.{due-stage, begun-stage, owed-other, taken-other, done-other, quiet-stage, tells-taken, tells-done}
 use Rattle.shared_schedule.proofs.Drawing.{Next, tells-now}
-use Rattle.shared_schedule.proofs.Places.{edge_slot-past, edge_slot-apart, edge_slot-lt, edge-cases, set-read, put_edge-here, put_edge-other}
+use Rattle.shared_schedule.proofs.Positions.{edge_slot-past, edge_slot-apart, edge_slot-lt, edge-cases, set-read, put_edge-here, put_edge-other}
 use Rattle.shared_schedule.proofs.Filling.{quiet-edge, tells-cleared, full-fill}
 use Rattle.shared_schedule.proofs.Lending.{and-beside}
 
@@ -41,11 +41,11 @@ emptied-fill Full b is = absurd (false≢true is)
 emptied-fill Emptied b is = refl
 
 -- the slots of modules are among the slots
-pub module-place : (callees : List (List ℕ)) (n m : ℕ) → n ≡ slots_of callees → m < length callees → m < n
-module-place callees n m long within = omega arith
+pub module-position : (callees : List (List ℕ)) (n m : ℕ) → n ≡ slots_of callees → m < length callees → m < n
+module-position callees n m long within = omega arith
 
-pub edge-place : (callees : List (List ℕ)) (n c i : ℕ) → n ≡ slots_of callees → IsEdge callees c i → edge_slot callees c i < n
-edge-place callees n c i long at = let below : edge_slot callees c i < slots_of callees = edge_slot-lt callees c i at in omega arith
+pub edge-position : (callees : List (List ℕ)) (n c i : ℕ) → n ≡ slots_of callees → IsEdge callees c i → edge_slot callees c i < n
+edge-position callees n c i long at = let below : edge_slot callees c i < slots_of callees = edge_slot-lt callees c i at in omega arith
 
 module _ {P B : Type 0} (first finished : P → ℕ → B → Type 0) (copied : P → ℕ → Option B → Type 0) where
   -- the slot of a module is given back, and the module is at another stage
@@ -97,7 +97,7 @@ module _ {P B : Type 0} (first finished : P → ℕ → B → Type 0) (copied : 
           → Lies (BodyFits first finished copied plan.pieces k (put m x s.stage k)) (handles_body (record s { stage = put m x s.stage }) k) (Body k) (set t.homes m (some y)) k (set t.views w (moved me.0 m h))
       by_module k inside (inl e) =
           subst (λ n. Lies (BodyFits first finished copied plan.pieces n (put m x s.stage n)) (handles_body (record s { stage = put m x s.stage }) n) (Body n) (set t.homes m (some y)) n (set t.views w (moved me.0 m h))) (sym e)
-          (home y (set_here t.homes m (some y) (module-place s.callees (length t.homes) m shows.homes within)) (subst (λ z. BodyFits first finished copied plan.pieces m z y) (sym (put-here m x s.stage)) fit))
+          (home y (set_here t.homes m (some y) (module-position s.callees (length t.homes) m shows.homes within)) (subst (λ z. BodyFits first finished copied plan.pieces m z y) (sym (put-here m x s.stage)) fit))
       by_module k inside (inr ne) =
           body_still first finished copied plan t s after w me.0 (moved me.0 m h) shelf k shows inside at (λ is. let e : Body m ≡ Body k = sym lent ∙ is in ne (cc))
           (λ z old. subst (λ a. BodyFits first finished copied plan.pieces k a z) (sym (put-other m x s.stage k ne)) old) (set_else t.homes m k (some y) ne) quiet
@@ -203,7 +203,7 @@ module _ {P B : Type 0} (first finished : P → ℕ → B → Type 0) (copied : 
           (subst (λ k. Lies (EdgeFits first finished copied plan.pieces (callee s.callees c k) (put_edge c i (record (s.edge c i) { fill = Emptied }) s.edge c k).fill)
           (handles_edge (record s { edge = put_edge c i (record (s.edge c i) { fill = Emptied }) s.edge }) c k) (Edge c k)
           (set t.homes (edge_slot s.callees c i) (some Cleared)) (edge_slot s.callees c k) (set t.views w (cleared me.0 c i))) (sym e2)
-          (home Cleared (set_here t.homes (edge_slot s.callees c i) (some Cleared) (edge-place s.callees (length t.homes) c i shows.homes here))
+          (home Cleared (set_here t.homes (edge_slot s.callees c i) (some Cleared) (edge-position s.callees (length t.homes) c i shows.homes here))
           (subst (λ z. EdgeFits first finished copied plan.pieces (callee s.callees c i) z.fill Cleared) (sym (put_edge-here c i (record (s.edge c i) { fill = Emptied }) s.edge)) refl)))
       by_edge a b there (inr ne) =
           edge_still first finished copied plan t s after w me.0 (cleared me.0 c i) shelf a b shows there at (λ is. let same : Edge c i ≡ Edge a b = sym lent ∙ is in ne (let x : a ≡ c = cc in x) (let x : b ≡ i = cc in x))

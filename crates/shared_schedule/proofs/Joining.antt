@@ -23,7 +23,7 @@ use Rattle.shared_schedule.specs.declared.view.View.{View}
 use Rattle.shared_schedule.specs.Views.{callees_in, last_move, hold_of, is_held, is_over, done_times, has_edge, Tells, ToldBy, spent_view, both_views}
 use Rattle.shared_schedule.specs.Rule.{handles_edge, handles_body, BodyFits, EdgeFits, Rule}
 use Rattle.shared_schedule.specs.Seats.{IsFinished}
-use Rattle.shared_schedule.proofs.Lookups.{place-lt, sum-changed}
+use Rattle.shared_schedule.proofs.Lookups.{position-lt, sum-changed}
 use Rattle.shared_schedule.proofs.Staying.{told_by, told_still, lies_still}
 use Rattle.shared_schedule.proofs.Stages.{done-other, done-own}
 use Rattle.shared_schedule.proofs.Drawing.{nowhere-body, nowhere-edge, tells-now, there-now}
@@ -240,12 +240,12 @@ module _ {P B : Type 0} (first finished : P → ℕ → B → Type 0) (copied : 
 
       by_worker : (u : ℕ) (x : View P) → get_elem? (set (set t.views kept (both_views v g)) gone spent_view) u ≡ some x → (u ≡ gone) ⊎ (u ≢ gone) → (u ≡ kept) ⊎ (u ≢ kept) → ToldBy plan (step s (Join kept gone)) u x x.plan
       by_worker u x there (inl e) which =
-          let is : spent_view ≡ x = some-injective spent_view x (sym (set_here (set t.views kept (both_views v g)) gone spent_view (place-lt (set t.views kept (both_views v g)) gone g at'))
+          let is : spent_view ≡ x = some-injective spent_view x (sym (set_here (set t.views kept (both_views v g)) gone spent_view (position-lt (set t.views kept (both_views v g)) gone g at'))
           ∙ ap (get_elem? (set (set t.views kept (both_views v g)) gone spent_view)) (sym e) ∙ there) in
           subst (λ n. ToldBy plan (step s (Join kept gone)) n x x.plan) (sym e) (subst (λ (z : View P). ToldBy plan (step s (Join kept gone)) gone z z.plan) is
           (ap (λ y. y.gone) (put-here gone (record (s.worker gone) { gone = true }) s.worker), refl))
       by_worker u x there (inr other) (inl e) =
-          let is : both_views v g ≡ x = some-injective (both_views v g) x (sym (set_here t.views kept (both_views v g) (place-lt t.views kept v at)) ∙ sym (set_else (set t.views kept (both_views v g)) gone kept spent_view apart)
+          let is : both_views v g ≡ x = some-injective (both_views v g) x (sym (set_here t.views kept (both_views v g) (position-lt t.views kept v at)) ∙ sym (set_else (set t.views kept (both_views v g)) gone kept spent_view apart)
           ∙ ap (get_elem? (set (set t.views kept (both_views v g)) gone spent_view)) (sym e) ∙ there) in
           subst (λ n. ToldBy plan (step s (Join kept gone)) n x x.plan) (sym e) (subst (λ z. ToldBy plan (step s (Join kept gone)) kept z z.plan) is
           (told_by plan plan (step s (Join kept gone)) kept (both_views v g) v.plan mine refl (record {

@@ -25,11 +25,11 @@ use Rattle.shared_schedule.specs.declared.view.View.{View}
 use Rattle.shared_schedule.specs.Views.{callees_in, last_move, hold_of, is_held, is_over, has_edge, Tells}
 use Rattle.shared_schedule.specs.Rule.{edge_slot, slots_of, handles_edge, handles_body, Lies, home, out, BodyFits, EdgeFits, Shows, Rule}
 use Rattle.shared_schedule.specs.Plays.{lent_body, lent_edge, BodyIs, LendsBody, LendsCopy, LendsBare}
-use Rattle.shared_schedule.proofs.Lookups.{place-lt}
+use Rattle.shared_schedule.proofs.Lookups.{position-lt}
 use Rattle.shared_schedule.proofs.Staying.{Quiet, told_by, body_still, edge_still, Goes, goes}
 use Rattle.shared_schedule.proofs.Stages.{due-stage, begun-stage, begun-stage}
 use Rattle.shared_schedule.proofs.Drawing.{nowhere-body, nowhere-edge, tells-now}
-use Rattle.shared_schedule.proofs.Places.{edge_slot-past, edge_slot-apart, edge_slot-lt, edge-cases, set-read}
+use Rattle.shared_schedule.proofs.Positions.{edge_slot-past, edge_slot-apart, edge_slot-lt, edge-cases, set-read}
 
 -- a test of the holder
 held-by : (n v : ℕ) (h : Hold) → is_held (cond (n == v) (Some h) None) ≡ true → n ≡ v
@@ -71,8 +71,8 @@ pub quiet-same : (s : State) (u : ℕ) → Quiet s s u
 quiet-same s u = record { holds = λ k. refl; emptied = λ c i at. refl; told = λ c i at. refl; worker = refl; splits = λ first. refl }
 
 -- a slot that nobody else may have is at home
-at-home : {S P : Type 0} {fits : S → Type 0} {handles : ℕ → Bool} {place : TableSlot} {homes : List (mathlib.Core.Option.Option S)} {k : ℕ} {views : List (View P)}
-    (w : ℕ) (v : View P) → Lies fits handles place homes k views → get_elem? views w ≡ some v → (v.out ≡ place → ⊥) → ((u : ℕ) → handles u ≡ true → u ≡ w)
+at-home : {S P : Type 0} {fits : S → Type 0} {handles : ℕ → Bool} {position : TableSlot} {homes : List (mathlib.Core.Option.Option S)} {k : ℕ} {views : List (View P)}
+    (w : ℕ) (v : View P) → Lies fits handles position homes k views → get_elem? views w ≡ some v → (v.out ≡ position → ⊥) → ((u : ℕ) → handles u ≡ true → u ≡ w)
     → (y : S) × (get_elem? homes k ≡ some (some y)) × fits y
 at-home w v (home y at fit) here apart only = (y, at, fit)
 at-home {views = views} w v (out at u x there is may) here apart only =
@@ -134,7 +134,7 @@ module _ {P B : Type 0} (first finished : P → ℕ → B → Type 0) (copied : 
           → Lies (BodyFits first finished copied plan.pieces k (s.stage k)) (handles_body s k) (Body k) (set t.homes m none) k (set t.views w (lent_body me.0 m))
       by_module k inside (inl e) =
           subst (λ n. Lies (BodyFits first finished copied plan.pieces n (s.stage n)) (handles_body s n) (Body n) (set t.homes m none) n (set t.views w (lent_body me.0 m))) (sym e)
-          (out (set_here t.homes m none (place-lt t.homes m (some slot.0) slot.1)) w (lent_body me.0 m) (set_here t.views w (lent_body me.0 m) (place-lt t.views w me.0 at)) refl held-now)
+          (out (set_here t.homes m none (position-lt t.homes m (some slot.0) slot.1)) w (lent_body me.0 m) (set_here t.views w (lent_body me.0 m) (position-lt t.views w me.0 at)) refl held-now)
       by_module k inside (inr ne) =
           body_still first finished copied plan t s s w me.0 (lent_body me.0 m) (set t.homes m none) k shows inside at (nowhere-body me.0 k idle) (λ y fit. fit) (set_else t.homes m k none ne) (λ u apart. quiet-same s u)
 
@@ -180,7 +180,7 @@ module _ {P B : Type 0} (first finished : P → ℕ → B → Type 0) (copied : 
           (subst (λ k. Lies (EdgeFits first finished copied plan.pieces (callee s.callees c k) (s.edge c k).fill) (handles_edge s c k) (Edge c k) (set t.homes (edge_slot s.callees c i) none)
           (edge_slot s.callees c k) (set t.views w (lent_edge v c i))) (sym e2)
           (out (set_here t.homes (edge_slot s.callees c i) none (let below : edge_slot s.callees c i < slots_of s.callees = edge_slot-lt s.callees c i edge in omega (arith, shows.homes))) w
-          (lent_edge v c i) (set_here t.views w (lent_edge v c i) (place-lt t.views w v at)) refl may))
+          (lent_edge v c i) (set_here t.views w (lent_edge v c i) (position-lt t.views w v at)) refl may))
       by_edge a b there (inr ne) =
           edge_still first finished copied plan t s s w v (lent_edge v c i) (set t.homes (edge_slot s.callees c i) none) a b shows there at (nowhere-edge v a b idle) refl
           (set_else t.homes (edge_slot s.callees c i) (edge_slot s.callees a b) none (edge_slot-apart s.callees c i a b edge there ne)) (λ u apart. quiet-same s u)

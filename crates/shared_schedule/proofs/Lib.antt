@@ -2,7 +2,7 @@ pub mod Lookups
 pub mod Staying
 pub mod Stages
 pub mod Drawing
-pub mod Places
+pub mod Positions
 pub mod Filling
 pub mod Lending
 pub mod Giving

@@ -18,7 +18,7 @@ use Rattle.shared_schedule.specs.Rule.{Shows, Rule}
 use Rattle.shared_schedule.specs.Seats.{Agrees}
 use Rattle.shared_schedule.specs.Plays.{Looks}
 use Rattle.shared_schedule.proofs.Stages.{due-stage}
-use Rattle.shared_schedule.proofs.Places.{set-read}
+use Rattle.shared_schedule.proofs.Positions.{set-read}
 use Rattle.shared_schedule.proofs.Drawing.{tells-now}
 
 both-true : (a b : Bool) → (a && b) ≡ true → (a ≡ true) × (b ≡ true)

@@ -1,4 +1,4 @@
--- Lists that are read by their places, and lists of moves and of edges.
+-- Lists that are read by their positions, and lists of moves and of edges.
 use Rattle.std.proofs.Common.{◌≡◌, ℕ, zero, suc, ◌+◌, ◌<◌, Bool, true, false, cond, ◌&&◌, ◌||◌, List, [], ◌∷◌, length, get_or, set, Some, sum_by, refl, sym, ap, ◌∙◌, arith}
 use Rattle.std.specs.Prelude.{◌==◌}
 use Rattle.std.proofs.lemmas.Bool.{cond-true, cond-false, eqb-true, eq-eqb}
@@ -11,15 +11,15 @@ use Rattle.shared_schedule.specs.declared.view.Hold.{Hold}
 use Rattle.shared_schedule.specs.Views.{last_move, hold_of, is_over, done_times, has_edge}
 
 module _ {A : Type 0} where
-  -- what stands at a place stands below the length
-  pub place-lt : (xs : List A) (k : ℕ) (x : A) → get_elem? xs k ≡ some x → k < length xs
-  place-lt [] k x at = absurd (some-ne-none x (sym at))
-  place-lt (y ∷ ys) zero x at = omega arith
-  place-lt (y ∷ ys) (suc k) x at = let h : k < length ys = place-lt ys k x at in omega arith
+  -- what stands at a position stands below the length
+  pub position-lt : (xs : List A) (k : ℕ) (x : A) → get_elem? xs k ≡ some x → k < length xs
+  position-lt [] k x at = absurd (some-ne-none x (sym at))
+  position-lt (y ∷ ys) zero x at = omega arith
+  position-lt (y ∷ ys) (suc k) x at = let h : k < length ys = position-lt ys k x at in omega arith
 
   -- a sum over a list after one of its elements has changed
   pub sum-changed : (f : A → ℕ) (xs : List A) (k : ℕ) (x y : A) → get_elem? xs k ≡ some x → sum_by f (set xs k y) + f x ≡ sum_by f xs + f y
-  sum-changed f xs k x y at = ap (λ z. sum_by f (set xs k y) + f z) (sym (read xs k x at)) ∙ sum_by-set f xs k y x (place-lt xs k x at)
+  sum-changed f xs k x y at = ap (λ z. sum_by f (set xs k y) + f z) (sym (read xs k x at)) ∙ sum_by-set f xs k y x (position-lt xs k x at)
     where
       read : (xs : List A) (k : ℕ) (x : A) → get_elem? xs k ≡ some x → get_or xs k x ≡ x
       read [] k x at = refl

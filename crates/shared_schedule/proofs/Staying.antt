@@ -17,7 +17,7 @@ use Rattle.shared_schedule.specs.declared.view.TableSlot.TheVariants.{Body, Edge
 use Rattle.shared_schedule.specs.declared.view.View.{View}
 use Rattle.shared_schedule.specs.Views.{hold_of, is_held, is_over, Tells, ToldBy}
 use Rattle.shared_schedule.specs.Rule.{edge_slot, slots_of, handles_edge, handles_body, Lies, home, out, BodyFits, EdgeFits, Shows}
-use Rattle.shared_schedule.proofs.Lookups.{place-lt, sum-changed}
+use Rattle.shared_schedule.proofs.Lookups.{position-lt, sum-changed}
 
 -- what this worker knows is the same in another state
 pub record Quiet (s after : State) (u : ℕ) : Type 0 where
@@ -58,14 +58,14 @@ told_by plan mine s w v None is same tells = absurd (cc)
 told_by plan mine s w v (Some p) is same tells = (let e : p ≡ mine = cc in e ∙ same, tells)
 
 -- a slot lies where it lay, where a worker changes that has another slot out or none
-pub lies_still : {S P : Type 0} {fits : S → Type 0} {handles : ℕ → Bool} {place : TableSlot} {homes : List (mathlib.Core.Option.Option S)} {k : ℕ} {views : List (View P)}
+pub lies_still : {S P : Type 0} {fits : S → Type 0} {handles : ℕ → Bool} {position : TableSlot} {homes : List (mathlib.Core.Option.Option S)} {k : ℕ} {views : List (View P)}
     (fits' : S → Type 0) (handles' : ℕ → Bool) (homes' : List (mathlib.Core.Option.Option S)) (w : ℕ) (v v' : View P)
-    → Lies fits handles place homes k views → get_elem? views w ≡ some v → (v.out ≡ place → ⊥) → ((y : S) → fits y → fits' y) → get_elem? homes' k ≡ get_elem? homes k
-    → ((u : ℕ) → u ≢ w → handles u ≡ true → handles' u ≡ true) → Lies fits' handles' place homes' k (set views w v')
+    → Lies fits handles position homes k views → get_elem? views w ≡ some v → (v.out ≡ position → ⊥) → ((y : S) → fits y → fits' y) → get_elem? homes' k ≡ get_elem? homes k
+    → ((u : ℕ) → u ≢ w → handles u ≡ true → handles' u ≡ true) → Lies fits' handles' position homes' k (set views w v')
 lies_still fits' handles' homes' w v v' (home y at fit) here apart fits same keeps = home y (same ∙ at) (fits y fit)
-lies_still {place = place} {k = k} {views = views} fits' handles' homes' w v v' (out at u x there is may) here apart fits same keeps = by_worker (cases_eq u w)
+lies_still {position = position} {k = k} {views = views} fits' handles' homes' w v v' (out at u x there is may) here apart fits same keeps = by_worker (cases_eq u w)
   where
-    by_worker : (u ≡ w) ⊎ (u ≢ w) → Lies fits' handles' place homes' k (set views w v')
+    by_worker : (u ≡ w) ⊎ (u ≢ w) → Lies fits' handles' position homes' k (set views w v')
     by_worker (inl e) = absurd (apart (ap (λ z. z.out) (some-injective v x (sym here ∙ ap (get_elem? views) (sym e) ∙ there)) ∙ is))
     by_worker (inr ne) = out (same ∙ at) u x (set_else views w u v' ne ∙ there) is (keeps u ne may)
 
@@ -140,7 +140,7 @@ module _ {P B : Type 0} (first finished : P → ℕ → B → Type 0) (copied : 
     where
       by_worker : (u : ℕ) (x : View P) → get_elem? (set t.views w v') u ≡ some x → (u ≡ w) ⊎ (u ≢ w) → ToldBy plan after u x x.plan
       by_worker u x there (inl e) =
-          let is : v' ≡ x = some-injective v' x (sym (set_here t.views w v' (place-lt t.views w v here)) ∙ ap (get_elem? (set t.views w v')) (sym e) ∙ there) in
+          let is : v' ≡ x = some-injective v' x (sym (set_here t.views w v' (position-lt t.views w v here)) ∙ ap (get_elem? (set t.views w v')) (sym e) ∙ there) in
           subst (λ n. ToldBy plan after n x x.plan) (sym e) (subst (λ z. ToldBy plan after w z z.plan) is g.told)
       by_worker u x there (inr ne) =
           told_still plan s after u x x.plan g.callees (g.quiet u ne) (shows.told u x (sym (set_else t.views w u v' ne) ∙ there))

@@ -35,10 +35,10 @@ use Rattle.shared_schedule.specs.Plays.{reported, Reports}
 use Rattle.shared_schedule.proofs.Staying.{Quiet, tells_still, told_by, body_still, edge_still, goes}
 use Rattle.shared_schedule.proofs.Stages.{over-stage, owed-other, done-other, tells-owed}
 use Rattle.shared_schedule.proofs.Drawing.{Next, tells-now}
-use Rattle.shared_schedule.proofs.Places.{edge_slot-past, edge_slot-apart, edge-cases, put_edge-here, put_edge-other}
+use Rattle.shared_schedule.proofs.Positions.{edge_slot-past, edge_slot-apart, edge-cases, put_edge-here, put_edge-other}
 use Rattle.shared_schedule.proofs.Filling.{quiet-edge, tells-told}
 use Rattle.shared_schedule.proofs.Lending.{and-beside}
-use Rattle.shared_schedule.proofs.Giving.{edge-place}
+use Rattle.shared_schedule.proofs.Giving.{edge-position}
 
 -- a reported edge with a copy on it
 abbrev pub full_edge : EdgeState
@@ -192,7 +192,7 @@ module _ {P B : Type 0} (first finished : P → ℕ → B → Type 0) (copied : 
               (handles_edge (record s { edge = put_edge c i full_edge s.edge; pending_edges = put c left s.pending_edges; stage = stage }) a b) (Edge a b)
               (set t.homes (edge_slot s.callees c i) (some (Copied o))) (edge_slot s.callees a b) (set t.views w (reported me.0 c i (n == 1)))
           by_edge a b there (inl (e1, e2)) = home (Copied o)
-              (ap (get_elem? shelf) (λ j. edge_slot s.callees (e1 j) (e2 j)) ∙ set_here t.homes (edge_slot s.callees c i) (some (Copied o)) (edge-place s.callees (length t.homes) c i shows.homes here))
+              (ap (get_elem? shelf) (λ j. edge_slot s.callees (e1 j) (e2 j)) ∙ set_here t.homes (edge_slot s.callees c i) (some (Copied o)) (edge-position s.callees (length t.homes) c i shows.homes here))
               (subst (λ z. EdgeFits first finished copied plan.pieces (callee s.callees a b) z.fill (Copied o)) (sym ((λ j. put_edge c i full_edge s.edge (e1 j) (e2 j)) ∙ put_edge-here c i full_edge s.edge))
               (o, refl, subst (λ k. copied plan.pieces k o) (ap (λ cs. callee cs c i) (sym shows.callees) ∙ (λ j. callee s.callees (sym e1 j) (sym e2 j))) copy))
           by_edge a b there (inr ne) =

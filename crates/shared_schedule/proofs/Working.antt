@@ -15,7 +15,7 @@ use Rattle.shared_schedule.specs.Plays.{drawn, moved, cleared, reported}
 use Rattle.shared_schedule.specs.Seats.{IsFinished, Agrees}
 use Rattle.shared_schedule.specs.Working.{times, edge_times, is_due, goes_from, AreCallersOf, IsBetween, IsTelling, open_modules, GoesOn}
 use Rattle.shared_schedule.proofs.Lookups.{edge-here, edge-other}
-use Rattle.shared_schedule.proofs.Places.{edge-cases}
+use Rattle.shared_schedule.proofs.Positions.{edge-cases}
 
 -- the newest move
 pub move-here : (m : ℕ) (h : Hold) (moves : List (ℕ × Hold)) → last_move ((m, h) ∷ moves) m ≡ Some h
@@ -362,15 +362,15 @@ drawn-between callees v after m b is free below = subst (λ w. IsBetween callees
 
 sum_below-less : (n : ℕ) (f g : ℕ → ℕ) (m : ℕ) → ((k : ℕ) → g k ≤ f k) → m < n → g m < f m → sum_below n g < sum_below n f
 sum_below-less zero f g m each below less = absurd (omega arith)
-sum_below-less (suc n) f g m each below less = by_place (λ inside. sum_below-less n f g m each inside less) (cases_eq m n)
+sum_below-less (suc n) f g m each below less = by_position (λ inside. sum_below-less n f g m each inside less) (cases_eq m n)
   where
     sums : (n : ℕ) → sum_below n g ≤ sum_below n f
     sums zero = omega arith
     sums (suc n) = let rest : sum_below n g ≤ sum_below n f = sums n in let one : g n ≤ f n = each n in omega arith
 
-    by_place : (m < n → sum_below n g < sum_below n f) → (m ≡ n) ⊎ (m ≢ n) → sum_below n g + g n < sum_below n f + f n
-    by_place before (inl e) = let rest : sum_below n g ≤ sum_below n f = sums n in let one : g n < f n = subst (λ k. g k < f k) e less in omega arith
-    by_place before (inr ne) = let rest : sum_below n g < sum_below n f = before (omega arith) in let one : g n ≤ f n = each n in omega arith
+    by_position : (m < n → sum_below n g < sum_below n f) → (m ≡ n) ⊎ (m ≢ n) → sum_below n g + g n < sum_below n f + f n
+    by_position before (inl e) = let rest : sum_below n g ≤ sum_below n f = sums n in let one : g n < f n = subst (λ k. g k < f k) e less in omega arith
+    by_position before (inr ne) = let rest : sum_below n g < sum_below n f = before (omega arith) in let one : g n ≤ f n = each n in omega arith
 
 -- one more module is over
 pub less-open : {P : Type 0} (callees : List (List ℕ)) (v after : View P) (m : ℕ) → ((k : ℕ) → is_over (last_move v.moves k) ≡ true → is_over (last_move after.moves k) ≡ true) → m < length callees
@@ -394,11 +394,11 @@ cleared-same {P = P} v w after m i same is = is ∙ ap (λ (z : View P). record 
 
 -- and is in the list
 pub cleared-all : {P : Type 0} (w after : View P) (m i : ℕ) → after ≡ cleared w m i → ((j : ℕ) → j < i → has_edge w.emptied m j ≡ true) → (j : ℕ) → j < i + 1 → has_edge after.emptied m j ≡ true
-cleared-all w after m i is all j below = ap (λ z. has_edge z.emptied m j) is ∙ by_place (cases_eq j i)
+cleared-all w after m i is all j below = ap (λ z. has_edge z.emptied m j) is ∙ by_position (cases_eq j i)
   where
-    by_place : (j ≡ i) ⊎ (j ≢ i) → has_edge ((m, i) ∷ w.emptied) m j ≡ true
-    by_place (inl e) = ap (has_edge ((m, i) ∷ w.emptied) m) e ∙ edge-here m i w.emptied
-    by_place (inr ne) = edge-other m i m j w.emptied (λ _ same. ne same) ∙ all j (omega arith)
+    by_position : (j ≡ i) ⊎ (j ≢ i) → has_edge ((m, i) ∷ w.emptied) m j ≡ true
+    by_position (inl e) = ap (has_edge ((m, i) ∷ w.emptied) m) e ∙ edge-here m i w.emptied
+    by_position (inr ne) = edge-other m i m j w.emptied (λ _ same. ne same) ∙ all j (omega arith)
 
 pub cleared-more : {P : Type 0} (callees : List (List ℕ)) (w after : View P) (m i : ℕ) → after ≡ cleared w m i → ((j : ℕ) → i ≤ j → IsEdge callees m j → has_edge w.emptied m j ≡ false)
     → (j : ℕ) → i + 1 ≤ j → IsEdge callees m j → has_edge after.emptied m j ≡ false

@@ -41,9 +41,9 @@ abbrev pub handles_body : State → ℕ → ℕ → Bool
 handles_body s m w = is_held (hold_of w (s.stage m))
 
 -- a slot is at home and fits, or it is out with a worker that may have it
-pub data Lies {S P : Type 0} (fits : S → Type 0) (handles : ℕ → Bool) (place : TableSlot) (homes : List (mathlib.Core.Option.Option S)) (k : ℕ) (views : List (View P)) : Type 0 where
-  home : (y : S) → get_elem? homes k ≡ some (some y) → fits y → Lies fits handles place homes k views
-  out : get_elem? homes k ≡ some none → (w : ℕ) → (v : View P) → get_elem? views w ≡ some v → v.out ≡ place → handles w ≡ true → Lies fits handles place homes k views
+pub data Lies {S P : Type 0} (fits : S → Type 0) (handles : ℕ → Bool) (position : TableSlot) (homes : List (mathlib.Core.Option.Option S)) (k : ℕ) (views : List (View P)) : Type 0 where
+  home : (y : S) → get_elem? homes k ≡ some (some y) → fits y → Lies fits handles position homes k views
+  out : get_elem? homes k ≡ some none → (w : ℕ) → (v : View P) → get_elem? views w ≡ some v → v.out ≡ position → handles w ≡ true → Lies fits handles position homes k views
 
 module _ {P B : Type 0} (first finished : P → ℕ → B → Type 0) (copied : P → ℕ → Option B → Type 0) where
   -- what may lie in the slot of a module at a stage

@@ -13,17 +13,17 @@ use Rattle.shared_schedule.specs.declared.view.View.{View}
 use Rattle.shared_schedule.specs.Views.{callees_in, last_move, is_held, is_over, has_edge}
 use Rattle.shared_schedule.specs.Rule.{edge_slot}
 
-module _ {P B : Type 0} (place : TableId) (about : Plan P) (seat : Seat (Slot B) (View P)) where
+module _ {P B : Type 0} (position : TableId) (about : Plan P) (seat : Seat (Slot B) (View P)) where
   -- a seat of a worker of this plan at this table, with no slot out
   pub record IsIdle : Type 0 where
-    pub table : seat.table_id ≡ place
+    pub table : seat.table_id ≡ position
     pub plan : seat.me.0.plan ≡ Some about
     pub out : seat.me.0.out ≡ Nowhere
     pub none : seat.me.1 ≡ []
 
   -- the same, with a copy in the slot of an edge that is out
   pub record HasCopy (c i : ℕ) (body : Option B) : Type 0 where
-    pub table : seat.table_id ≡ place
+    pub table : seat.table_id ≡ position
     pub plan : seat.me.0.plan ≡ Some about
     pub out : seat.me.0.out ≡ Edge c i
     pub copy : seat.me.1 ≡ (edge_slot (callees_in about) c i, Copied body) ∷ []

@@ -73,14 +73,14 @@ pub record IsEmptied {P : Type 0} (callees : List (List ℕ)) (m : ℕ) (v after
   pub all : (i : ℕ) → IsEdge callees m i → has_edge after.emptied m i ≡ true
 
 -- a worker that may begin
-pub record IsReady {P B : Type 0} (place : TableId) (about : Plan P) (seat : Seat (Slot B) (View P)) : Type 0 where
-  pub idle : IsIdle place about seat
+pub record IsReady {P B : Type 0} (position : TableId) (about : Plan P) (seat : Seat (Slot B) (View P)) : Type 0 where
+  pub idle : IsIdle position about seat
   pub unpassed : seat.me.0.passed ≡ false
   pub between : IsBetween (callees_in about) seat.me.0 []
 
 -- a worker that has finished and drawn past the leaves, and has split and gathered so many others
-pub record IsDone {P B : Type 0} (place : TableId) (about : Plan P) (before after : Seat (Slot B) (View P)) (others : ℕ) : Type 0 where
-  pub idle : IsIdle place about after
+pub record IsDone {P B : Type 0} (position : TableId) (about : Plan P) (before after : Seat (Slot B) (View P)) (others : ℕ) : Type 0 where
+  pub idle : IsIdle position about after
   pub id : after.id ≡ before.id
   pub passed : after.me.0.passed ≡ true
   pub finished : IsFinished (callees_in about) after.me.0

@@ -16,14 +16,14 @@ pub(crate) fn first_slots(alloc: Global, callees: &[Vec<u32>]) -> Result<Vec<usi
     ensures len { IfOk result (λ v. length v.items ≡ length callees.now + 1) }
     ensures firsts { IfOk result (λ v. (c : ℕ) → c ≤ length callees.now → slice_index v.items c ≡ edge_slot (map (λ row. row.items) callees.now) c 0) }
 {
-    let mut places = Vec::new(alloc);
+    let mut positions = Vec::new(alloc);
     let mut next = callees.len();
     for row in callees {
-        places.push(next)?;
+        positions.push(next)?;
         next += row.len();
     }
-    places.push(next)?;
-    Ok(places)
+    positions.push(next)?;
+    Ok(positions)
 }
 
 /// The words of a new table: no leaf is drawn, and each module's edges are pending.
@@ -99,7 +99,7 @@ fn push_row(rows: &mut Vec<Vec<(u32, u32)>>, c: u32, row: &[u32]) -> Result<(), 
     Ok(())
 }
 
-/// The edges from each module, as their callers and places.
+/// The edges from each module, as their callers and positions.
 pub(crate) fn callers(
     alloc: Global,
     callees: &[Vec<u32>],

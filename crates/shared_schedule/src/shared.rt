@@ -32,7 +32,7 @@ pub struct Shared<P: Pieces> {
     pub ghost lists: { AreCallees (callees_in plan) },
     pub ghost few: { slots_of (callees_in plan) < 2 ^ 64 },
     pub ghost leaves_are: { leaf_modules.items ≡ leaves (callees_in plan) },
-    pub ghost places: { length first_slots.items ≡ length (callees_in plan) + 1 },
+    pub ghost positions: { length first_slots.items ≡ length (callees_in plan) + 1 },
     pub ghost firsts: { (c : ℕ) → c ≤ length (callees_in plan) → slice_index first_slots.items c ≡ edge_slot (callees_in plan) c 0 },
     pub ghost rows: { length callers.items ≡ length (callees_in plan) },
     pub ghost callers_are: { (m : ℕ) → m < length (callees_in plan) → AreCallersOf (callees_in plan) m (slice_index_or (map (λ row. row.items) callers.items) m []) },
@@ -240,7 +240,7 @@ impl<P: Pieces> Shared<P> {
     /// An edge from the module.
     pub(crate) fn caller(&self, m: u32, k: usize) -> (u32, u32)
         requires within { m < length (callees_in self.now.plan) }
-        requires place { k < length (slice_index_or (map (λ row. row.items) self.now.callers.items) m []) }
+        requires position { k < length (slice_index_or (map (λ row. row.items) self.now.callers.items) m []) }
         ensures { drop k (slice_index_or (map (λ row. row.items) self.now.callers.items) m []) ≡ result ∷ drop (k + 1) (slice_index_or (map (λ row. row.items) self.now.callers.items) m []) }
     {
         self.callers[m as usize][k]

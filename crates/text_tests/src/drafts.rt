@@ -2,7 +2,7 @@
 use Operand::{Port, Result as Of, Undefined};
 use io_edge::byte_text::Text;
 use ir_store::body::Body;
-use ir_store::operation::{OpId, UsePlace, Value};
+use ir_store::operation::{OpId, UsePosition, Value};
 use mlir_operations::operation_text::operation_text;
 use mlir_reader::definitions::define_port;
 use mlir_reader::draft::Draft;
@@ -145,10 +145,10 @@ fn value_of(operand: Operand) -> Value {
     }
 }
 
-// whether one of the places is this operand
-fn is_among(place: UsePlace, places: &[(u32, u32)]) -> bool {
-    for (op, at) in places {
-        if place.op.number() == *op && place.at == *at {
+// whether one of the positions is this operand
+fn is_among(position: UsePosition, positions: &[(u32, u32)]) -> bool {
+    for (op, at) in positions {
+        if position.op.number() == *op && position.at == *at {
             return true;
         }
     }
@@ -156,15 +156,15 @@ fn is_among(place: UsePlace, places: &[(u32, u32)]) -> bool {
 }
 
 // whether a value is used at these operands of these operations alone
-fn is_used_at(body: &Body, operand: Operand, places: &[(u32, u32)]) -> bool {
+fn is_used_at(body: &Body, operand: Operand, positions: &[(u32, u32)]) -> bool {
     let mut count = 0usize;
-    for place in body.uses(value_of(operand)) {
-        if !is_among(place, places) {
+    for position in body.uses(value_of(operand)) {
+        if !is_among(position, positions) {
             return false;
         }
         count = count.saturating_add(1);
     }
-    count == places.len()
+    count == positions.len()
 }
 
 // whether the results of an operation have these marks
@@ -185,8 +185,8 @@ fn are_marked(body: &Body, op: u32, marks: &[bool]) -> bool {
 
 // whether values are used and results are marked as a prefix says
 fn is_told(body: &Body, prefix: &Prefix) -> bool {
-    for (operand, places) in prefix.uses {
-        if !is_used_at(body, *operand, places) {
+    for (operand, positions) in prefix.uses {
+        if !is_used_at(body, *operand, positions) {
             return false;
         }
     }
@@ -231,12 +231,12 @@ fn many_may_wait_for_the_last(rt: HostRuntime) -> Result<(), Fail> {
     let text = waiting_text(rt.alloc())?;
     let body = body_of(rt.alloc(), text.as_bytes(), 999)?;
     assert_eq!(rt; body.op_count(), 302);
-    for (operand, places) in [
+    for (operand, positions) in [
         (Of(301, 0), [(0, 1)].as_slice()),
         (Of(0, 0), &[(301, 1)]),
         (Undefined, &[]),
     ] {
-        assert!(rt; is_used_at(&body, operand, places));
+        assert!(rt; is_used_at(&body, operand, positions));
     }
     Ok(())
 }

@@ -13,7 +13,7 @@ use Rattle.hw_model.specs.Flat.{width_of}
 use Rattle.ir_store.specs.Positions.{same_ref}
 use Rattle.verilog_model.specs.Numerals.{is_nonempty}
 use Rattle.verilog_expr.specs.Expressions.{op_at, value_width}
-use Rattle.verilog_expr.specs.Spilling.{is_pure, is_wire_kind, is_constant_kind, hint_of, one_if, places_in, use_count, is_narrower, cuts, joins, some_op, is_shared, height_limit, Part, part_of_op}
+use Rattle.verilog_expr.specs.Spilling.{is_pure, is_wire_kind, is_constant_kind, hint_of, one_if, positions_in, use_count, is_narrower, cuts, joins, some_op, is_shared, height_limit, Part, part_of_op}
 use Rattle.verilog_expr.specs.Spilling.{part_of, part, height_under, operands_of, operands_at, height_over, AreHeights, height, has_wire, spilled_op, spilled, inner_needs}
 use Rattle.verilog_expr.specs.Spilling.Part.{flat, shared, nested}
 use Rattle.verilog_expr.specs.WireRules.{IsComputed, IsCut, IsJoined, WantsWire, heights_without_wire}
@@ -53,28 +53,28 @@ same_told undefined (port j) h = cc
 same_told undefined (result j l) h = cc
 same_told undefined undefined h = refl
 
--- a value has a place in a list exactly where it is a member
-placed_member : (r : Ref) (xs : List Ref) → 0 < places_in r xs → In r xs
+-- a value has a position in a list exactly where it is a member
+placed_member : (r : Ref) (xs : List Ref) → 0 < positions_in r xs → In r xs
 placed_member r [] h = absurd (omega (arith, h))
 placed_member r (x ∷ xs) h = go (same_ref x r) refl (placed_member r xs) where
-  go : (b : Bool) → same_ref x r ≡ b → (0 < places_in r xs → In r xs) → In r (x ∷ xs)
+  go : (b : Bool) → same_ref x r ≡ b → (0 < positions_in r xs → In r xs) → In r (x ∷ xs)
   go true is rest = inl (sym (same_told x r is))
   go false is rest = let e : one_if (same_ref x r) ≡ 0 = ap one_if is in inr (rest (omega (arith, h, e)))
 
-member_placed : (r : Ref) (xs : List Ref) → In r xs → 0 < places_in r xs
+member_placed : (r : Ref) (xs : List Ref) → In r xs → 0 < positions_in r xs
 member_placed r [] here = absurd here
 member_placed r (x ∷ xs) (inl same) =
     let e : one_if (same_ref x r) ≡ 1 = ap one_if (subst (λ y. same_ref y r ≡ true) same (same_itself r)) in omega (arith, e)
-member_placed r (x ∷ xs) (inr here) = let rest : 0 < places_in r xs = member_placed r xs here in omega (arith, rest)
+member_placed r (x ∷ xs) (inr here) = let rest : 0 < positions_in r xs = member_placed r xs here in omega (arith, rest)
 
-has_place : (r : Ref) (xs : List Ref) → nat_lt 0 (places_in r xs) ≡ true → In r xs
-has_place r xs h = placed_member r xs (ltb-true 0 (places_in r xs) h)
+has_position : (r : Ref) (xs : List Ref) → nat_lt 0 (positions_in r xs) ≡ true → In r xs
+has_position r xs h = placed_member r xs (ltb-true 0 (positions_in r xs) h)
 
-place_had : (r : Ref) (xs : List Ref) → In r xs → nat_lt 0 (places_in r xs) ≡ true
-place_had r xs here = go (nat_lt 0 (places_in r xs)) refl where
-  go : (b : Bool) → nat_lt 0 (places_in r xs) ≡ b → nat_lt 0 (places_in r xs) ≡ true
+position_had : (r : Ref) (xs : List Ref) → In r xs → nat_lt 0 (positions_in r xs) ≡ true
+position_had r xs here = go (nat_lt 0 (positions_in r xs)) refl where
+  go : (b : Bool) → nat_lt 0 (positions_in r xs) ≡ b → nat_lt 0 (positions_in r xs) ≡ true
   go true is = is
-  go false is = absurd (omega (arith, member_placed r xs here, ltb-false 0 (places_in r xs) is))
+  go false is = absurd (omega (arith, member_placed r xs here, ltb-false 0 (positions_in r xs) is))
 
 -- some operation passes a test
 some_passes : (p : Op → Bool) (os : List Op) → some_op p os ≡ true → (i : ℕ) × (o : Op) × (slice_get os i ≡ Some o) × (p o ≡ true)
@@ -94,20 +94,20 @@ module _ (ports : List Port) (os : List Op) where
   cut_told : (r : Ref) → some_op (cuts ports os r) os ≡ true → IsCut ports os r
   cut_told r h =
       let found = some_passes (cuts ports os r) os h in
-      let both = and_both (is_narrower found.1.kind (width_of (result_type found.1 0)) (value_width ports os r)) (nat_lt 0 (places_in r found.1.operands)) found.3 in
-      record { place = found.0; op = found.1; there = found.2; operand = has_place r found.1.operands both.1; narrower = both.0 }
+      let both = and_both (is_narrower found.1.kind (width_of (result_type found.1 0)) (value_width ports os r)) (nat_lt 0 (positions_in r found.1.operands)) found.3 in
+      record { position = found.0; op = found.1; there = found.2; operand = has_position r found.1.operands both.1; narrower = both.0 }
 
   told_cut : (r : Ref) → IsCut ports os r → some_op (cuts ports os r) os ≡ true
-  told_cut r is = passes_some (cuts ports os r) os is.place is.op is.there (and_from _ _ is.narrower (place_had r is.op.operands is.operand))
+  told_cut r is = passes_some (cuts ports os r) os is.position is.op is.there (and_from _ _ is.narrower (position_had r is.op.operands is.operand))
 
   joined_told : (r : Ref) → some_op (joins r) os ≡ true → IsJoined os r
   joined_told r h =
       let found = some_passes (joins r) os h in
-      let both = and_both (is_instance found.1) (nat_lt 0 (places_in r found.1.operands)) found.3 in
-      record { place = found.0; op = found.1; there = found.2; operand = has_place r found.1.operands both.1; instance = both.0 }
+      let both = and_both (is_instance found.1) (nat_lt 0 (positions_in r found.1.operands)) found.3 in
+      record { position = found.0; op = found.1; there = found.2; operand = has_position r found.1.operands both.1; instance = both.0 }
 
   told_joined : (r : Ref) → IsJoined os r → some_op (joins r) os ≡ true
-  told_joined r is = passes_some (joins r) os is.place is.op is.there (and_from _ _ is.instance (place_had r is.op.operands is.operand))
+  told_joined r is = passes_some (joins r) os is.position is.op is.there (and_from _ _ is.instance (position_had r is.op.operands is.operand))
 
   hint_told : (h : Name) → is_nonempty h ≡ true → h ≡ [] → ⊥
   hint_told [] some none = cc

@@ -62,7 +62,7 @@ module _ (ports : List Port) (os : List Op) where
 -- ---- paths
 
 abbrev pub nowhere : Waiting
-nowhere = record { place = 0; passed = 0; most = 0 }
+nowhere = record { position = 0; passed = 0; most = 0 }
 
 abbrev pub waiting_at : List Waiting → ℕ → Waiting
 waiting_at path i = get_or path i nowhere
@@ -70,8 +70,8 @@ waiting_at path i = get_or path i nowhere
 -- the first operations of a list wait, each for the next
 pub record IsPath (ports : List Port) (os : List Op) (hs : List (Option ℕ)) (path : List Waiting) (depth : ℕ) : Type 0 where
   pub waiting : (i : ℕ) → i < depth → IsWaiting ports os (waiting_at path i)
-  pub unknown : (i : ℕ) → i < depth → height_get hs (waiting_at path i).place ≡ None
-  pub needed : (i : ℕ) → suc i < depth → In (result (waiting_at path (suc i)).place 0) (inner_needs os (result (waiting_at path i).place 0))
+  pub unknown : (i : ℕ) → i < depth → height_get hs (waiting_at path i).position ≡ None
+  pub needed : (i : ℕ) → suc i < depth → In (result (waiting_at path (suc i)).position 0) (inner_needs os (result (waiting_at path i).position 0))
 
 get_same : {A : Type 0} (xs : List A) (i : ℕ) (x d : A) → i < length xs → get_or (set xs i x) i d ≡ x
 get_same [] i x d lt = absurd (omega (arith, lt))
@@ -114,18 +114,18 @@ not_flat : (p : told.Part) → p ≡ told.Part.nested → p ≡ told.Part.flat �
 not_flat p is other = cc
 
 module _ (ports : List Port) (os : List Op) where
-  pub path_start : (hs : List (Option ℕ)) (path : List Waiting) (place : ℕ) → 0 < length path → place < length os
-      → (told.part ports os (result place 0) ≡ told.Part.flat → ⊥) → height_get hs place ≡ None → IsPath ports os hs (set path 0 (starting place)) 1
-  path_start hs path place room within above unknown = record {
-    waiting = λ i lt. subst (IsWaiting ports os) (sym (at i lt)) (start_waits ports os place within above);
-    unknown = λ i lt. ap (λ (w : Waiting). height_get hs w.place) (at i lt) ∙ unknown;
+  pub path_start : (hs : List (Option ℕ)) (path : List Waiting) (position : ℕ) → 0 < length path → position < length os
+      → (told.part ports os (result position 0) ≡ told.Part.flat → ⊥) → height_get hs position ≡ None → IsPath ports os hs (set path 0 (starting position)) 1
+  path_start hs path position room within above unknown = record {
+    waiting = λ i lt. subst (IsWaiting ports os) (sym (at i lt)) (start_waits ports os position within above);
+    unknown = λ i lt. ap (λ (w : Waiting). height_get hs w.position) (at i lt) ∙ unknown;
     needed = λ i lt. absurd (omega (arith, lt));
   } where
-    at : (i : ℕ) → i < 1 → waiting_at (set path 0 (starting place)) i ≡ starting place
-    at i lt = ap (waiting_at (set path 0 (starting place))) (omega (arith, lt)) ∙ get_same path 0 (starting place) nowhere room
+    at : (i : ℕ) → i < 1 → waiting_at (set path 0 (starting position)) i ≡ starting position
+    at i lt = ap (waiting_at (set path 0 (starting position))) (omega (arith, lt)) ∙ get_same path 0 (starting position) nowhere room
 
-  pub start_first : (path : List Waiting) (place : ℕ) → 0 < length path → (waiting_at (set path 0 (starting place)) 0).place ≡ place
-  start_first path place room = ap (λ (v : Waiting). v.place) (get_same path 0 (starting place) nowhere room)
+  pub start_first : (path : List Waiting) (position : ℕ) → 0 < length path → (waiting_at (set path 0 (starting position)) 0).position ≡ position
+  start_first path position room = ap (λ (v : Waiting). v.position) (get_same path 0 (starting position) nowhere room)
 
   module _ (path : List Waiting) (d : ℕ) (w : Waiting) (below : ℕ) (room : suc d < length path) where
     abbrev down_path : List Waiting
@@ -142,35 +142,35 @@ module _ (ports : List Port) (os : List Op) where
         get_other (set path d w) (suc d) i (starting below) nowhere (λ e. omega (arith, e, lt))
         ∙ get_other path d i w nowhere (λ e. omega (arith, e, lt))
 
-    by_place : (P : Waiting → Type 0) → ((i : ℕ) → i < suc d → P (waiting_at path i)) → P w → P (starting below) → (i : ℕ) → i < suc (suc d) → P (waiting_at down_path i)
-    by_place P all here there i lt = go (grind arith) where
+    by_position : (P : Waiting → Type 0) → ((i : ℕ) → i < suc d → P (waiting_at path i)) → P w → P (starting below) → (i : ℕ) → i < suc (suc d) → P (waiting_at down_path i)
+    by_position P all here there i lt = go (grind arith) where
       go : (i < d) ⊎ ((i ≡ d) ⊎ (i ≡ suc d)) → P (waiting_at down_path i)
       go (inl less) = subst P (sym (first i less)) (all i (omega (arith, less)))
       go (inr (inl same)) = subst (λ j. P (waiting_at down_path j)) (sym same) (subst P (sym before) here)
       go (inr (inr same)) = subst (λ j. P (waiting_at down_path j)) (sym same) (subst P (sym last) there)
 
-    place_kept : w.place ≡ (waiting_at path d).place → (i : ℕ) → i < suc d → (waiting_at down_path i).place ≡ (waiting_at path i).place
-    place_kept same i lt = go (grind arith) where
-      go : (i < d) ⊎ (i ≡ d) → (waiting_at down_path i).place ≡ (waiting_at path i).place
-      go (inl less) = ap (λ (v : Waiting). v.place) (first i less)
-      go (inr is) = ap (λ j. (waiting_at down_path j).place) is ∙ ap (λ (v : Waiting). v.place) before ∙ same ∙ ap (λ j. (waiting_at path j).place) (sym is)
+    position_kept : w.position ≡ (waiting_at path d).position → (i : ℕ) → i < suc d → (waiting_at down_path i).position ≡ (waiting_at path i).position
+    position_kept same i lt = go (grind arith) where
+      go : (i < d) ⊎ (i ≡ d) → (waiting_at down_path i).position ≡ (waiting_at path i).position
+      go (inl less) = ap (λ (v : Waiting). v.position) (first i less)
+      go (inr is) = ap (λ j. (waiting_at down_path j).position) is ∙ ap (λ (v : Waiting). v.position) before ∙ same ∙ ap (λ j. (waiting_at path j).position) (sym is)
 
     module _ (hs : List (Option ℕ)) (is : IsPath ports os hs path (suc d)) (down : IsDown ports os hs (waiting_at path d) w below) where
-      down_needed : (i : ℕ) → suc i < suc (suc d) → In (result (waiting_at down_path (suc i)).place 0) (inner_needs os (result (waiting_at down_path i).place 0))
+      down_needed : (i : ℕ) → suc i < suc (suc d) → In (result (waiting_at down_path (suc i)).position 0) (inner_needs os (result (waiting_at down_path i).position 0))
       down_needed i lt = go (grind arith) where
-        go : (suc i < suc d) ⊎ (i ≡ d) → In (result (waiting_at down_path (suc i)).place 0) (inner_needs os (result (waiting_at down_path i).place 0))
+        go : (suc i < suc d) ⊎ (i ≡ d) → In (result (waiting_at down_path (suc i)).position 0) (inner_needs os (result (waiting_at down_path i).position 0))
         go (inl less) =
-            subst (λ b. In (result b 0) (inner_needs os (result (waiting_at down_path i).place 0))) (sym (place_kept down.same (suc i) less))
-            (subst (λ a. In (result (waiting_at path (suc i)).place 0) (inner_needs os (result a 0))) (sym (place_kept down.same i (omega (arith, less)))) (is.needed i less))
+            subst (λ b. In (result b 0) (inner_needs os (result (waiting_at down_path i).position 0))) (sym (position_kept down.same (suc i) less))
+            (subst (λ a. In (result (waiting_at path (suc i)).position 0) (inner_needs os (result a 0))) (sym (position_kept down.same i (omega (arith, less)))) (is.needed i less))
         go (inr same) =
-            subst (λ j. In (result (waiting_at down_path (suc j)).place 0) (inner_needs os (result (waiting_at down_path j).place 0))) (sym same)
-            (subst (λ (v : Waiting). In (result v.place 0) (inner_needs os (result (waiting_at down_path d).place 0))) (sym last)
-            (subst (λ (v : Waiting). In (result below 0) (inner_needs os (result v.place 0))) (sym before) down.needed))
+            subst (λ j. In (result (waiting_at down_path (suc j)).position 0) (inner_needs os (result (waiting_at down_path j).position 0))) (sym same)
+            (subst (λ (v : Waiting). In (result v.position 0) (inner_needs os (result (waiting_at down_path d).position 0))) (sym last)
+            (subst (λ (v : Waiting). In (result below 0) (inner_needs os (result v.position 0))) (sym before) down.needed))
 
       down_is : IsPath ports os hs down_path (suc (suc d))
       down_is = record {
-        waiting = by_place (IsWaiting ports os) is.waiting down.waiting (start_waits ports os below down.unknown.within (not_flat _ down.unknown.nested));
-        unknown = by_place (λ (v : Waiting). height_get hs v.place ≡ None) is.unknown (ap (height_get hs) down.same ∙ is.unknown d (omega arith)) down.unknown.unknown;
+        waiting = by_position (IsWaiting ports os) is.waiting down.waiting (start_waits ports os below down.unknown.within (not_flat _ down.unknown.nested));
+        unknown = by_position (λ (v : Waiting). height_get hs v.position ≡ None) is.unknown (ap (height_get hs) down.same ∙ is.unknown d (omega arith)) down.unknown.unknown;
         needed = down_needed;
       }
 
@@ -185,10 +185,10 @@ module _ (ports : List Port) (os : List Op) where
         more = omega arith
 
   pub path_first : (hs : List (Option ℕ)) (path : List Waiting) (depth d : ℕ) (w : Waiting) (below : ℕ) → depth ≡ suc d → depth < length path
-      → w.place ≡ (waiting_at path d).place → (waiting_at (set (set path d w) depth (starting below)) 0).place ≡ (waiting_at path 0).place
+      → w.position ≡ (waiting_at path d).position → (waiting_at (set (set path d w) depth (starting below)) 0).position ≡ (waiting_at path 0).position
   path_first hs path depth d w below e room same =
-      ap (λ k. (waiting_at (set (set path d w) k (starting below)) 0).place) e
-      ∙ place_kept path d w below (subst (λ k. k < length path) e room) same 0 (omega arith)
+      ap (λ k. (waiting_at (set (set path d w) k (starting below)) 0).position) e
+      ∙ position_kept path d w below (subst (λ k. k < length path) e room) same 0 (omega arith)
 
   module _ (acyclic : IsAcyclic (inner_needs os)) where
     -- how far a value is from those that need nothing
@@ -214,16 +214,16 @@ module _ (ports : List Port) (os : List Op) where
         omega (arith, is)
 
     along : (hs : List (Option ℕ)) (path : List Waiting) (depth : ℕ) → IsPath ports os hs path depth → (i j : ℕ) → i ≤ j → j < depth
-        → far (result (waiting_at path j).place 0) + j ≤ far (result (waiting_at path i).place 0) + i
-    along hs path depth is = falling (λ i. far (result (waiting_at path i).place 0)) depth (λ i lt. far_falls _ _ (is.needed i lt))
+        → far (result (waiting_at path j).position 0) + j ≤ far (result (waiting_at path i).position 0) + i
+    along hs path depth is = falling (λ i. far (result (waiting_at path i).position 0)) depth (λ i lt. far_falls _ _ (is.needed i lt))
 
     room : (hs : List (Option ℕ)) (path : List Waiting) (d below : ℕ) → IsPath ports os hs path (suc d)
-        → In (result below 0) (inner_needs os (result (waiting_at path d).place 0)) → suc d ≤ length os
+        → In (result below 0) (inner_needs os (result (waiting_at path d).position 0)) → suc d ≤ length os
     room hs path d below is need =
-        let whole : far (result (waiting_at path d).place 0) + d ≤ far (result (waiting_at path 0).place 0) + 0 = along hs path (suc d) is 0 d (omega arith) (omega arith) in
-        let lower : far (result below 0) < far (result (waiting_at path d).place 0) = far_falls (result (waiting_at path d).place 0) (result below 0) need in
+        let whole : far (result (waiting_at path d).position 0) + d ≤ far (result (waiting_at path 0).position 0) + 0 = along hs path (suc d) is 0 d (omega arith) (omega arith) in
+        let lower : far (result below 0) < far (result (waiting_at path d).position 0) = far_falls (result (waiting_at path d).position 0) (result below 0) need in
         let some : 1 ≤ far (result below 0) = far_some (result below 0) in
-        let bound : far (result (waiting_at path 0).place 0) ≤ suc (length os) = far_within (result (waiting_at path 0).place 0) in
+        let bound : far (result (waiting_at path 0).position 0) ≤ suc (length os) = far_within (result (waiting_at path 0).position 0) in
         omega (arith, whole, lower, some, bound)
 
     -- a path is no longer than the body, before it goes further down too
@@ -236,21 +236,21 @@ module _ (ports : List Port) (os : List Op) where
 
     -- no operation stands twice on a path
     apart : (hs : List (Option ℕ)) (path : List Waiting) (d : ℕ) → IsPath ports os hs path (suc d) → (i : ℕ) → i < d
-        → (waiting_at path d).place ≡ (waiting_at path i).place → ⊥
+        → (waiting_at path d).position ≡ (waiting_at path i).position → ⊥
     apart hs path d is i lt same =
-        let more : far (result (waiting_at path d).place 0) + d ≤ far (result (waiting_at path i).place 0) + i = along hs path (suc d) is i d (omega (arith, lt)) (omega arith) in
-        let e : far (result (waiting_at path d).place 0) ≡ far (result (waiting_at path i).place 0) = ap (λ p. far (result p 0)) same in
+        let more : far (result (waiting_at path d).position 0) + d ≤ far (result (waiting_at path i).position 0) + i = along hs path (suc d) is i d (omega (arith, lt)) (omega arith) in
+        let e : far (result (waiting_at path d).position 0) ≡ far (result (waiting_at path i).position 0) = ap (λ p. far (result p 0)) same in
         omega (arith, more, e, lt)
 
-    up : (hs : List (Option ℕ)) (path : List Waiting) (d h : ℕ) → IsPath ports os hs path (suc d) → IsPath ports os (set hs (waiting_at path d).place (Some h)) path d
+    up : (hs : List (Option ℕ)) (path : List Waiting) (d h : ℕ) → IsPath ports os hs path (suc d) → IsPath ports os (set hs (waiting_at path d).position (Some h)) path d
     up hs path d h is = record {
       waiting = λ i lt. is.waiting i (omega (arith, lt));
-      unknown = λ i lt. get_other hs (waiting_at path d).place (waiting_at path i).place (Some h) None (apart hs path d is i lt) ∙ is.unknown i (omega (arith, lt));
+      unknown = λ i lt. get_other hs (waiting_at path d).position (waiting_at path i).position (Some h) None (apart hs path d is i lt) ∙ is.unknown i (omega (arith, lt));
       needed = λ i lt. is.needed i (omega (arith, lt));
     }
 
     pub path_up : (hs : List (Option ℕ)) (path : List Waiting) (depth d h : ℕ) → depth ≡ suc d → IsPath ports os hs path depth
-        → IsPath ports os (set hs (waiting_at path d).place (Some h)) path d
+        → IsPath ports os (set hs (waiting_at path d).position (Some h)) path d
     path_up hs path depth d h e is = up hs path d h (subst (IsPath ports os hs path) e is)
 
 -- ---- how many heights are not known

@@ -24,7 +24,7 @@ pub mod Passing
 pub mod Fit
 pub mod Tight
 pub mod Signed
-pub mod Places
+pub mod Positions
 pub mod TextRead
 pub mod Checked
 pub mod CheckedWords

@@ -10,13 +10,13 @@ use Rattle.hw_model.specs.Design.Ref.{result}
 use Rattle.hw_model.specs.Flat.{width_of}
 use Rattle.ir_store.specs.Positions.{same_ref}
 use Rattle.verilog_expr.specs.Expressions.{value_width}
-use Rattle.verilog_expr.specs.Spilling.{one_if, places_in, use_count, cuts, joins, some_op}
+use Rattle.verilog_expr.specs.Spilling.{one_if, positions_in, use_count, cuts, joins, some_op}
 use Rattle.verilog_expr.specs.Marks.{no_mark, mark_at, note_use, one_use, after_operands, is_cut_by, after_ops}
 use Rattle.verilog_expr.specs.declared.marks.Mark.{Mark}
 use Rattle.wiring.proofs.Joined.{split_at}
 use Rattle.std.proofs.Math.Bool.{or-false}
 
--- ---- places
+-- ---- positions
 
 and_true : (b : Bool) → (b && true) ≡ b
 and_true true = refl
@@ -30,10 +30,10 @@ or_assoc : (a b c : Bool) → ((a || b) || c) ≡ (a || (b || c))
 or_assoc true b c = refl
 or_assoc false b c = refl
 
-more_places : (b : Bool) (n : ℕ) → (m c j : Bool) → (m || (c && nat_lt 0 (1 + n))) ≡ ((m || c) || (c && nat_lt 0 n))
-more_places b n true c j = refl
-more_places b n false false j = refl
-more_places b n false true j = go (nat_lt 0 (1 + n)) refl
+more_positions : (b : Bool) (n : ℕ) → (m c j : Bool) → (m || (c && nat_lt 0 (1 + n))) ≡ ((m || c) || (c && nat_lt 0 n))
+more_positions b n true c j = refl
+more_positions b n false false j = refl
+more_positions b n false true j = go (nat_lt 0 (1 + n)) refl
   where
     go : (b : Bool) → nat_lt 0 (1 + n) ≡ b → b ≡ true
     go true e = refl
@@ -45,14 +45,14 @@ pub operand_first : (r : Ref) (cut joined : Bool) (x : Ref) (xs : List Ref) (m :
 operand_first r cut joined x xs m = go (same_ref x r)
   where
     go : (b : Bool) → after_operands r cut joined xs (cond b (note_use cut joined m) m)
-        ≡ record { uses = min 2 (m.uses + (one_if b + places_in r xs)); cut = m.cut || (cut && nat_lt 0 (one_if b + places_in r xs)); joined = m.joined || (joined && nat_lt 0 (one_if b + places_in r xs)) }
+        ≡ record { uses = min 2 (m.uses + (one_if b + positions_in r xs)); cut = m.cut || (cut && nat_lt 0 (one_if b + positions_in r xs)); joined = m.joined || (joined && nat_lt 0 (one_if b + positions_in r xs)) }
     go true =
-        let u : min 2 (min 2 (m.uses + 1) + places_in r xs) ≡ min 2 (m.uses + (1 + places_in r xs)) = omega arith in
-        let c = sym (more_places true (places_in r xs) m.cut cut true) in
-        let j = sym (more_places true (places_in r xs) m.joined joined true) in
+        let u : min 2 (min 2 (m.uses + 1) + positions_in r xs) ≡ min 2 (m.uses + (1 + positions_in r xs)) = omega arith in
+        let c = sym (more_positions true (positions_in r xs) m.cut cut true) in
+        let j = sym (more_positions true (positions_in r xs) m.joined joined true) in
         cc
     go false =
-        let n : 0 + places_in r xs ≡ places_in r xs = omega arith in cc
+        let n : 0 + positions_in r xs ≡ positions_in r xs = omega arith in cc
 
 pub operands_step : {A : Type 0} (r : Ref) (cut joined : Bool) (f : A → Ref) (xs : List A) (i : ℕ) (x : A) (m one whole : Mark) → i < length xs → x ≡ get_or xs i x
     → after_operands r cut joined (map f (drop i xs)) m ≡ whole → one ≡ one_use r cut joined (f x) m → after_operands r cut joined (map f (drop (i + 1) xs)) one ≡ whole
@@ -92,9 +92,9 @@ drop_at xs i x at = drop_more xs i x (slice_get_within xs i x at) ∙ ap (λ y. 
 op_first : (ports : List Port) (all : List Op) (r : Ref) (o : Op) (os : List Op) (m : Mark)
     → after_ops ports all r os (after_operands r (is_cut_by ports all o r) (is_instance o) o.operands m) ≡ after_ops ports all r (o ∷ os) m
 op_first ports all r o os m =
-    let u : min 2 (min 2 (m.uses + places_in r o.operands) + use_count os r) ≡ min 2 (m.uses + (places_in r o.operands + use_count os r)) = omega arith in
-    let c = or_assoc m.cut (is_cut_by ports all o r && nat_lt 0 (places_in r o.operands)) (some_op (cuts ports all r) os) in
-    let j = or_assoc m.joined (is_instance o && nat_lt 0 (places_in r o.operands)) (some_op (joins r) os) in
+    let u : min 2 (min 2 (m.uses + positions_in r o.operands) + use_count os r) ≡ min 2 (m.uses + (positions_in r o.operands + use_count os r)) = omega arith in
+    let c = or_assoc m.cut (is_cut_by ports all o r && nat_lt 0 (positions_in r o.operands)) (some_op (cuts ports all r) os) in
+    let j = or_assoc m.joined (is_instance o && nat_lt 0 (positions_in r o.operands)) (some_op (joins r) os) in
     cc
 
 pub ops_step : (ports : List Port) (os : List Op) (r : Ref) (i : ℕ) (o : Op) (m one whole : Mark) → slice_get os i ≡ Some o

@@ -23,7 +23,7 @@ use Rattle.verilog_expr.proofs.Passing.{Passes, built_passes}
 abbrev Keep : List Expr → Type 0
 Keep es = (e : Expr) → In e es → keeps_signs e ≡ true
 
--- ---- places
+-- ---- positions
 
 pub placed_signed : (l : ℕ) (e : Expr) → is_signed (parenthesize l e) ≡ is_signed e
 placed_signed l e = go (nat_le l (level e)) where

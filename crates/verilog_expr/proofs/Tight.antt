@@ -22,7 +22,7 @@ use Rattle.verilog_expr.proofs.Passing.{Passes, built_passes}
 abbrev AreTight : List Expr → Type 0
 AreTight es = (e : Expr) → In e es → tight e ≡ true
 
--- ---- places
+-- ---- positions
 
 nothing_asked : (n : ℕ) → nat_le 0 n ≡ true
 nothing_asked n = go (nat_le 0 n) refl where
@@ -30,7 +30,7 @@ nothing_asked n = go (nat_le 0 n) refl where
   go true is = is
   go false is = absurd (omega (arith, leb-false 0 n is))
 
--- what could lose no parentheses in a place that asks for nothing could lose none in another
+-- what could lose no parentheses in a position that asks for nothing could lose none in another
 tight_up : (l : ℕ) (e : Expr) → tight e ≡ true → tight_at l e ≡ true
 tight_up l (name n) h = refl
 tight_up l (bit_select n k) h = refl

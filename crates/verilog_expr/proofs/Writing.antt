@@ -131,7 +131,7 @@ selects low w (name n ∷ []) = go (w == 1)
     go false = refl
 selects low w (_ ∷ []) = refl
 
--- ---- places
+-- ---- positions
 
 bare_or_paren : (l : ℕ) (e : Expr) → open_text (cond (nat_lt (level e) l) Paren Bare) ++ (expr_text e [] ++ close_text (cond (nat_lt (level e) l) Paren Bare)) ≡ expr_text (parenthesize l e) []
 unfolding expr_text

@@ -27,7 +27,7 @@ no_expr = literal (codes "0") false (codes "0")
 abbrev pub unsigned : Expr → Expr
 unsigned e = cond (is_signed e) (as_unsigned e) e
 
--- the expression in a place that asks for so much binding strength
+-- the expression in a position that asks for so much binding strength
 abbrev pub parenthesize : ℕ → Expr → Expr
 parenthesize l e = cond (nat_le l (level e)) e (paren e)
 
@@ -81,7 +81,7 @@ unsigned_division o w divisor a = binary o (unsigned_at (strength o) a) (literal
 abbrev pub signed_division : Operator → ℕ → ℕ → Expr → Expr
 signed_division o w divisor a = binary o (as_signed a) (literal_of w true divisor)
 
--- either, signed or not
+-- a division by a literal, signed or not
 abbrev pub division_expr : Bool → Operator → ℕ → ℕ → Expr → Expr
 division_expr false o w divisor a = unsigned_division o w divisor a
 division_expr true o w divisor a = signed_division o w divisor a

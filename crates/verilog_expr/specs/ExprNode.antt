@@ -67,14 +67,14 @@ IsOnly template xs None = (es : List Expr) → length es ≡ length xs → (temp
 
 -- an operation is one of the body
 pub record IsOpOf (s : Scope) (o : Op) : Type 0 where
-  pub place : ℕ
-  pub there : slice_get (scope_ops s) place ≡ Some o
+  pub position : ℕ
+  pub there : slice_get (scope_ops s) position ≡ Some o
 
 -- a value is a result of an operation of the body
 pub record IsResultOf (s : Scope) (o : Op) (k : ℕ) (r : Ref) : Type 0 where
-  pub place : ℕ
-  pub is : r ≡ result place k
-  pub there : slice_get (scope_ops s) place ≡ Some o
+  pub position : ℕ
+  pub is : r ≡ result position k
+  pub there : slice_get (scope_ops s) position ≡ Some o
 
 -- the operands that are written
 abbrev pub first_value : List Value → List Value
@@ -86,9 +86,9 @@ shown_values (UnsignedDivision o w d) xs = first_value xs
 shown_values (SignedDivision o w d) xs = first_value xs
 shown_values _ xs = xs
 
--- ---- places
+-- ---- positions
 
--- how an expression goes into a place that asks for an unsigned one or not and for so much binding strength
+-- how an expression goes into a position that asks for an unsigned one or not and for so much binding strength
 abbrev pub wrap_for : Bool → ℕ → Bool → ℕ → Wrap
 wrap_for u l is_signed level = cond (u && is_signed) Unsigned (cond (nat_lt level l) Paren Bare)
 

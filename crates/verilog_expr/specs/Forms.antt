@@ -52,7 +52,7 @@ operator_in_code bit_and = signs.BitAnd
 operator_in_code bit_xor = signs.BitXor
 operator_in_code bit_or = signs.BitOr
 
--- ---- the places of operands
+-- ---- the positions of operands
 
 -- whether the operand of a number is to be unsigned
 abbrev pub asks_unsigned : Form → ℕ → Bool
@@ -72,7 +72,7 @@ asks_level Parity i = 11
 asks_level Choice i = cond (i == 0) 2 (cond (i == 1) 0 1)
 asks_level _ i = 0
 
--- an expression in a place that asks for an unsigned one or not, and for so much binding strength
+-- an expression in a position that asks for an unsigned one or not, and for so much binding strength
 abbrev pub in_position : Bool → ℕ → Expr → Expr
 in_position u l e = parenthesize l (cond u (unsigned e) e)
 

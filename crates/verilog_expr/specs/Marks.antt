@@ -5,15 +5,15 @@ use Rattle.hw_model.specs.Design.Ref.{port, result, undefined}
 use Rattle.hw_model.specs.Flat.{width_of}
 use Rattle.ir_store.specs.Positions.{same_ref}
 use Rattle.verilog_expr.specs.Expressions.{value_width}
-use Rattle.verilog_expr.specs.Spilling.{places_in, use_count, is_narrower, cuts, joins, some_op}
+use Rattle.verilog_expr.specs.Spilling.{positions_in, use_count, is_narrower, cuts, joins, some_op}
 use Rattle.verilog_expr.specs.declared.marks.Mark.{Mark}
 
 -- the position of the operation whose first result a value is, among so many
-abbrev pub first_place : ℕ → Ref → Option ℕ
-first_place n (result i zero) = cond (nat_lt i n) (Some i) None
-first_place n (result i (suc k)) = None
-first_place n (port j) = None
-first_place n undefined = None
+abbrev pub first_position : ℕ → Ref → Option ℕ
+first_position n (result i zero) = cond (nat_lt i n) (Some i) None
+first_position n (result i (suc k)) = None
+first_position n (port j) = None
+first_position n undefined = None
 
 -- no value has more bits than integers may have
 abbrev pub AreSmall : List Port → List Op → Type 0
@@ -37,9 +37,9 @@ one_use r cut joined x m = cond (same_ref x r) (note_use cut joined m) m
 -- the mark after the operands of an operation, which cuts the value or not, and is an instance or not
 abbrev pub after_operands : Ref → Bool → Bool → List Ref → Mark → Mark
 after_operands r cut joined xs m = record {
-  uses = min 2 (m.uses + places_in r xs);
-  cut = m.cut || (cut && nat_lt 0 (places_in r xs));
-  joined = m.joined || (joined && nat_lt 0 (places_in r xs));
+  uses = min 2 (m.uses + positions_in r xs);
+  cut = m.cut || (cut && nat_lt 0 (positions_in r xs));
+  joined = m.joined || (joined && nat_lt 0 (positions_in r xs));
 }
 
 -- whether an operation takes fewer bits than a value has

@@ -6,7 +6,7 @@ use Rattle.hw_model.specs.Design.Ref.{port, result, undefined}
 use Rattle.verilog_expr.specs.declared.value_names.NameList.{NameList}
 use Rattle.verilog_expr.specs.declared.value_names.ValueNames.{ValueNames}
 
--- the name at a place of a list, where one is there
+-- the name at a position of a list, where one is there
 abbrev pub flat_name : Option (Option Name) → Option Name
 flat_name None = None
 flat_name (Some n) = n

@@ -6,8 +6,8 @@ use Rattle.verilog_model.specs.Tree.Expr.{name, bit_select, part_select, literal
 use Rattle.verilog_model.specs.Tree.Exprs.{last, more}
 use Rattle.verilog_model.specs.Grammar.{strength, choice_level, primary_level, level}
 
--- whether in a place that asks for so much binding strength what stands in each pair of parentheses of an expression binds
--- less strongly than its place asks
+-- whether in a position that asks for so much binding strength what stands in each pair of parentheses of an expression binds
+-- less strongly than its position asks
 abbrev mutual
   pub tight_at : ℕ → Expr → Bool
   tight_at l (name n) = true

@@ -77,26 +77,26 @@ IsStanding ports os hs x (Unknown i) = (x ≡ result i 0) × IsUnknown ports os 
 
 -- an operation none of whose operands is passed
 abbrev pub starting : ℕ → Waiting
-starting place = record { place = place; passed = 0; most = 0 }
+starting position = record { position = position; passed = 0; most = 0 }
 
 -- an operation waits for its operands' heights: it is no name and no literal, and the greatest of how high its operands
 -- stand is that of the passed ones or of those that are left
 pub record IsWaiting (ports : List Port) (os : List Op) (w : Waiting) : Type 0 where
-  pub within : w.place < length os
-  pub above : told.part ports os (result w.place 0) ≡ told.Part.flat → ⊥
-  pub most : max w.most (stands_most ports os (drop w.passed (operands_at os (result w.place 0)))) ≡ stands_most ports os (operands_at os (result w.place 0))
+  pub within : w.position < length os
+  pub above : told.part ports os (result w.position 0) ≡ told.Part.flat → ⊥
+  pub most : max w.most (stands_most ports os (drop w.passed (operands_at os (result w.position 0)))) ≡ stands_most ports os (operands_at os (result w.position 0))
   pub low : w.most < 64
 
 -- an operation waits for another one, which it needs
 pub record IsDown (ports : List Port) (os : List Op) (hs : List (Option ℕ)) (was w : Waiting) (below : ℕ) : Type 0 where
-  pub same : w.place ≡ was.place
+  pub same : w.position ≡ was.position
   pub waiting : IsWaiting ports os w
-  pub needed : In (result below 0) (inner_needs os (result w.place 0))
+  pub needed : In (result below 0) (inner_needs os (result w.position 0))
   pub unknown : IsUnknown ports os hs below
 
 -- what going on with an operation gives: its height, or what it waits for next
 abbrev pub IsStep : List Port → List Op → List (Option ℕ) → Waiting → Step → Type 0
-IsStep ports os hs w (Height n) = n ≡ height ports os (result w.place 0)
+IsStep ports os hs w (Height n) = n ≡ height ports os (result w.position 0)
 IsStep ports os hs w (Down next below) = IsDown ports os hs w next below
 
 -- ---- wires

@@ -60,11 +60,11 @@ is_signed_order _ = false
 
 -- whether the operand of a number stands where an unsigned one is asked for: all of arithmetic and bitwise operators, of
 -- unsigned divisions and comparisons, what is shifted without its sign, and both values of a choice
-abbrev pub is_unsigned_place : Kind → ℕ → Bool
-is_unsigned_place (variadic v) i = true
-is_unsigned_place sub i = true
-is_unsigned_place (division d) i = not (is_signed_division d)
-is_unsigned_place (shift s) i = not (is_signed_shift s) && (i == 0)
-is_unsigned_place (icmp p) i = not (is_signed_order p)
-is_unsigned_place mux i = not (i == 0)
-is_unsigned_place _ i = false
+abbrev pub is_unsigned_position : Kind → ℕ → Bool
+is_unsigned_position (variadic v) i = true
+is_unsigned_position sub i = true
+is_unsigned_position (division d) i = not (is_signed_division d)
+is_unsigned_position (shift s) i = not (is_signed_shift s) && (i == 0)
+is_unsigned_position (icmp p) i = not (is_signed_order p)
+is_unsigned_position mux i = not (i == 0)
+is_unsigned_position _ i = false

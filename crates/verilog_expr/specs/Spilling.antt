@@ -46,14 +46,14 @@ abbrev pub one_if : Bool → ℕ
 one_if true = 1
 one_if false = 0
 
--- how many places name a value
-abbrev pub places_in : Ref → List Ref → ℕ
-places_in r [] = 0
-places_in r (x ∷ xs) = one_if (same_ref x r) + places_in r xs
+-- how many positions name a value
+abbrev pub positions_in : Ref → List Ref → ℕ
+positions_in r [] = 0
+positions_in r (x ∷ xs) = one_if (same_ref x r) + positions_in r xs
 
 abbrev pub use_count : List Op → Ref → ℕ
 use_count [] r = 0
-use_count (o ∷ os) r = places_in r o.operands + use_count os r
+use_count (o ∷ os) r = positions_in r o.operands + use_count os r
 
 -- whether an operation takes fewer bits than the value has
 abbrev pub is_narrower : Kind → ℕ → ℕ → Bool
@@ -62,11 +62,11 @@ is_narrower _ w operand_width = false
 
 -- whether the operation is a narrower extract of the value, in a body with the given ports and operations
 abbrev pub cuts : List Port → List Op → Ref → Op → Bool
-cuts ports os r o = is_narrower o.kind (width_of (result_type o 0)) (value_width ports os r) && nat_lt 0 (places_in r o.operands)
+cuts ports os r o = is_narrower o.kind (width_of (result_type o 0)) (value_width ports os r) && nat_lt 0 (positions_in r o.operands)
 
 -- whether the operation is an instance with the value as an operand
 abbrev pub joins : Ref → Op → Bool
-joins r o = is_instance o && nat_lt 0 (places_in r o.operands)
+joins r o = is_instance o && nat_lt 0 (positions_in r o.operands)
 
 abbrev pub some_op : (Op → Bool) → List Op → Bool
 some_op p [] = false

@@ -14,17 +14,17 @@ pub record IsComputed (os : List Op) (r : Ref) (o : Op) : Type 0 where
 
 -- the value is an operand of an extract of fewer bits than it has
 pub record IsCut (ports : List Port) (os : List Op) (r : Ref) : Type 0 where
-  pub place : ℕ
+  pub position : ℕ
   pub op : Op
-  pub there : slice_get os place ≡ Some op
+  pub there : slice_get os position ≡ Some op
   pub operand : In r op.operands
   pub narrower : is_narrower op.kind (width_of (result_type op 0)) (value_width ports os r) ≡ true
 
 -- the value is an operand of an instance
 pub record IsJoined (os : List Op) (r : Ref) : Type 0 where
-  pub place : ℕ
+  pub position : ℕ
   pub op : Op
-  pub there : slice_get os place ≡ Some op
+  pub there : slice_get os position ≡ Some op
   pub operand : In r op.operands
   pub instance : is_instance op ≡ true
 

@@ -59,7 +59,7 @@ fn operands_in_text(form: Form, operands: &[Value]) -> &[Value]
     }
 }
 
-// Adds the expression of a value, down to a depth, in a place that asks for an unsigned one or not and for so much binding
+// Adds the expression of a value, down to a depth, in a position that asks for an unsigned one or not and for so much binding
 // strength.
 #[cycle(expr)]
 fn push_value(

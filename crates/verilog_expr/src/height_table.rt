@@ -25,7 +25,7 @@ enum Stand {
 // An operation whose height waits for that of an operand.
 #[derive(Clone, Copy)]
 struct Waiting {
-    place: usize,
+    position: usize,
     // how many of its operands are passed, and the greatest of how high these stand
     passed: usize,
     most: u32,
@@ -54,14 +54,14 @@ fn stand_of(scope: &Scope<'_>, parts: &[Part], heights: &[Option<u32>], value: V
     requires height_count { length heights.now ≡ length (scope_ops scope.now) }
     ensures { IsStanding (scope_ports scope.now) (scope_ops scope.now) heights.now (scope_ref scope.now value) result }
 {
-    let Some(place) = scope.place(value) else {
+    let Some(position) = scope.result_position(value) else {
         return Stand::Known(0);
     };
-    match parts[place] {
+    match parts[position] {
         Part::Flat | Part::Shared => Stand::Known(0),
-        Part::Nested => match heights[place] {
+        Part::Nested => match heights[position] {
             Some(height) => Stand::Known(height_in_expression(height)),
-            None => Stand::Unknown(place),
+            None => Stand::Unknown(position),
         },
     }
 }
@@ -76,7 +76,7 @@ fn go_on(scope: &Scope<'_>, parts: &[Part], heights: &[Option<u32>], waiting: Wa
     requires waiting { IsWaiting (scope_ports scope.now) (scope_ops scope.now) waiting }
     ensures { IsStep (scope_ports scope.now) (scope_ops scope.now) heights.now waiting result }
 {
-    let operands = scope.op_at(waiting.place).operands;
+    let operands = scope.op_at(waiting.position).operands;
     let mut most = waiting.most;
     for passed in waiting.passed..operands.len() {
         match stand_of(scope, parts, heights, operands[passed]) {
@@ -97,11 +97,11 @@ fn go_on(scope: &Scope<'_>, parts: &[Part], heights: &[Option<u32>], waiting: Wa
 }
 
 // An operation none of whose operands is passed.
-fn start(place: usize) -> Waiting
-    ensures { result ≡ starting place }
+fn start(position: usize) -> Waiting
+    ensures { result ≡ starting position }
 {
     Waiting {
-        place,
+        position,
         passed: 0,
         most: 0,
     }
@@ -112,7 +112,7 @@ fn start(place: usize) -> Waiting
 fn find_height(
     scope: &Scope<'_>,
     parts: &[Part],
-    place: usize,
+    position: usize,
     heights: &mut [Option<u32>],
     path: &mut [Waiting],
 )
@@ -122,21 +122,21 @@ fn find_height(
     requires height_count { length heights.old ≡ length (scope_ops scope.now) }
     requires heights { AreHeights (scope_ports scope.now) (scope_ops scope.now) (height (scope_ports scope.now) (scope_ops scope.now)) }
     requires acyclic { IsAcyclic (inner_needs (scope_ops scope.now)) }
-    requires within { place < length (scope_ops scope.now) }
-    requires above { told.part (scope_ports scope.now) (scope_ops scope.now) (result_of place 0) ≡ told.Part.flat → ⊥ }
-    requires unknown { height_get heights.old place ≡ None }
+    requires within { position < length (scope_ops scope.now) }
+    requires above { told.part (scope_ports scope.now) (scope_ops scope.now) (result_of position 0) ≡ told.Part.flat → ⊥ }
+    requires unknown { height_get heights.old position ≡ None }
     requires room { length (scope_ops scope.now) < length path.old }
     ensures known { AreKnown (scope_ports scope.now) (scope_ops scope.now) heights.new }
-    ensures found { is_some (height_get heights.new place) ≡ true }
+    ensures found { is_some (height_get heights.new position) ≡ true }
     ensures still { AreStill heights.old heights.new }
 {
-    path[0] = start(place);
+    path[0] = start(position);
     let mut depth: usize = 1;
     while depth > 0 {
         match go_on(scope, parts, heights, path[depth - 1]) {
             Step::Height(height) => {
                 depth -= 1;
-                heights[path[depth].place] = Some(height);
+                heights[path[depth].position] = Some(height);
             }
             Step::Down(waiting, below) => {
                 path[depth - 1] = waiting;
@@ -151,7 +151,7 @@ fn find_height(
 fn find_at(
     scope: &Scope<'_>,
     parts: &[Part],
-    place: usize,
+    position: usize,
     heights: &mut [Option<u32>],
     path: &mut [Waiting],
 )
@@ -161,18 +161,18 @@ fn find_at(
     requires height_count { length heights.old ≡ length (scope_ops scope.now) }
     requires heights { AreHeights (scope_ports scope.now) (scope_ops scope.now) (height (scope_ports scope.now) (scope_ops scope.now)) }
     requires acyclic { IsAcyclic (inner_needs (scope_ops scope.now)) }
-    requires within { place < length (scope_ops scope.now) }
+    requires within { position < length (scope_ops scope.now) }
     requires room { length (scope_ops scope.now) < length path.old }
     ensures known { AreKnown (scope_ports scope.now) (scope_ops scope.now) heights.new }
-    ensures found { is_some (height_get heights.new place) ≡ true }
+    ensures found { is_some (height_get heights.new position) ≡ true }
     ensures still { AreStill heights.old heights.new }
 {
-    if heights[place].is_some() {
+    if heights[position].is_some() {
         return;
     }
-    match parts[place] {
-        Part::Flat => heights[place] = Some(0),
-        Part::Shared | Part::Nested => find_height(scope, parts, place, heights, path),
+    match parts[position] {
+        Part::Flat => heights[position] = Some(0),
+        Part::Shared | Part::Nested => find_height(scope, parts, position, heights, path),
     }
 }
 
@@ -187,8 +187,8 @@ fn find_all(scope: &Scope<'_>, parts: &[Part], heights: &mut [Option<u32>], path
     requires room { length (scope_ops scope.now) < length path.old }
     ensures { AreHeightsAt (scope_ports scope.now) (scope_ops scope.now) heights.new }
 {
-    for place in 0..parts.len() {
-        find_at(scope, parts, place, heights, path);
+    for position in 0..parts.len() {
+        find_at(scope, parts, position, heights, path);
     }
 }
 
@@ -217,7 +217,7 @@ fn no_heights(alloc: Global, count: usize) -> Result<Vec<Option<u32>>, AllocErro
     ensures none { IfOk result (λ hs. (i : ℕ) → i < count → height_get hs.items i ≡ None) }
 {
     let mut heights = Vec::with_capacity(alloc, count)?;
-    for place in 0..count {
+    for position in 0..count {
         heights.push(None)?;
     }
     Ok(heights)

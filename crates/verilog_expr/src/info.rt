@@ -1,4 +1,4 @@
-//! What the expression of a value is seen to be before it is written, and how it goes into a place.
+//! What the expression of a value is seen to be before it is written, and how it goes into a position.
 ghost use Rattle.std.specs.Prelude.{◌≡◌, ◌++◌, [], option_map, false, None, OnOk};
 ghost use Rattle.verilog_model.specs.Grammar.{level};
 ghost use Rattle.verilog_model.specs.Expression.{is_signed};
@@ -25,7 +25,7 @@ pub(crate) struct SubexprInfo<'n> {
     pub(crate) level: u8,
 }
 
-/// How an expression is put into a place.
+/// How an expression is put into a position.
 #[derive(Clone, Copy)]
 pub(crate) enum Wrap {
     /// As it is.
@@ -141,7 +141,7 @@ pub(crate) fn only_name<'n>(
     }
 }
 
-/// How an expression goes into a place.
+/// How an expression goes into a position.
 pub(crate) fn wrap_for(unsigned: bool, level: u8, seen: &SubexprInfo<'_>) -> Wrap
     ensures { result ≡ wrap_for unsigned level seen.now.is_signed seen.now.level }
 {
@@ -154,7 +154,7 @@ pub(crate) fn wrap_for(unsigned: bool, level: u8, seen: &SubexprInfo<'_>) -> Wra
     }
 }
 
-/// Adds what opens a place.
+/// Adds what opens a position.
 pub(crate) fn push_open(out: &mut Text, wrap: Wrap) -> Result<(), AllocError>
     ensures { OnOk result (out.new ≡ out.old ++ open_text wrap) }
 {
@@ -166,7 +166,7 @@ pub(crate) fn push_open(out: &mut Text, wrap: Wrap) -> Result<(), AllocError>
     Ok(())
 }
 
-/// Adds what closes a place.
+/// Adds what closes a position.
 pub(crate) fn push_close(out: &mut Text, wrap: Wrap) -> Result<(), AllocError>
     ensures { OnOk result (out.new ≡ out.old ++ close_text wrap) }
 {

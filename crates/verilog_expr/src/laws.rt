@@ -25,7 +25,7 @@ ghost use Rattle.verilog_expr.specs.declared.template.Template.TheVariants.{Oper
 ghost use Rattle.verilog_expr.specs.Expressions.{op_at, value_width, own_expr, AreExprs, expr_to};
 ghost use Rattle.verilog_expr.specs.Spilling.{is_pure, is_constant_kind, AreHeights, height, height_limit, spilled, inner_needs};
 ghost use Rattle.verilog_expr.specs.Parentheses.{tight, opened};
-ghost use Rattle.verilog_expr.specs.Signs.{is_signed_kind, is_unsigned_place, keeps_signs};
+ghost use Rattle.verilog_expr.specs.Signs.{is_signed_kind, is_unsigned_position, keeps_signs};
 ghost use Rattle.verilog_expr.specs.Values.{HasBits, IsBuildable, IsDividedBy, gives_values, is_division, IsWritable, AreNamed, HoldConstants};
 ghost use Rattle.verilog_expr.specs.WireRules.{IsComputed, IsCut, WantsWire, heights_without_wire};
 
@@ -119,15 +119,15 @@ pub fn parentheses_are_needed()
 {}
 
 /// Does nothing. Its clauses say that each expression stands by its own sign (IEEE 1364-2005, 5.5). An unsigned one is asked
-/// for in the places of `is_unsigned_place` (`asked`), unless an operand stands as it is, and there what stands is unsigned
-/// (`places`); only a signed division or shift is signed, or what stands as an operand
+/// for in the places of `is_unsigned_position` (`asked`), unless an operand stands as it is, and there what stands is unsigned
+/// (`positions`); only a signed division or shift is signed, or what stands as an operand
 /// does (`signed`, `kinds`). What stands round an operand changes its sign nowhere: in the expression of an operation where
 /// it does so in none of its operands' expressions, in each expression of a body, each down to a depth, and in what is
 /// assigned to a name, whatever names the values have.
 pub fn signs_are_kept()
     ensures asked { (kind : Kind) (w v divisor n i : ℕ) (f : Form) → template_for kind w v divisor n ≡ Operands f → (f ≡ Same → ⊥)
-        → asks_unsigned f i ≡ is_unsigned_place kind i }
-    ensures places { (l : ℕ) (e : Expr) → is_signed (in_position true l e) ≡ false }
+        → asks_unsigned f i ≡ is_unsigned_position kind i }
+    ensures positions { (l : ℕ) (e : Expr) → is_signed (in_position true l e) ≡ false }
     ensures kinds { (kind : Kind) (w : ℕ) (ws : List ℕ) (divisor : ℕ) (es : List Expr) → is_signed_kind kind ≡ true → length es ≡ 2
         → is_signed (kind_expr kind w ws divisor es) ≡ true }
     ensures signed { (kind : Kind) (w : ℕ) (ws : List ℕ) (divisor : ℕ) (es : List Expr) → is_signed (kind_expr kind w ws divisor es) ≡ true

@@ -17,7 +17,7 @@ use std::alloc::{AllocError, Global};
 /// How the first result of an operation is used.
 #[derive(Clone, Copy)]
 pub struct Mark {
-    /// How many places name it, at most two.
+    /// How many positions name it, at most two.
     pub uses: u8,
     /// Whether a narrower extract takes bits of it.
     pub cut: bool,
@@ -64,9 +64,9 @@ fn mark_value(scope: &Scope<'_>, value: Value, kind: &OpKind, width: u64, marks:
     ensures marks { (i : ℕ) → i < length marks.old → mark_at marks.new i ≡ one_use (result_of i 0) (is_narrower (kind_of kind.now) width (value_width (scope_ports scope.now) (scope_ops scope.now) (result_of i 0))) (is_some (instance_in (kind_of kind.now))) (scope_ref scope.now value) (mark_at marks.old i) }
     ensures few { (i : ℕ) → (mark_at marks.new i).uses < 3 }
 {
-    if let Some(place) = scope.place(value) {
+    if let Some(position) = scope.result_position(value) {
         let cut = is_narrower(kind, width, scope.width(value));
-        marks[place] = note_use(marks[place], cut, is_instance(kind));
+        marks[position] = note_use(marks[position], cut, is_instance(kind));
     }
 }
 

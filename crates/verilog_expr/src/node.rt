@@ -28,10 +28,10 @@ pub(crate) fn constant_at(scope: &Scope<'_>, value: Value, width: u64) -> u128
     requires { width < 129 }
     ensures { result ≡ constant_of (op_at (scope_ops scope.now) (scope_ref scope.now value)) width }
 {
-    let Some(place) = scope.place(value) else {
+    let Some(position) = scope.result_position(value) else {
         return 0;
     };
-    match scope.op_at(place).kind {
+    match scope.op_at(position).kind {
         OpKind::Constant(constant) => constant_number(width, *constant),
         _ => 0,
     }

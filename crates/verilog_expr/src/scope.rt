@@ -28,7 +28,7 @@ impl<'m> Scope<'m> {
     ghost use Rattle.ir_store.specs.Designs.{ports_in};
     ghost use Rattle.ir_store.specs.Numbered.{position_of, ops_by_position};
     ghost use Rattle.verilog_expr.specs.Expressions.{value_width};
-    ghost use Rattle.verilog_expr.specs.Marks.{first_place};
+    ghost use Rattle.verilog_expr.specs.Marks.{first_position};
     ghost use Rattle.verilog_expr.specs.Scopes.{scope_ports, scope_ops, scope_ids, scope_ref, op_read};
 
     /// A body with its ports, in which no value has more than 128 bits. One of 2^32 operations or more wants more memory than
@@ -93,8 +93,8 @@ impl<'m> Scope<'m> {
     }
 
     /// The position of the operation whose first result the value is, where it is there.
-    pub fn place(&self, value: Value) -> Option<usize>
-        ensures { result ≡ first_place (length (scope_ops self.now)) (scope_ref self.now value) }
+    pub fn result_position(&self, value: Value) -> Option<usize>
+        ensures { result ≡ first_position (length (scope_ops self.now)) (scope_ref self.now value) }
     {
         match value {
             Value::Result(id, 0) => self.within(self.position(id)),

@@ -74,11 +74,11 @@ impl ValueNames {
     }
 }
 
-// The name at a place, where one is there.
-fn name_in(names: &[Option<Text>], place: usize) -> Option<&[u8]>
-    ensures { option_map (λ n. n.now) result ≡ name_in names.now place }
+// The name at a position, where one is there.
+fn name_in(names: &[Option<Text>], position: usize) -> Option<&[u8]>
+    ensures { option_map (λ n. n.now) result ≡ name_in names.now position }
 {
-    match names.get(place) {
+    match names.get(position) {
         Some(Some(name)) => Some(name.as_bytes()),
         Some(None) | None => None,
     }

@@ -46,10 +46,10 @@ impl Wires {
     }
 
     /// Whether the first result of the operation at a position has a wire.
-    pub fn has_wire(&self, place: usize) -> bool
-        ensures { result ≡ slice_index_or self.now.wires.items place false }
+    pub fn has_wire(&self, position: usize) -> bool
+        ensures { result ≡ slice_index_or self.now.wires.items position false }
     {
-        match self.wires.get(place) {
+        match self.wires.get(position) {
             Some(wire) => *wire,
             None => false,
         }
@@ -96,10 +96,10 @@ fn wires_of(
 {
     let count = scope.count();
     let mut wires = Vec::with_capacity(alloc, count)?;
-    for place in 0..count {
-        let op = scope.op_at(place);
-        let height = heights[place].unwrap_or(0);
-        wires.push(is_wired(&op, marks[place], parts[place], height))?;
+    for position in 0..count {
+        let op = scope.op_at(position);
+        let height = heights[position].unwrap_or(0);
+        wires.push(is_wired(&op, marks[position], parts[position], height))?;
     }
     Ok(wires)
 }

@@ -2,7 +2,7 @@
 use crate::cursor::Cursor;
 use crate::fault::{Fault, require, require_some};
 use crate::tokens::{Token, decimal, hexadecimal, literal_parts};
-use crate::tree::{Declared, Expression, Node, Operator, place_of};
+use crate::tree::{Declared, Expression, Node, Operator, position_of};
 use bits_core::Bits;
 
 /// How deeply expressions nest at most.
@@ -68,7 +68,7 @@ fn literal(word: &[u8]) -> Option<Node> {
     })
 }
 
-// Whether the part at a place is a literal that is not 0.
+// Whether the part at a position is a literal that is not 0.
 fn is_divisor(nodes: &[Node], at: usize) -> bool {
     match nodes.get(at) {
         Some(Node::Literal { word, .. }) => word.value() != 0,
@@ -251,7 +251,7 @@ impl<'r, 't> Cursor<'r, 't> {
         if let Some(node) = literal(word) {
             return Ok(node);
         }
-        let net = require_some(place_of(declared, word))?;
+        let net = require_some(position_of(declared, word))?;
         let named = require_some(declared.get(net).copied())?;
         if self.takes_mark(b'[') {
             return self.select(net, named);

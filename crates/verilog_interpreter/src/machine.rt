@@ -6,7 +6,7 @@ use crate::registers::{next_value, rise_value};
 use crate::shapes::Shape;
 use crate::tree::{
     Always, Connection, Declared, Expression, Instance, Item, Module, Role, find_module, only_name,
-    place_of,
+    position_of,
 };
 use crate::values::{Scope, assigned_value, extend, is_known, low_bits};
 use bits_core::Bits;
@@ -34,7 +34,7 @@ struct Driver<'p> {
     source: Source<'p>,
 }
 
-// A register of the flattened module, the nets of its module beginning at a place.
+// A register of the flattened module, the nets of its module beginning at a position.
 #[derive(Clone, Copy)]
 struct Slot<'p> {
     start: usize,
@@ -59,7 +59,7 @@ pub struct Stepped {
     pub content: Vec<Bits>,
 }
 
-// The sum of two places.
+// The sum of two positions.
 fn sum(a: usize, b: usize) -> Result<usize, Fault> {
     require_some(a.checked_add(b))
 }
@@ -117,7 +117,7 @@ impl<'p> Machine<'p> {
         Ok(())
     }
 
-    // What the items of a module drive, its nets beginning at a place.
+    // What the items of a module drive, its nets beginning at a position.
     #[cycle(flattening)]
     fn items<'t>(
         &mut self,
@@ -148,7 +148,7 @@ impl<'p> Machine<'p> {
         Ok(())
     }
 
-    // An instance, of which a module with nets from a place on has the connections.
+    // An instance, of which a module with nets from a position on has the connections.
     #[cycle(flattening)]
     fn child<'t>(
         &mut self,
@@ -168,7 +168,7 @@ impl<'p> Machine<'p> {
         self.items(modules, module, start, room - 1)
     }
 
-    // A connection of a port, the nets of the instance beginning at a place.
+    // A connection of a port, the nets of the instance beginning at a position.
     fn connect<'t>(
         &mut self,
         declared: &[Declared],
@@ -176,7 +176,7 @@ impl<'p> Machine<'p> {
         outer: usize,
         start: usize,
     ) -> Result<(), Fault> {
-        let at = require_some(place_of(declared, connection.port))?;
+        let at = require_some(position_of(declared, connection.port))?;
         let port = require_some(declared.get(at).copied())?;
         let inner = sum(start, at)?;
         match port.role {

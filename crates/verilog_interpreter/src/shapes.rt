@@ -88,7 +88,7 @@ pub fn own_shapes(alloc: Global, nodes: &[Node]) -> Result<Vec<Shape>, Fault> {
     Ok(shapes)
 }
 
-// Puts a shape at a place.
+// Puts a shape at a position.
 fn put(contexts: &mut Vec<Shape>, at: usize, shape: Shape) {
     if let Some(slot) = contexts.get_mut(at) {
         *slot = shape;

@@ -5,7 +5,7 @@ use crate::fault::{Fault, require, require_some};
 use crate::tokens::{Token, tokens};
 use crate::tree::{
     Always, Branch, Connection, Declared, Expression, Instance, Item, Module, Node, Role,
-    only_name, place_of,
+    only_name, position_of,
 };
 use std::alloc::Global;
 
@@ -37,14 +37,14 @@ fn all_modules<'t>(alloc: Global, tokens: &[Token<'t>]) -> Result<Vec<Module<'t>
 
 // Puts a declared name after those that are there.
 fn declare<'t>(declared: &mut Vec<Declared<'t>>, thing: Declared<'t>) -> Result<(), Fault> {
-    require(place_of(declared.as_slice(), thing.name).is_none())?;
+    require(position_of(declared.as_slice(), thing.name).is_none())?;
     declared.push(thing)?;
     Ok(())
 }
 
-// The place of a declared name of this kind.
-fn place_as(declared: &[Declared], name: &[u8], roles: &[Role]) -> Result<usize, Fault> {
-    let at = require_some(place_of(declared, name))?;
+// The position of a declared name of this kind.
+fn position_as(declared: &[Declared], name: &[u8], roles: &[Role]) -> Result<usize, Fault> {
+    let at = require_some(position_of(declared, name))?;
     let found = require_some(declared.get(at).copied())?;
     for role in roles {
         if *role == found.role {
@@ -152,7 +152,7 @@ impl<'r, 't> Cursor<'r, 't> {
     // An assignment after `assign`.
     fn assignment(&mut self, declared: &[Declared]) -> Result<Item<'t>, Fault> {
         let name = self.name()?;
-        let target = place_as(declared, name, &[Role::Wire, Role::Output])?;
+        let target = position_as(declared, name, &[Role::Wire, Role::Output])?;
         self.operator(b"=")?;
         let value = self.expression(declared)?;
         self.mark(b';')?;
@@ -181,7 +181,7 @@ impl<'r, 't> Cursor<'r, 't> {
     fn event(&mut self, declared: &[Declared]) -> Result<usize, Fault> {
         self.word(b"posedge")?;
         let name = self.name()?;
-        place_as(declared, name, &[Role::Input])
+        position_as(declared, name, &[Role::Input])
     }
 
     // `or` and another event, or nothing.
@@ -193,7 +193,7 @@ impl<'r, 't> Cursor<'r, 't> {
         Ok(Some(net))
     }
 
-    // One branch, or two of one register: its place.
+    // One branch, or two of one register: its position.
     fn branches(
         &mut self,
         declared: &[Declared],
@@ -207,7 +207,7 @@ impl<'r, 't> Cursor<'r, 't> {
         Ok(target)
     }
 
-    // A condition, if there is one, and a load: the place of its register.
+    // A condition, if there is one, and a load: the position of its register.
     fn branch(
         &mut self,
         declared: &[Declared],
@@ -215,7 +215,7 @@ impl<'r, 't> Cursor<'r, 't> {
     ) -> Result<usize, Fault> {
         let condition = self.condition(declared)?;
         let name = self.name()?;
-        let target = place_as(declared, name, &[Role::Reg])?;
+        let target = position_as(declared, name, &[Role::Reg])?;
         self.operator(b"<=")?;
         let value = self.expression(declared)?;
         self.mark(b';')?;

@@ -63,7 +63,7 @@ fn sort_after(open: Sort, bytes: &[u8], byte: u8) -> Sort {
     }
 }
 
-// The bytes from a place to another one.
+// The bytes from a position to another one.
 fn piece(text: &[u8], start: usize, end: usize) -> &[u8] {
     if start <= end && end <= text.len() {
         &text[start..end]

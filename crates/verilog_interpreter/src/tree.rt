@@ -1,4 +1,4 @@
-//! Trees of Verilog texts (IEEE 1364-2005, Annex A), names of a module standing by their place among what it declares.
+//! Trees of Verilog texts (IEEE 1364-2005, Annex A), names of a module standing by their position among what it declares.
 ghost use Rattle.std.specs.Prelude.{◌≤◌};
 
 use bits_core::Bits;
@@ -196,8 +196,8 @@ pub fn only_name(expression: &Expression) -> Option<usize> {
     }
 }
 
-/// The place of a name among what is declared.
-pub fn place_of(declared: &[Declared], name: &[u8]) -> Option<usize> {
+/// The position of a name among what is declared.
+pub fn position_of(declared: &[Declared], name: &[u8]) -> Option<usize> {
     for (at, other) in declared.iter().enumerate() {
         if other.name == name {
             return Some(at);

@@ -19,7 +19,7 @@ use Rattle.verilog_model.proofs.TokenReader.State.{take, operand, complete}
 use Rattle.verilog_model.proofs.TokenReader.Class.{joins, ask, select}
 use Rattle.verilog_model.proofs.TokenReader.TokenClass.{identifier, number, based}
 
--- what the reader needs of an expression: its operands bind as strongly as their places ask, its names begin as names,
+-- what the reader needs of an expression: its operands bind as strongly as their positions ask, its names begin as names,
 -- its numerals are decimal
 abbrev mutual
   pub Clear : Expr → Type 0
@@ -123,7 +123,7 @@ strength_within bit_and = omega arith
 strength_within bit_xor = omega arith
 strength_within bit_or = omega arith
 
--- how strongly the place holds what is read there
+-- how strongly the position holds what is read there
 abbrev pub grip : Around → ℕ
 grip (left_of o a s) = strength o
 grip (chosen c a s) = 1

@@ -13,7 +13,7 @@ use Rattle.verilog_model.specs.Tree.Block.{load, if_load, if_else, if_else_if, a
 use Rattle.verilog_model.specs.Tree.Item.{wire, reg, assign, always, instance}
 use Rattle.verilog_model.specs.Grammar.{operator_token, strength}
 
--- what is made of the items after a place, and of the modules after them
+-- what is made of the items after a position, and of the modules after them
 abbrev pub Rest : Type 0
 Rest = List Item → Tree → Tree
 

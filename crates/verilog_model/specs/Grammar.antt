@@ -212,7 +212,7 @@ level (binary o a b) = strength o
 level (choice c a b) = choice_level
 level _ = primary_level
 
--- no operand binds less strongly than its place asks: binary operators associate to the left, `?:` to the right, and a
+-- no operand binds less strongly than its position asks: binary operators associate to the left, `?:` to the right, and a
 -- unary operator stands before a primary
 abbrev mutual
   pub fits : Expr → Bool

@@ -75,7 +75,7 @@ abbrev pub width_at : Option VModule → Name → ℕ
 width_at None n = 0
 width_at (Some m) n = width_in m n
 
--- ---- places
+-- ---- positions
 
 -- a path of instance names, the innermost first
 abbrev pub VPath : Type 0

@@ -1,10 +1,10 @@
 -- Chains of needs: where no net needs itself, no chain is longer than a list of the nets that have needs.
--- This is the pigeonhole principle, by places in the list: no two nets are ever compared.
+-- This is the pigeonhole principle, by positions in the list: no two nets are ever compared.
 use Rattle.std.proofs.Common.{◌≡◌, ℕ, zero, suc, ◌+◌, ◌<◌, ◌≤◌, ◌⊎◌, List, [], ◌∷◌, length, refl, sym, ap, subst, ◌∙◌, inl, inr, arith, zero-add, suc-add}
 use Rattle.wiring.specs.Wiring.{In, Chain, Depends, IsAcyclic, IsWithin, FallsAlong}
 
 module _ {A : Type 0} where
-  -- the list without the member that stands at the place `here`
+  -- the list without the member that stands at the position `here`
   abbrev pub without : (x : A) (xs : List A) → In x xs → List A
   without x [] here = []
   without x (y ∷ ys) (inl same) = ys

@@ -27,7 +27,7 @@ use Rattle.export_verilog.proofs.items.Lookups.{width_under}
 use Rattle.export_verilog.proofs.items.Settings.{Setting, Called, called_by_emission, module_ok, result_at_first}
 use Rattle.export_verilog.proofs.items.Registers.{register_of}
 use Rattle.export_verilog.proofs.items.Drives.{block_name}
-use Rattle.export_verilog.proofs.behaviour.Places.{symbol_at_path, Further, further, name_of_step, vplace, vpath_of}
+use Rattle.export_verilog.proofs.behaviour.Positions.{symbol_at_path, Further, further, name_of_step, vposition, vpath_of}
 
 -- ---- lists of items
 
@@ -298,9 +298,9 @@ module _ (d : Design) (x : Setting d) where
           let at = symbol_at_path d x top p f.outer f.here in
           ap (vbase (tree_of d) (symbol_name d top)) (name_of_step d x top u p m f)
           ∙ ap₂ (λ a b. a + b) (rest f.outer f.here)
-          (ap (vstate_before (tree_of d) (is_instance_named (identifier_text f.outer (instance_identifier f.place)))) (vplace d x top p f.outer f.here)
-          ∙ state_before_instance d x at.0 f.outer at.1 (vstate (tree_of d)) (state d) (agrees f.outer) f.place f.op f.there f.emission
-          ∙ ap (body_state (state d)) (sym (ap (λ v. before_instance v f.outer.body) (sym f.is_number) ∙ before_position f.outer.body f.place f.op f.called.kind f.there f.called.is_kind))
+          (ap (vstate_before (tree_of d) (is_instance_named (identifier_text f.outer (instance_identifier f.position)))) (vposition d x top p f.outer f.here)
+          ∙ state_before_instance d x at.0 f.outer at.1 (vstate (tree_of d)) (state d) (agrees f.outer) f.position f.op f.there f.emission
+          ∙ ap (body_state (state d)) (sym (ap (λ v. before_instance v f.outer.body) (sym f.is_number) ∙ before_position f.outer.body f.position f.op f.called.kind f.there f.called.is_kind))
           ∙ sym (ap (state_before d u) f.here))
 
     pub register_base : (p : Path) (m : Module) → module_at d top p ≡ Some m → (i : ℕ) (o : Op) → slice_get m.body i ≡ Some o → emission_of m.ports m.body i o ≡ as_reg

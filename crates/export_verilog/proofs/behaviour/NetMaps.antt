@@ -30,7 +30,7 @@ use Rattle.export_verilog.proofs.items.Settings.{Setting, Called, module_sound, 
 use Rattle.export_verilog.proofs.behaviour.Sources.{register_from, instance_from, made_from, rest_from, no_op_from, pure_sort}
 use Rattle.export_verilog.proofs.items.Writable.{NamedAs, named_as}
 use Rattle.export_verilog.proofs.items.Writable.NamedAs.{by_port, by_value}
-use Rattle.export_verilog.proofs.behaviour.Places.{vpath_of, further}
+use Rattle.export_verilog.proofs.behaviour.Positions.{vpath_of, further}
 use Rattle.export_verilog.proofs.behaviour.Nets.{identifier_drive, width_here}
 use Rattle.export_verilog.proofs.items.Operands.{output_type_at, none_at}
 use Rattle.export_verilog.proofs.behaviour.NetValues.{own, given, evaluated, evaluated_as, HaveWords, IsGood, symbol_there, found_there, can_write, own_named, own_absent, own_unnamed, made_worth}
@@ -158,10 +158,10 @@ module _ (d : Design) (x : Setting d) (top : Name) (inputs content : Word) (m0 :
   ) where
     as_port : (a : ℕ) (z : Port) → slice_get m.ports a ≡ Some z → port_identifier j ≡ port_identifier a → (z.is_output ≡ false) × (r ≡ port a)
     as_port a z other e =
-        let places : j ≡ a = cc in
-        let ports : Some y ≡ Some z = sym there ∙ ap (slice_get m.ports) places ∙ other in
+        let positions : j ≡ a = cc in
+        let ports : Some y ≡ Some z = sym there ∙ ap (slice_get m.ports) positions ∙ other in
         let one : y ≡ z = cc in
-        (ap (λ (w : Port). w.is_output) (sym one) ∙ inward, same ∙ ap port places)
+        (ap (λ (w : Port). w.is_output) (sym one) ∙ inward, same ∙ ap port positions)
   named_agrees σ good τ own_is shows p m here r n (by_value i k within same called) = (
     value_identifier i k,
     within,
@@ -192,21 +192,21 @@ module _ (d : Design) (x : Setting d) (top : Name) (inputs content : Word) (m0 :
           same_op a o' e at' = let h : Some o ≡ Some o' = sym there ∙ ap (slice_get m.body) e ∙ at' in let g : o ≡ o' = cc in g
 
           by_owner : (a k : ℕ) → i ≡ a → (within : In (value_identifier a k) (module_identifiers m)) → n ≡ identifier_text m (value_identifier a k) → Owner m (value_identifier a k) → σ (vnet (vpath_of d top p) n) ≡ bits_of_ℤ (width t) z
-          by_owner a k place within is (a_port j y at' e) = absurd (let h : value_identifier a k ≡ port_identifier j = e in cc)
-          by_owner a k place within is (an_instance b o' at' emission e) = absurd (let h : value_identifier a k ≡ instance_identifier b = e in cc)
-          by_owner a k place within is (a_variable b o' at' emission e) = absurd (
-              let places : i ≡ b = (let h : a ≡ b = cc in place ∙ h) in
+          by_owner a k position within is (a_port j y at' e) = absurd (let h : value_identifier a k ≡ port_identifier j = e in cc)
+          by_owner a k position within is (an_instance b o' at' emission e) = absurd (let h : value_identifier a k ≡ instance_identifier b = e in cc)
+          by_owner a k position within is (a_variable b o' at' emission e) = absurd (
+              let positions : i ≡ b = (let h : a ≡ b = cc in position ∙ h) in
               let f = register_of_emission m.ports m.body b o' emission in
-              let h : None ≡ Some f.0 = sym form.0 ∙ ap (λ (w : Op). register_form w.kind) (same_op b o' places at') ∙ f.1 in cc)
-          by_owner a k place within is (a_result b l o' r at' emission found e) = absurd (
-              let places : i ≡ b = (let h : a ≡ b = cc in place ∙ h) in
+              let h : None ≡ Some f.0 = sym form.0 ∙ ap (λ (w : Op). register_form w.kind) (same_op b o' positions at') ∙ f.1 in cc)
+          by_owner a k position within is (a_result b l o' r at' emission found e) = absurd (
+              let positions : i ≡ b = (let h : a ≡ b = cc in position ∙ h) in
               let f = instance_of_emission m.ports m.body b o' emission in
-              let h : None ≡ Some f.0 = sym form.1 ∙ ap (λ (w : Op). instance_in w.kind) (same_op b o' places at') ∙ f.2 in cc)
-          by_owner a k place within is (a_net b o' at' emission e) =
-              let places : i ≡ b = (let h : a ≡ b = cc in place ∙ h) in
-              let ops : o ≡ o' = same_op b o' places at' in
-              let emission' : emission_of m.ports m.body i o ≡ as_wire = ap₂ (emission_of m.ports m.body) places ops ∙ emission in
-              ap (λ w. σ (vnet (vpath_of d top p) w)) (is ∙ ap (identifier_text m) (e ∙ ap (λ w. value_identifier w 0) (sym places)))
+              let h : None ≡ Some f.0 = sym form.1 ∙ ap (λ (w : Op). instance_in w.kind) (same_op b o' positions at') ∙ f.2 in cc)
+          by_owner a k position within is (a_net b o' at' emission e) =
+              let positions : i ≡ b = (let h : a ≡ b = cc in position ∙ h) in
+              let ops : o ≡ o' = same_op b o' positions at' in
+              let emission' : emission_of m.ports m.body i o ≡ as_wire = ap₂ (emission_of m.ports m.body) positions ops ∙ emission in
+              ap (λ w. σ (vnet (vpath_of d top p) w)) (is ∙ ap (identifier_text m) (e ∙ ap (λ w. value_identifier w 0) (sym positions)))
               ∙ settled_given p m here (value_identifier i 0) (net_in m i o there emission')
               ∙ net_given d x top inputs content p m here σ tree_words i o t there emission' typed (λ h. absurd (let g : false ≡ true = sym form.2 ∙ h in cc))
               ∙ ap (λ w. op_value w o.types t 0 (map (worth σ p m) o.operands)) kind
@@ -247,7 +247,7 @@ module _ (d : Design) (x : Setting d) (top : Name) (inputs content : Word) (m0 :
         ∙ back_own p m here r
 
     pub back_settled : IsDesignSettled (back σ)
-    back_settled n = at_place n.path n.ref where
+    back_settled n = at_position n.path n.ref where
       at_module : (p : Path) (r : Ref) (m : Module) (here : module_at d top p ≡ Some m) → (n : Option Name) → value_name m r ≡ n → worth σ p m r ≡ got (back σ) p r
       at_module p r m here None unnamed = unnamed_agrees σ (tree_good σ settled) (back σ) p m here r unnamed (λ z within. back_own p m here z)
       at_module p r m here (Some n) called =
@@ -260,5 +260,5 @@ module _ (d : Design) (x : Setting d) (top : Name) (inputs content : Word) (m0 :
       go p r None none = back_missing σ p r none ∙ sym (missing_value (back σ) p r none)
       go p r (Some m) here = back_here σ p m r here ∙ at_module p r m here (value_name m r) refl
 
-      at_place : (p : Path) (r : Ref) → back σ (at p r) ≡ got (back σ) p r
-      at_place p r = go p r (module_at d top p) refl
+      at_position : (p : Path) (r : Ref) → back σ (at p r) ≡ got (back σ) p r
+      at_position p r = go p r (module_at d top p) refl

@@ -42,7 +42,7 @@ use Rattle.export_verilog.proofs.items.Drives.{OutputAt, output_of_number}
 use Rattle.export_verilog.proofs.behaviour.Sources.{register_from, instance_from, made_from, inner_acyclic}
 use Rattle.export_verilog.proofs.items.Writable.{NamedAs, named_as, writable}
 use Rattle.export_verilog.proofs.items.Writable.NamedAs.{by_port, by_value}
-use Rattle.export_verilog.proofs.behaviour.Places.{number_of, vpath_of, symbol_at_path, Further, further, vplace, inside_instance}
+use Rattle.export_verilog.proofs.behaviour.Positions.{number_of, vpath_of, symbol_at_path, Further, further, vposition, inside_instance}
 use Rattle.export_verilog.proofs.behaviour.Nets.{identifier_drive, module_width, drive_net, drive_variable, drive_result, drive_instance, drive_output, drive_top_input, drive_inner_input}
 use Rattle.export_verilog.proofs.items.Operands.{output_ref_at, operand_at, output_type_at}
 
@@ -66,7 +66,7 @@ pub made_gives : (o : Op) → register_form o.kind ≡ None → instance_in o.ki
 made_gives o r n u = simp (r, n, u)
 
 module _ (d : Design) (x : Setting d) (top : Name) (inputs content : Word) where
-  -- ---- at a place
+  -- ---- at a position
 
   -- the value of a module's value, as its expression says it
   abbrev pub own : (VNet → Word) → Path → Module → Ref → Word
@@ -152,7 +152,7 @@ module _ (d : Design) (x : Setting d) (top : Name) (inputs content : Word) where
       pub assigned_own : (k : ℕ) (r : Ref) → value_width m.ports m.body r ≡ k
           → drive_value (tree_of d) (symbol_name d top) inputs content σ k (driven_by (vpath_of d top p) (expression m r)) ≡ own σ p m r
       assigned_own k r size =
-          ap (λ v. assigned (width_at v) (names_at (vpath_of d top p) σ) k (expression m r)) (vplace d x top p m here)
+          ap (λ v. assigned (width_at v) (names_at (vpath_of d top p) σ) k (expression m r)) (vposition d x top p m here)
           ∙ assigned_same (width_in (vmodule d m)) (names_at (vpath_of d top p) σ) k (expression m r)
           (subst (λ w. HasBits (width_in (vmodule d m)) (names_at (vpath_of d top p) σ) w (expression m r)) size (own_bits r))
 
@@ -181,7 +181,7 @@ module _ (d : Design) (x : Setting d) (top : Name) (inputs content : Word) where
           let h = made_of_emission m.ports m.body i o emission in
           let gives : gives_values o ≡ true = made_gives o h.0 h.1 h.2 in
           ap₂ (λ w z. drive_value (tree_of d) (symbol_name d top) inputs content σ w z) (result_width_is i 0 o t there typed) (drive_net d x top p m here i o there emission)
-          ∙ ap (λ v. assigned (width_at v) (names_at (vpath_of d top p) σ) (width t) (assigned_expr m (result i 0))) (vplace d x top p m here)
+          ∙ ap (λ v. assigned (width_at v) (names_at (vpath_of d top p) σ) (width t) (assigned_expr m (result i 0))) (vposition d x top p m here)
           ∙ assigned_same (width_in (vmodule d m)) (names_at (vpath_of d top p) σ) (width t) (assigned_expr m (result i 0))
           (assigned_bits i o t there gives typed)
           ∙ made_worth i 0 o t there gives typed hold
@@ -223,8 +223,8 @@ module _ (d : Design) (x : Setting d) (top : Name) (inputs content : Word) where
           let c = called_by_emission d x symbol_there m found_there i o there emission in
           let typed : slice_get (output_types c.module_of.ports) l ≡ Some r.type = output_type_at d m o c l ∙ ap (option_map (λ (z : OpResult). z.type)) found in
           let e = output_of_number c.module_of.ports l r.type typed in
-          by_drive (value_identifier i l) same (driven_from (vnet (vpath_of d top (number_of m.body i ∷ p)) (identifier_text c.module_of (port_identifier e.place)))) (drive_result d x top p m here i l o r c there emission found e)
-          (low_long (identifier_width m (value_identifier i l)) false (σ (vnet (vpath_of d top (number_of m.body i ∷ p)) (identifier_text c.module_of (port_identifier e.place)))))
+          by_drive (value_identifier i l) same (driven_from (vnet (vpath_of d top (number_of m.body i ∷ p)) (identifier_text c.module_of (port_identifier e.position)))) (drive_result d x top p m here i l o r c there emission found e)
+          (low_long (identifier_width m (value_identifier i l)) false (σ (vnet (vpath_of d top (number_of m.body i ∷ p)) (identifier_text c.module_of (port_identifier e.position)))))
 
   -- what is joined to an input port
   pub joined_is : (u : ℕ) (p : Path) (m : Module) → (f : Further d x top p u m) → (j : ℕ) (z : Option Ref)
@@ -235,7 +235,7 @@ module _ (d : Design) (x : Setting d) (top : Name) (inputs content : Word) where
       ∙ ap (λ y. option_and_then (λ (c : Module). port_ref c.ports f.op.operands j) y) (callee_is d f.outer f.op f.called)
       ∙ ap (λ (c : Module). port_ref c.ports f.op.operands j) f.inside ∙ joins) where
         instance_is : slice_get (instances f.outer.body) u ≡ Some f.op
-        instance_is = ap (slice_get (instances f.outer.body)) (sym f.is_number) ∙ instance_found f.outer.body f.place f.op f.called.kind f.there f.called.is_kind
+        instance_is = ap (slice_get (instances f.outer.body)) (sym f.is_number) ∙ instance_found f.outer.body f.position f.op f.called.kind f.there f.called.is_kind
 
   -- ---- under two maps that agree
 
@@ -314,15 +314,15 @@ module _ (d : Design) (x : Setting d) (top : Name) (inputs content : Word) where
           by_output : (c : Called d m o) → OutputAt c.module_of.ports k r.type → given σ p m (value_identifier i k) ≡ evaluated τ p (result i k)
           by_output c e =
               let inside = inside_instance d x top p m here i o c there in
-              let g = output_ref_at d c.module_of (module_sound d x c.kind.symbol c.module_of c.there) e.place e.port e.there e.out in
+              let g = output_ref_at d c.module_of (module_sound d x c.kind.symbol c.module_of c.there) e.position e.port e.there e.out in
               let w : identifier_width m (value_identifier i k) ≡ width r.type = result_width_is p m here i k o r.type there (ap (option_map (λ (z : OpResult). z.type)) found) in
-              let long : length (σ (vnet (vpath_of d top (number_of m.body i ∷ p)) (identifier_text c.module_of (port_identifier e.place)))) ≡ width r.type =
-              good.words (number_of m.body i ∷ p) c.module_of inside.0 (port_identifier e.place) (port_in c.module_of e.place e.port e.there)
-              ∙ port_width_is (number_of m.body i ∷ p) c.module_of inside.0 e.place e.port e.there ∙ ap width e.type in
+              let long : length (σ (vnet (vpath_of d top (number_of m.body i ∷ p)) (identifier_text c.module_of (port_identifier e.position)))) ≡ width r.type =
+              good.words (number_of m.body i ∷ p) c.module_of inside.0 (port_identifier e.position) (port_in c.module_of e.position e.port e.there)
+              ∙ port_width_is (number_of m.body i ∷ p) c.module_of inside.0 e.position e.port e.there ∙ ap width e.type in
               let k' = instance_of_emission m.ports m.body i o emission in
               ap₂ (λ w z. drive_value (tree_of d) (symbol_name d top) inputs content σ w z) w (drive_result d x top p m here i k o r c there emission found e)
-              ∙ low_whole (width r.type) (σ (vnet (vpath_of d top (number_of m.body i ∷ p)) (identifier_text c.module_of (port_identifier e.place)))) long
-              ∙ shows (number_of m.body i ∷ p) c.module_of inside.0 e.place e.port g.0 e.there e.out g.1
+              ∙ low_whole (width r.type) (σ (vnet (vpath_of d top (number_of m.body i ∷ p)) (identifier_text c.module_of (port_identifier e.position)))) long
+              ∙ shows (number_of m.body i ∷ p) c.module_of inside.0 e.position e.port g.0 e.there e.out g.1
               ∙ sym (evaluated_as τ p (result i k) (copy (at (number_of m.body i ∷ p) g.0))
               (instance_from d top p m here i k o k'.0 there k'.1 k'.2
               ∙ ap (copy_of (number_of m.body i ∷ p)) (ap (λ y. option_and_then (λ (c : Module). slice_get (output_refs c.body) k) y) (callee_is d m o c)

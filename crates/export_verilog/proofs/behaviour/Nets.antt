@@ -1,4 +1,4 @@
--- What drives the nets of a tree, place by place.
+-- What drives the nets of a tree, position by position.
 use Rattle.std.proofs.Common.{◌≡◌, ℕ, zero, suc, ◌+◌, Bool, true, false, cond, List, [], ◌∷◌, take, slice_get, Some, None, refl, sym, ◌∙◌, ap, ap₂, subst, zero-add, add-zero, suc-add, add-suc, arith, option_and_then, option_map}
 use Rattle.wiring.specs.Wiring.{In}
 use Rattle.hw_model.specs.Types.{Name, width}
@@ -21,8 +21,8 @@ use Rattle.export_verilog.proofs.names.IdentifiersOf.{port_in, net_in, variable_
 use Rattle.export_verilog.proofs.items.Items.{output_count, expr_for, connection_of}
 use Rattle.export_verilog.proofs.items.Lookups.{vport_at, port_value, port_under, identifier_width, width_under, port_width, instance_of_kind, instance_under, connection_under}
 use Rattle.export_verilog.proofs.items.Settings.{Setting, Called, module_ok, result_at_first}
-use Rattle.export_verilog.proofs.items.Drives.{output_place, OutputAt, place_of_output, drive_value, drive_under, no_drive_under, value_by_emission, value_of_result}
-use Rattle.export_verilog.proofs.behaviour.Places.{number_of, vpath_of, step_name, symbol_at_path, names_at_path, Further, vplace, inside_instance}
+use Rattle.export_verilog.proofs.items.Drives.{output_position, OutputAt, position_of_output, drive_value, drive_under, no_drive_under, value_by_emission, value_of_result}
+use Rattle.export_verilog.proofs.behaviour.Positions.{number_of, vpath_of, step_name, symbol_at_path, names_at_path, Further, vposition, inside_instance}
 use Rattle.export_verilog.proofs.behaviour.Content.{variable_width, register_base}
 
 -- the bits of the inputs before one
@@ -57,7 +57,7 @@ module _ (d : Design) (x : Setting d) (top : Name) where
   abbrev pub here_path : Path → VPath
   here_path p = vpath_of d top p
 
-  -- a net of the tree by its place and its key
+  -- a net of the tree by its position and its key
   abbrev pub identifier_drive : Path → Module → Identifier → Drive
   identifier_drive p m k = drive (tree_of d) (symbol_name d top) (vnet (vpath_of d top p) (identifier_text m k))
 
@@ -73,14 +73,14 @@ module _ (d : Design) (x : Setting d) (top : Name) where
     are = names_at_path d x top p m here
 
     pub width_here : (k : Identifier) → In k (module_identifiers m) → width_at (vmodule_at (tree_of d) (symbol_name d top) (vpath_of d top p)) (identifier_text m k) ≡ identifier_width m k
-    width_here k within = ap (λ v. width_at v (identifier_text m k)) (vplace d x top p m here)
+    width_here k within = ap (λ v. width_at v (identifier_text m k)) (vposition d x top p m here)
         ∙ width_under x.say d m (module_ok d x symbol_of m found_here) are (result_at_first d x symbol_of m found_here) k within
 
     pub module_width : (k : Identifier) → In k (module_identifiers m) → width_in (vmodule d m) (identifier_text m k) ≡ identifier_width m k
     module_width k within = width_under x.say d m (module_ok d x symbol_of m found_here) are (result_at_first d x symbol_of m found_here) k within
 
     drive_found : (n : Name) → drive (tree_of d) (symbol_name d top) (vnet (vpath_of d top p) n) ≡ drive_in (tree_of d) (symbol_name d top) (vpath_of d top p) (vmodule d m) n (find_port (vports m) n)
-    drive_found n = ap (drive_at (tree_of d) (symbol_name d top) (vpath_of d top p) n) (vplace d x top p m here)
+    drive_found n = ap (drive_at (tree_of d) (symbol_name d top) (vpath_of d top p) n) (vposition d x top p m here)
 
     drive_of_identifier : (k : Identifier) → In k (module_identifiers m) → identifier_drive p m k ≡ drive_in (tree_of d) (symbol_name d top) (vpath_of d top p) (vmodule d m) (identifier_text m k) (port_value m k)
     drive_of_identifier k within = drive_found (identifier_text m k) ∙ ap (drive_in (tree_of d) (symbol_name d top) (vpath_of d top p) (vmodule d m) (identifier_text m k)) (port_under m are k within)
@@ -105,12 +105,12 @@ module _ (d : Design) (x : Setting d) (top : Name) where
         ∙ ap₂ held (register_base d x top p m here i o there emission) (variable_width d x symbol_of m found_here i o there emission)
 
     pub drive_result : (i k : ℕ) (o : Op) (r : OpResult) (c : Called d m o) → slice_get m.body i ≡ Some o → emission_of m.ports m.body i o ≡ as_instance → slice_get o.results k ≡ Some r
-        → (e : OutputAt c.module_of.ports k r.type) → identifier_drive p m (value_identifier i k) ≡ driven_from (vnet (vpath_of d top (number_of m.body i ∷ p)) (identifier_text c.module_of (port_identifier e.place)))
+        → (e : OutputAt c.module_of.ports k r.type) → identifier_drive p m (value_identifier i k) ≡ driven_from (vnet (vpath_of d top (number_of m.body i ∷ p)) (identifier_text c.module_of (port_identifier e.position)))
     drive_result i k o r c there emission at e =
         drive_of_identifier (value_identifier i k) (result_in_identifiers m i k o r there emission at) ∙ inner_of_identifier (value_identifier i k) (result_in_identifiers m i k o r there emission at)
-        ∙ ap drive_or_nothing (value_of_result d x symbol_of m found_here (symbol_name d top) (vpath_of d top p) i o c there emission k e.place
-        (ap (λ a. output_place a c.module_of.ports) (sym e.number) ∙ (place_of_output c.module_of.ports e.place e.port e.there e.out).0))
-        ∙ ap (λ q. driven_from (vnet q (identifier_text c.module_of (port_identifier e.place)))) (sym (inside_instance d x top p m here i o c there).1)
+        ∙ ap drive_or_nothing (value_of_result d x symbol_of m found_here (symbol_name d top) (vpath_of d top p) i o c there emission k e.position
+        (ap (λ a. output_position a c.module_of.ports) (sym e.number) ∙ (position_of_output c.module_of.ports e.position e.port e.there e.out).0))
+        ∙ ap (λ q. driven_from (vnet q (identifier_text c.module_of (port_identifier e.position)))) (sym (inside_instance d x top p m here i o c there).1)
 
     pub drive_instance : (i : ℕ) (o : Op) → slice_get m.body i ≡ Some o → emission_of m.ports m.body i o ≡ as_instance → identifier_drive p m (instance_identifier i) ≡ nothing
     drive_instance i o there emission = drive_of_identifier (instance_identifier i) (instance_in_identifiers m i o there emission) ∙ inner_of_identifier (instance_identifier i) (instance_in_identifiers m i o there emission)
@@ -149,13 +149,13 @@ module _ (d : Design) (x : Setting d) (top : Name) where
         ok = module_ok d x (symbol_at_path d x top [] m here).0 m (symbol_at_path d x top [] m here).1
 
         ports_ok : (a : ℕ) (q : Port) → slice_get m.ports a ≡ Some q → (identifier_text m (port_identifier (0 + a)) ≡ identifier_text m (port_identifier (0 + j)) → a ≡ j) × (range_width (high_of (width q.type)) ≡ width q.type)
-        ports_ok a q at = (same_place, port_width x.say d m ok names a q at) where
-          same_place : identifier_text m (port_identifier (0 + a)) ≡ identifier_text m (port_identifier (0 + j)) → a ≡ j
-          same_place e =
+        ports_ok a q at = (same_position, port_width x.say d m ok names a q at) where
+          same_position : identifier_text m (port_identifier (0 + a)) ≡ identifier_text m (port_identifier (0 + j)) → a ≡ j
+          same_position e =
               let texts : identifier_text m (port_identifier a) ≡ identifier_text m (port_identifier j) = ap (λ z. identifier_text m (port_identifier z)) (sym (zero-add a)) ∙ e
               ∙ ap (λ z. identifier_text m (port_identifier z)) (zero-add j) in
               let identifiers : port_identifier a ≡ port_identifier j = texts_apart m names (port_identifier a) (port_identifier j) (port_in m a q at) (port_in m j y there) texts in
-              let places : a ≡ j = cc in places
+              let positions : a ≡ j = cc in positions
 
         before : input_width_before (identifier_text m (port_identifier j)) (vports m) ≡ input_width (take j m.ports)
         before = ap (λ z. input_width_before (identifier_text m (port_identifier z)) (vports m)) (sym (zero-add j)) ∙ inputs_before m 0 m.ports j y there ports_ok
@@ -165,36 +165,36 @@ module _ (d : Design) (x : Setting d) (top : Name) where
       → identifier_drive (u ∷ p) m (port_identifier j) ≡ driven_by (vpath_of d top p) (expr_for (expression f.outer) (slice_get f.op.operands (input_count (take j m.ports))))
   drive_inner_input u p m here f j y there out =
       drive_input (u ∷ p) m here j y there out
-      ∙ ap (λ z. connection_drive (vpath_of d top p) (identifier_text m (port_identifier j)) (option_and_then (λ (v : VModule). find_instance v.items (step_name (module_at d top p) u)) z)) (vplace d x top p f.outer f.here)
+      ∙ ap (λ z. connection_drive (vpath_of d top p) (identifier_text m (port_identifier j)) (option_and_then (λ (v : VModule). find_instance v.items (step_name (module_at d top p) u)) z)) (vposition d x top p f.outer f.here)
       ∙ ap (λ z. connection_drive (vpath_of d top p) (identifier_text m (port_identifier j)) (find_instance (vitems d f.outer) z)) step
       ∙ ap (connection_drive (vpath_of d top p) (identifier_text m (port_identifier j))) found
-      ∙ ap (λ z. drive_of_connection (vpath_of d top p) (find_connection (connections_to z f.outer f.place f.op) (identifier_text m (port_identifier j)))) f.called.there
+      ∙ ap (λ z. drive_of_connection (vpath_of d top p) (find_connection (connections_to z f.outer f.position f.op) (identifier_text m (port_identifier j)))) f.called.there
       ∙ joined m f.inside there where
         names : AreNames f.outer
         names = names_at_path d x top p f.outer f.here
 
-        step : step_name (module_at d top p) u ≡ identifier_text f.outer (instance_identifier f.place)
-        step = ap (λ z. step_name z u) f.here ∙ ap (λ i. identifier_text f.outer (instance_identifier i)) f.is_place
+        step : step_name (module_at d top p) u ≡ identifier_text f.outer (instance_identifier f.position)
+        step = ap (λ z. step_name z u) f.here ∙ ap (λ i. identifier_text f.outer (instance_identifier i)) f.is_position
 
-        found : find_instance (vitems d f.outer) (identifier_text f.outer (instance_identifier f.place)) ≡ Some (instance_of_kind d f.outer f.place f.op f.called.kind)
-        found = instance_under d f.outer names (instance_identifier f.place) (instance_in_identifiers f.outer f.place f.op f.there f.emission)
-            ∙ ap (λ z. option_and_then (λ (o : Op). option_map (instance_of_kind d f.outer f.place o) (instance_in o.kind)) z) f.there
-            ∙ ap (option_map (instance_of_kind d f.outer f.place f.op)) f.called.is_kind
+        found : find_instance (vitems d f.outer) (identifier_text f.outer (instance_identifier f.position)) ≡ Some (instance_of_kind d f.outer f.position f.op f.called.kind)
+        found = instance_under d f.outer names (instance_identifier f.position) (instance_in_identifiers f.outer f.position f.op f.there f.emission)
+            ∙ ap (λ z. option_and_then (λ (o : Op). option_map (instance_of_kind d f.outer f.position o) (instance_in o.kind)) z) f.there
+            ∙ ap (option_map (instance_of_kind d f.outer f.position f.op)) f.called.is_kind
 
         joined_own : slice_get f.called.module_of.ports j ≡ Some y
-            → drive_of_connection (vpath_of d top p) (find_connection (connections_of f.called.module_of f.outer f.place 0 0 f.called.module_of.ports f.op.operands) (identifier_text f.called.module_of (port_identifier j)))
+            → drive_of_connection (vpath_of d top p) (find_connection (connections_of f.called.module_of f.outer f.position 0 0 f.called.module_of.ports f.op.operands) (identifier_text f.called.module_of (port_identifier j)))
             ≡ driven_by (vpath_of d top p) (expr_for (expression f.outer) (slice_get f.op.operands (input_count (take j f.called.module_of.ports))))
         joined_own at =
             ap (drive_of_connection (vpath_of d top p))
-            (connection_under f.called.module_of f.outer f.place f.op (x.names f.called.kind.symbol f.called.module_of f.called.there) (port_identifier j) (port_in f.called.module_of j y at)
-            ∙ ap (option_map (λ q. connection_of f.called.module_of f.outer f.place j 0 (take j f.called.module_of.ports) q f.op.operands)) at)
+            (connection_under f.called.module_of f.outer f.position f.op (x.names f.called.kind.symbol f.called.module_of f.called.there) (port_identifier j) (port_in f.called.module_of j y at)
+            ∙ ap (option_map (λ q. connection_of f.called.module_of f.outer f.position j 0 (take j f.called.module_of.ports) q f.op.operands)) at)
             ∙ ap (λ b. driven_by (vpath_of d top p) (cond b (Rattle.verilog_model.specs.Tree.Expr.name
-            (identifier_text f.outer (value_identifier f.place (0 + output_count (take j f.called.module_of.ports)))))
+            (identifier_text f.outer (value_identifier f.position (0 + output_count (take j f.called.module_of.ports)))))
             (expr_for (expression f.outer) (slice_get f.op.operands (input_count (take j f.called.module_of.ports)))))) out
 
         joined : (z : Module) → f.called.module_of ≡ z → slice_get z.ports j ≡ Some y
-            → drive_of_connection (vpath_of d top p) (find_connection (connections_of f.called.module_of f.outer f.place 0 0 f.called.module_of.ports f.op.operands) (identifier_text z (port_identifier j)))
+            → drive_of_connection (vpath_of d top p) (find_connection (connections_of f.called.module_of f.outer f.position 0 0 f.called.module_of.ports f.op.operands) (identifier_text z (port_identifier j)))
             ≡ driven_by (vpath_of d top p) (expr_for (expression f.outer) (slice_get f.op.operands (input_count (take j z.ports))))
         joined z same = subst (λ y'. slice_get y'.ports j ≡ Some y → drive_of_connection (vpath_of d top p)
-            (find_connection (connections_of f.called.module_of f.outer f.place 0 0 f.called.module_of.ports f.op.operands) (identifier_text y' (port_identifier j)))
+            (find_connection (connections_of f.called.module_of f.outer f.position 0 0 f.called.module_of.ports f.op.operands) (identifier_text y' (port_identifier j)))
             ≡ driven_by (vpath_of d top p) (expr_for (expression f.outer) (slice_get f.op.operands (input_count (take j y'.ports))))) same joined_own

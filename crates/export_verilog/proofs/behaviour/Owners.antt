@@ -14,8 +14,8 @@ use Rattle.export_verilog.specs.Exported.{symbol_name, vmodule, tree_of}
 use Rattle.export_verilog.proofs.names.IdentifierNames.{texts_apart}
 use Rattle.export_verilog.proofs.items.Items.{output_count}
 use Rattle.export_verilog.proofs.items.Settings.{Setting}
-use Rattle.export_verilog.proofs.behaviour.Places.{vpath_of, names_at_path, vplace, paths_apart, identifier_of_name, PathOf, path_of}
-use Rattle.export_verilog.proofs.behaviour.Places.PathOf.{a_path, no_path}
+use Rattle.export_verilog.proofs.behaviour.Positions.{vpath_of, names_at_path, vposition, paths_apart, identifier_of_name, PathOf, path_of}
+use Rattle.export_verilog.proofs.behaviour.Positions.PathOf.{a_path, no_path}
 use Rattle.export_verilog.proofs.behaviour.Nets.{no_drive_here}
 
 module _ (d : Design) (x : Setting d) (top : Name) (m0 : Module) (top_is : find_module d top ≡ Some m0) where
@@ -67,7 +67,7 @@ module _ (d : Design) (x : Setting d) (top : Name) (m0 : Module) (top_is : find_
     by_path (no_path none) = unowned (ap (drive_at (tree_of d) (symbol_name d top) v.path v.name) none) nobody where
       nobody : (r : Path) (n : Module) (k : Identifier) → module_at d top r ≡ Some n → In k (module_identifiers n) → v.path ≡ vpath_of d top r → v.name ≡ identifier_text n k → ⊥
       nobody r n k there within path name =
-          let h : None ≡ Some (vmodule d n) = sym none ∙ ap (vmodule_at (tree_of d) (symbol_name d top)) path ∙ vplace d x top r n there in cc
+          let h : None ≡ Some (vmodule d n) = sym none ∙ ap (vmodule_at (tree_of d) (symbol_name d top)) path ∙ vposition d x top r n there in cc
 
   to_of : (Net → Word) → (v : VNet) → Whose v → Word
   to_of ρ v (owned_by p m here k within path name) = ρ (at p (shown_ref m k))

@@ -18,7 +18,7 @@ use Rattle.export_verilog.specs.Identifiers.Identifier.{value_identifier}
 use Rattle.export_verilog.specs.Exported.{expression, loads, block_of, module_block, vmodule}
 use Rattle.export_verilog.proofs.items.Settings.{Setting, first_result}
 use Rattle.export_verilog.proofs.items.Registers.{AreOperands, async_parts_of, typed_register}
-use Rattle.export_verilog.proofs.behaviour.Places.{vpath_of, symbol_at_path}
+use Rattle.export_verilog.proofs.behaviour.Positions.{vpath_of, symbol_at_path}
 use Rattle.export_verilog.proofs.behaviour.NetMaps.{IsDesignSettled}
 use Rattle.export_verilog.proofs.behaviour.Owners.{to}
 use Rattle.export_verilog.proofs.behaviour.Slots.{vslot, IsSlot, AreSlots, signal_is, literal_is, slot_width_is, map_slots_is}
@@ -57,11 +57,11 @@ module _ (d : Design) (x : Setting d) (top : Name) (m0 : Module) (top_is : find_
   slot_rise_is : (s : Slot) (v : VSlot) → IsSlot d x top s v → (old : Word) → slot_rise earlier now v old ≡ rise_in σ ρ s old
   slot_rise_is s v is old =
       let h = symbol_at_path d x top s.path is.m is.here in
-      let r = first_result d x h.0 is.m h.1 is.place s.op is.there (inr is.emission) in
+      let r = first_result d x h.0 is.m h.1 is.position s.op is.there (inr is.emission) in
       let typed : result_type s.op 0 ≡ Some r.0.type = ap (λ rs. option_map (λ (z : OpResult). z.type) (slice_get rs 0)) r.1 in
-      let g = typed_register d x h.0 is.m h.1 is.place s.op is.there is.emission r.0.type typed in
+      let g = typed_register d x h.0 is.m h.1 is.position s.op is.there is.emission r.0.type typed in
       ap₂ (λ k (z : VSlot). event_value (second_event z.block) earlier now k old z) (slot_width_is d x top inputs content m0 top_is ρ settled s v is ∙ ap width_of typed) is.same
-      ∙ event_is s.path is.m is.here is.place s.op is.parts g.0 r.0.type (In-slice_get s.op is.m.body is.place is.there) g.1 g.2 (async_reset_in s.op) refl old
+      ∙ event_is s.path is.m is.here is.position s.op is.parts g.0 r.0.type (In-slice_get s.op is.m.body is.position is.there) g.1 g.2 (async_reset_in s.op) refl old
 
   pub risen_is : (ss : List Slot) (vs : List VSlot) → AreSlots d x top ss vs → (c : Word) → risen_vcontent vs earlier now c ≡ risen_content ss σ ρ c
   risen_is ss vs are c = map_slots_is d x top inputs content m0 top_is ρ settled (rise_in σ ρ) (slot_rise earlier now) slot_rise_is ss vs are c

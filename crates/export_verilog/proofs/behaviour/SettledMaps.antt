@@ -27,7 +27,7 @@ use Rattle.export_verilog.proofs.items.Settings.{Setting, module_sound, first_re
 use Rattle.export_verilog.proofs.behaviour.Sources.{made_from}
 use Rattle.export_verilog.proofs.items.Writable.{NamedAs, named_as, named_result, named_input}
 use Rattle.export_verilog.proofs.items.Writable.NamedAs.{by_port, by_value}
-use Rattle.export_verilog.proofs.behaviour.Places.{vpath_of}
+use Rattle.export_verilog.proofs.behaviour.Positions.{vpath_of}
 use Rattle.export_verilog.proofs.behaviour.Nets.{identifier_drive, width_here, drive_instance}
 use Rattle.export_verilog.proofs.items.Operands.{output_ref_at}
 use Rattle.export_verilog.proofs.behaviour.NetValues.{evaluated_as, HaveWords, IsGood, symbol_there, found_there, port_width_is, own_named, own_absent, constant_form, ShowOutputs, output_agrees}
@@ -138,7 +138,7 @@ module _ (d : Design) (x : Setting d) (top : Name) (inputs content : Word) (m0 :
           → ρ (at p (shown_ref d x top m0 top_is m k)) ≡ drives d x top inputs content m0 top_is (over ρ) p m k
       by_name r n is same called =
           let h = named_agrees d x top inputs content m0 top_is (over ρ) over_good ρ own_is shows p m here r n called in
-          let identifiers : k ≡ h.0 = Rattle.export_verilog.proofs.names.IdentifierNames.texts_apart m (Rattle.export_verilog.proofs.behaviour.Places.names_at_path d x top p m here) k h.0 within h.1 (sym is ∙ h.2) in
+          let identifiers : k ≡ h.0 = Rattle.export_verilog.proofs.names.IdentifierNames.texts_apart m (Rattle.export_verilog.proofs.behaviour.Positions.names_at_path d x top p m here) k h.0 within h.1 (sym is ∙ h.2) in
           ap (λ z. ρ (at p z)) same ∙ settled (at p r) ∙ sym h.3 ∙ ap (drives d x top inputs content m0 top_is (over ρ) p m) (sym identifiers)
 
       by_way : (j : ℕ) (y : Port) → slice_get m.ports j ≡ Some y → k ≡ port_identifier j → (b : Bool) → y.is_output ≡ b

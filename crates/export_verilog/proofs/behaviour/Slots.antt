@@ -40,7 +40,7 @@ use Rattle.export_verilog.proofs.items.Registers.{AreOperands, async_parts_of, t
 use Rattle.export_verilog.proofs.items.Resets.{signal_port, IsValueOf, value_of_reset, literal_own}
 use Rattle.export_verilog.proofs.behaviour.Sources.{made_from}
 use Rattle.export_verilog.proofs.items.Drives.{block_name}
-use Rattle.export_verilog.proofs.behaviour.Places.{number_of, vpath_of, symbol_at_path, inside_instance}
+use Rattle.export_verilog.proofs.behaviour.Positions.{number_of, vpath_of, symbol_at_path, inside_instance}
 use Rattle.export_verilog.proofs.behaviour.Content.{variable_width}
 use Rattle.export_verilog.proofs.items.Writable.{named_input}
 use Rattle.export_verilog.proofs.items.Writable.NamedAs.{by_port}
@@ -109,12 +109,12 @@ module _ (d : Design) (x : Setting d) (top : Name) where
   pub record IsSlot (s : Slot) (v : VSlot) : Type 0 where
     pub m : Module
     pub here : module_at d top s.path ≡ Some m
-    pub place : ℕ
-    pub there : slice_get m.body place ≡ Some s.op
-    pub emission : emission_of m.ports m.body place s.op ≡ as_reg
+    pub position : ℕ
+    pub there : slice_get m.body position ≡ Some s.op
+    pub emission : emission_of m.ports m.body position s.op ≡ as_reg
     pub parts : Register
     pub is_parts : register_in s.op ≡ Some parts
-    pub same : v ≡ vslot (vpath_of d top s.path) m place parts (async_reset_in s.op)
+    pub same : v ≡ vslot (vpath_of d top s.path) m position parts (async_reset_in s.op)
 
   abbrev pub AreSlots : List Slot → List VSlot → Type 0
   AreSlots [] [] = Unit {0}
@@ -155,7 +155,7 @@ module _ (d : Design) (x : Setting d) (top : Name) where
           from_emission as_reg emission (record { path = p; op = o } ∷ [])
           (ap (λ z. cond (is_some z) (record { path = p; op = o } ∷ []) (instance_registers f p (number_of m.body i) (instance_in o.kind))) r)
           (subst (λ z. AreSlots (record { path = p; op = o } ∷ []) (items_of (always_of m (identifier_text m (value_identifier i 0)) (async_reset_in o) z))) (sym parts.1)
-          (record { m = m; here = here; place = i; there = there; emission = emission; parts = parts.0; is_parts = parts.1; same = refl }, tt))
+          (record { m = m; here = here; position = i; there = there; emission = emission; parts = parts.0; is_parts = parts.1; same = refl }, tt))
       by_sort (is_an_instance k r n u) =
           let emission = emission_of_instance m.ports m.body i o k r n in
           let c = called_by_emission d x s m is i o there emission in
@@ -281,15 +281,15 @@ module _ (d : Design) (x : Setting d) (top : Name) (inputs content : Word) (m0 :
 
     -- what is assigned to a constant is worth the constant
     constant_worth : (r : Ref) (t : HwType) (v : IsValueOf d x (symbol_there d x top inputs content p m here) m (found_there d x top inputs content p m here) r t)
-        → own_value (width_in (vmodule d m)) (names_at (vpath_of d top p) over) (assigned_expr m (result v.place 0)) ≡ ρ (at p r)
+        → own_value (width_in (vmodule d m)) (names_at (vpath_of d top p) over) (assigned_expr m (result v.position 0)) ≡ ρ (at p r)
     constant_worth r t v =
         let form = constant_form v.op.kind v.number v.kind in
-        made_worth d x top inputs content p m here over good.words v.place 0 v.op t v.there v.gives v.typed (λ e. good.constants p m here)
+        made_worth d x top inputs content p m here over good.words v.position 0 v.op t v.there v.gives v.typed (λ e. good.constants p m here)
         ∙ ap (λ k. op_value k v.op.types t 0 (map (own d x top inputs content over p m) v.op.operands)) v.kind
         ∙ sym (ap (λ k. op_value k v.op.types t 0 (map ρ (map (at p) v.op.operands))) v.kind)
-        ∙ sym (ap (λ z. ρ (at p z)) v.is_result ∙ settled (at p (result v.place 0))
-        ∙ evaluated_as d x top inputs content ρ p (result v.place 0) (op_result v.op.kind v.op.types t 0 (map (at p) v.op.operands))
-        (made_from d top p m here v.place 0 v.op t v.there form.0 form.1 (ap is_output_kind v.kind) v.typed))
+        ∙ sym (ap (λ z. ρ (at p z)) v.is_result ∙ settled (at p (result v.position 0))
+        ∙ evaluated_as d x top inputs content ρ p (result v.position 0) (op_result v.op.kind v.op.types t 0 (map (at p) v.op.operands))
+        (made_from d top p m here v.position 0 v.op t v.there form.0 form.1 (ap is_output_kind v.kind) v.typed))
 
     -- the load of the literal gives the reset's value
     pub literal_is : (o : Op) (b : ResetBy) → In o m.body → async_reset_in o ≡ Some b → (t : HwType) → type_in m.ports m.body b.value ≡ Some t → (q : Name)
@@ -299,8 +299,8 @@ module _ (d : Design) (x : Setting d) (top : Name) (inputs content : Word) (m0 :
         let f = found_there d x top inputs content p m here in
         let v = value_of_reset d x s m f o b within resets t typed in
         ap (assigned (width_in (vmodule d m)) (names_at (vpath_of d top p) over) (width t)) (literal_own d x s m f b.value t v)
-        ∙ assigned_same (width_in (vmodule d m)) (names_at (vpath_of d top p) over) (width t) (assigned_expr m (result v.place 0))
-        (assigned_bits d x top inputs content p m here over good.words v.place v.op t v.there v.gives v.typed)
+        ∙ assigned_same (width_in (vmodule d m)) (names_at (vpath_of d top p) over) (width t) (assigned_expr m (result v.position 0))
+        (assigned_bits d x top inputs content p m here over good.words v.position v.op t v.there v.gives v.typed)
         ∙ constant_worth b.value t v
 
     -- where its clock rises a register with an asynchronous reset loads as one with a synchronous reset
@@ -328,20 +328,20 @@ module _ (d : Design) (x : Setting d) (top : Name) (inputs content : Word) (m0 :
 
   pub slot_width_is : (s : Slot) (v : VSlot) → IsSlot d x top s v → slot_width v ≡ held_width s.op
   slot_width_is s v is = let h = symbol_at_path d x top s.path is.m is.here in
-      ap slot_width is.same ∙ ap (width_in (vmodule d is.m)) (block_name d x h.0 is.m h.1 top [] is.place is.parts (async_reset_in s.op)) ∙ variable_width d x h.0 is.m h.1 is.place s.op is.there is.emission
+      ap slot_width is.same ∙ ap (width_in (vmodule d is.m)) (block_name d x h.0 is.m h.1 top [] is.position is.parts (async_reset_in s.op)) ∙ variable_width d x h.0 is.m h.1 is.position s.op is.there is.emission
 
   slot_is : (s : Slot) (v : VSlot) → IsSlot d x top s v → (old : Word) → slot_value over (held_width s.op) old v ≡ next_value (register_in s.op) (λ r. ρ (at s.path r)) old
   slot_is s v is old =
       let h = symbol_at_path d x top s.path is.m is.here in
-      let r = first_result d x h.0 is.m h.1 is.place s.op is.there (inr is.emission) in
+      let r = first_result d x h.0 is.m h.1 is.position s.op is.there (inr is.emission) in
       let typed : result_type s.op 0 ≡ Some r.0.type = ap (λ rs. option_map (λ (z : OpResult). z.type) (slice_get rs 0)) r.1 in
-      let g = typed_register d x h.0 is.m h.1 is.place s.op is.there is.emission r.0.type typed in
+      let g = typed_register d x h.0 is.m h.1 is.position s.op is.there is.emission r.0.type typed in
       let parts : Some is.parts ≡ Some g.0 = sym is.is_parts ∙ g.1 in
       let one : is.parts ≡ g.0 = cc in
       let wide : held_width s.op ≡ width r.0.type = ap width_of typed in
-      ap₂ (λ k z. slot_value over k old z) wide (is.same ∙ ap (λ z. vslot d x top (vpath_of d top s.path) is.m is.place z (async_reset_in s.op)) one)
-      ∙ ap₂ (λ c b. cond (is_high c) b old) (clock_is s.path is.m is.here is.place s.op g.0 is.there g.1 g.2.clocked)
-      (any_block_is s.path is.m is.here is.place s.op r.0.type g.0 (async_reset_in s.op) (In-slice_get s.op is.m.body is.place is.there) g.1 refl g.2 old)
+      ap₂ (λ k z. slot_value over k old z) wide (is.same ∙ ap (λ z. vslot d x top (vpath_of d top s.path) is.m is.position z (async_reset_in s.op)) one)
+      ∙ ap₂ (λ c b. cond (is_high c) b old) (clock_is s.path is.m is.here is.position s.op g.0 is.there g.1 g.2.clocked)
+      (any_block_is s.path is.m is.here is.position s.op r.0.type g.0 (async_reset_in s.op) (In-slice_get s.op is.m.body is.position is.there) g.1 refl g.2 old)
       ∙ sym (ap (λ z. next_value z (λ r. ρ (at s.path r)) old) g.1)
 
   next_in_is : (s : Slot) (v : VSlot) → IsSlot d x top s v → (old : Word) → slot_next over v old ≡ next_in ρ s old

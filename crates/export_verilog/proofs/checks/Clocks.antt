@@ -31,7 +31,7 @@ use Rattle.export_verilog.proofs.items.Registers.{typed_register}
 use Rattle.export_verilog.proofs.items.Resets.{input_written, signal_port}
 use Rattle.export_verilog.proofs.items.Settings.{Setting, Called, module_ok, called_by, callee_is, result_at_first}
 use Rattle.export_verilog.proofs.items.Writable.{named_input}
-use Rattle.export_verilog.proofs.checks.Stated.{place_of_input, placed_in}
+use Rattle.export_verilog.proofs.checks.Stated.{position_of_input, placed_in}
 
 -- a block of a register without an asynchronous reset has no second event
 no_second_event : (n : Name) (ex : Ref → Expr) (q : Name) (next : Ref) (e : Option Ref) (b : Option ResetBy) → resets_by n (block_of ex q next e b) ≡ false
@@ -105,7 +105,7 @@ module _ (d : Design) (x : Setting d) where
         marked_ref s m is g.0 g.2,
       )
   joined_clock s m is o within c j p there out (inl is_clock_type) =
-      let g = placed_in (type_in m.ports m.body) (λ (u : HwType). Some u) o.operands (input_types c.module_of.ports) (input_count (take j c.module_of.ports)) p.type c.inputs (place_of_input c.module_of.ports j p there out) in
+      let g = placed_in (type_in m.ports m.body) (λ (u : HwType). Some u) o.operands (input_types c.module_of.ports) (input_count (take j c.module_of.ports)) p.type c.inputs (position_of_input c.module_of.ports j p there out) in
       (g.0, g.1, clock_ref s m is g.0 (g.2 ∙ ap (λ (u : HwType). Some u) is_clock_type))
 
   -- the port that a connection names, where that is such a port of its module

@@ -123,16 +123,16 @@ module _ (m : Module) where
 -- ---- no thing is declared twice
 
 -- the position that a key names
-pub identifier_place : Identifier → ℕ
-identifier_place (port_identifier j) = j
-identifier_place (value_identifier i k) = i
-identifier_place (instance_identifier i) = i
+pub identifier_position : Identifier → ℕ
+identifier_position (port_identifier j) = j
+identifier_position (value_identifier i k) = i
+identifier_position (instance_identifier i) = i
 
-module _ {A : Type 0} (f : ℕ → A → List Identifier) (placed : (i : ℕ) (x : A) (k : Identifier) → In k (f i x) → identifier_place k ≡ i) (apart : (i : ℕ) (x : A) → AreApart (f i x)) where
-  each_above : (i : ℕ) (xs : List A) (k : Identifier) → In k (each f i xs) → (n : ℕ) × (identifier_place k ≡ i + n)
+module _ {A : Type 0} (f : ℕ → A → List Identifier) (placed : (i : ℕ) (x : A) (k : Identifier) → In k (f i x) → identifier_position k ≡ i) (apart : (i : ℕ) (x : A) → AreApart (f i x)) where
+  each_above : (i : ℕ) (xs : List A) (k : Identifier) → In k (each f i xs) → (n : ℕ) × (identifier_position k ≡ i + n)
   each_above i [] k here = absurd here
   each_above i (x ∷ xs) k here = go (in_append k (f i x) (each f (suc i) xs) here) (each_above (suc i) xs k) where
-    go : In k (f i x) ⊎ In k (each f (suc i) xs) → (In k (each f (suc i) xs) → (n : ℕ) × (identifier_place k ≡ suc i + n)) → (n : ℕ) × (identifier_place k ≡ i + n)
+    go : In k (f i x) ⊎ In k (each f (suc i) xs) → (In k (each f (suc i) xs) → (n : ℕ) × (identifier_position k ≡ suc i + n)) → (n : ℕ) × (identifier_position k ≡ i + n)
     go (inl h) rest = (0, placed i x k h ∙ sym (add-zero i))
     go (inr h) rest = let e = rest h in (suc e.0, e.1 ∙ suc-add i e.0 ∙ sym (add-suc i e.0))
 
@@ -141,7 +141,7 @@ module _ {A : Type 0} (f : ℕ → A → List Identifier) (placed : (i : ℕ) (x
   each_apart i (x ∷ xs) =
       joined_apart (f i x) (each f (suc i) xs) (apart i x) (each_apart (suc i) xs)
       (λ k u v. let e = each_above (suc i) xs k v in clash k (placed i x k u) e.0 e.1) where
-        clash : (k : Identifier) → identifier_place k ≡ i → (n : ℕ) → identifier_place k ≡ suc i + n → ⊥
+        clash : (k : Identifier) → identifier_position k ≡ i → (n : ℕ) → identifier_position k ≡ suc i + n → ⊥
         clash k a n b = omega (arith, a, b)
 
 result_identifiers_above : (i k : ℕ) (rs : List OpResult) (identifier : Identifier) → In identifier (result_identifiers i k rs) → (n : ℕ) × (identifier ≡ value_identifier i (k + n))
@@ -154,18 +154,18 @@ result_identifiers_apart i k (r ∷ rs) = ((λ h. let e = result_identifiers_abo
   clash n e = let f : k ≡ suc k + n = cc in omega (arith, f)
 
 module _ (m : Module) where
-  pub wires_placed : (i : ℕ) (o : Op) (k : Identifier) → In k (op_wires m i o) → identifier_place k ≡ i
-  unfolding identifier_place
+  pub wires_placed : (i : ℕ) (o : Op) (k : Identifier) → In k (op_wires m i o) → identifier_position k ≡ i
+  unfolding identifier_position
   wires_placed i o k here = go (emission_of m.ports m.body i o) here where
-    single : In k (value_identifier i 0 ∷ []) → identifier_place k ≡ i
-    single (inl e) = ap identifier_place e
+    single : In k (value_identifier i 0 ∷ []) → identifier_position k ≡ i
+    single (inl e) = ap identifier_position e
     single (inr never) = absurd never
 
-    go : (r : Emission) → In k (wire_identifiers r i o) → identifier_place k ≡ i
+    go : (r : Emission) → In k (wire_identifiers r i o) → identifier_position k ≡ i
     go inline h = absurd h
     go as_wire h = single h
     go as_reg h = single h
-    go as_instance h = ap identifier_place (result_identifiers_above i 0 o.results k h).1
+    go as_instance h = ap identifier_position (result_identifiers_above i 0 o.results k h).1
 
   pub wires_apart : (i : ℕ) (o : Op) → AreApart (op_wires m i o)
   wires_apart i o = go (emission_of m.ports m.body i o) where
@@ -175,14 +175,14 @@ module _ (m : Module) where
     go as_reg = ((λ h. h), tt)
     go as_instance = result_identifiers_apart i 0 o.results
 
-  blocks_placed : (i : ℕ) (o : Op) (k : Identifier) → In k (op_blocks m i o) → (k ≡ instance_identifier i) × (identifier_place k ≡ i)
-  unfolding identifier_place
+  blocks_placed : (i : ℕ) (o : Op) (k : Identifier) → In k (op_blocks m i o) → (k ≡ instance_identifier i) × (identifier_position k ≡ i)
+  unfolding identifier_position
   blocks_placed i o k here = go (emission_of m.ports m.body i o) here where
-    go : (r : Emission) → In k (block_identifiers r i o) → (k ≡ instance_identifier i) × (identifier_place k ≡ i)
+    go : (r : Emission) → In k (block_identifiers r i o) → (k ≡ instance_identifier i) × (identifier_position k ≡ i)
     go inline h = absurd h
     go as_wire h = absurd h
     go as_reg h = absurd h
-    go as_instance (inl e) = (e, ap identifier_place e)
+    go as_instance (inl e) = (e, ap identifier_position e)
     go as_instance (inr never) = absurd never
 
   blocks_apart : (i : ℕ) (o : Op) → AreApart (op_blocks m i o)

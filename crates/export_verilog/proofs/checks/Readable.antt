@@ -66,18 +66,18 @@ module _ (d : Design) (x : Setting d) (s : Name) (m : Module) (is : find_module 
 
   pub result_of_identifier : (i k : ℕ) → In (value_identifier i k) (module_identifiers m) → ResultAt i k
   result_of_identifier i k here = go (owner_of m (value_identifier i k) here) where
-    value_places : (j l : ℕ) → value_identifier i k ≡ value_identifier j l → (j ≡ i) × (l ≡ k)
-    value_places j l e = let f : j ≡ i = cc in let g : l ≡ k = cc in (f, g)
+    value_positions : (j l : ℕ) → value_identifier i k ≡ value_identifier j l → (j ≡ i) × (l ≡ k)
+    value_positions j l e = let f : j ≡ i = cc in let g : l ≡ k = cc in (f, g)
 
-    at_place : (j l : ℕ) (o : Op) (r : OpResult) → slice_get m.body j ≡ Some o → slice_get o.results l ≡ Some r → (j ≡ i) × (l ≡ k) → ResultAt i k
-    at_place j l o r there at e = record { op = o; there = ap (slice_get m.body) (sym e.0) ∙ there; result_of = r; at = ap (slice_get o.results) (sym e.1) ∙ at }
+    at_position : (j l : ℕ) (o : Op) (r : OpResult) → slice_get m.body j ≡ Some o → slice_get o.results l ≡ Some r → (j ≡ i) × (l ≡ k) → ResultAt i k
+    at_position j l o r there at e = record { op = o; there = ap (slice_get m.body) (sym e.0) ∙ there; result_of = r; at = ap (slice_get o.results) (sym e.1) ∙ at }
 
     go : Owner m (value_identifier i k) → ResultAt i k
     go (a_port j p there e) = cc
-    go (a_net j o there emission e) = let r = result_at_first d x s m is j o there (inl emission) in at_place j 0 o r.0 there r.1 (value_places j 0 e)
-    go (a_variable j o there emission e) = let r = result_at_first d x s m is j o there (inr emission) in at_place j 0 o r.0 there r.1 (value_places j 0 e)
+    go (a_net j o there emission e) = let r = result_at_first d x s m is j o there (inl emission) in at_position j 0 o r.0 there r.1 (value_positions j 0 e)
+    go (a_variable j o there emission e) = let r = result_at_first d x s m is j o there (inr emission) in at_position j 0 o r.0 there r.1 (value_positions j 0 e)
     go (owns_instance j o there emission e) = cc
-    go (a_result j l o r there emission at e) = at_place j l o r there at (value_places j l e)
+    go (a_result j l o r there emission at e) = at_position j l o r there at (value_positions j l e)
 
   name_well : (k : Identifier) (c : Declared) → In k (module_identifiers m) → find_declared known (identifier_text m k) ≡ Some c → can_read c.role ≡ true → IsWell known (name (identifier_text m k))
   name_well k c here found_so can = record {

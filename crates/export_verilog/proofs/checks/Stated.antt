@@ -26,7 +26,7 @@ use Rattle.export_verilog.specs.Exported.{expression, assigned_expr, block_of, m
 use Rattle.export_verilog.proofs.names.IdentifiersOf.{from_each, port_in, net_in, variable_in, result_in_identifiers, made_of_emission}
 use Rattle.export_verilog.proofs.items.Items.{output_count, expr_for, connection_of, from_wires, block_at}
 use Rattle.export_verilog.proofs.items.Lookups.{port_under, vport_at}
-use Rattle.export_verilog.proofs.items.Drives.{place_of_output}
+use Rattle.export_verilog.proofs.items.Drives.{position_of_output}
 use Rattle.export_verilog.proofs.items.Registers.{AreOperands, async_reset_of, module_block_target, typed_register}
 use Rattle.export_verilog.proofs.items.Resets.{signal_port, value_of_reset, literal_own}
 use Rattle.export_verilog.proofs.items.Settings.{Setting, Called, module_ok, module_sound, result_at_first}
@@ -44,18 +44,18 @@ high_decimal w small = go (w == 1) where
 
 -- ---- inputs by number
 
-pub place_of_input : (ps : List Port) (j : ℕ) (p : Port) → slice_get ps j ≡ Some p → p.is_output ≡ false → slice_get (input_types ps) (input_count (take j ps)) ≡ Some p.type
-place_of_input [] j p is out = cc
-place_of_input (x ∷ ps) zero p is out =
+pub position_of_input : (ps : List Port) (j : ℕ) (p : Port) → slice_get ps j ≡ Some p → p.is_output ≡ false → slice_get (input_types ps) (input_count (take j ps)) ≡ Some p.type
+position_of_input [] j p is out = cc
+position_of_input (x ∷ ps) zero p is out =
     let e : x ≡ p = cc in let way : x.is_output ≡ false = ap (λ (z : Port). z.is_output) e ∙ out in
     ap (λ b. slice_get (cond b (input_types ps) (x.type ∷ input_types ps)) 0) way ∙ ap (λ (z : Port). Some z.type) e
-place_of_input (x ∷ ps) (suc j) p is out = go x.is_output (place_of_input ps j p is out) where
+position_of_input (x ∷ ps) (suc j) p is out = go x.is_output (position_of_input ps j p is out) where
   go : (b : Bool) → slice_get (input_types ps) (input_count (take j ps)) ≡ Some p.type
       → slice_get (cond b (input_types ps) (x.type ∷ input_types ps)) (cond b (input_count (take j ps)) (suc (input_count (take j ps)))) ≡ Some p.type
   go true rest = rest
   go false rest = rest
 
--- what stands at a place of a list that maps to another one
+-- what stands at a position of a list that maps to another one
 pub placed_in : {A B C : Type 0} (f : A → C) (g : B → C) (xs : List A) (ys : List B) (n : ℕ) (b : B) → map f xs ≡ map g ys → slice_get ys n ≡ Some b → (a : A) × (slice_get xs n ≡ Some a) × (f a ≡ g b)
 placed_in f g [] [] n b same at = cc
 placed_in f g [] (y ∷ ys) n b same at = cc
@@ -130,7 +130,7 @@ module _ (d : Design) (x : Setting d) (s : Name) (m : Module) (is : find_module 
     literal_good q o b ty within at typed =
         let v = value_of_reset d x s m is o b within at ty typed in
         and_intro (same_name q q) (expr_checks known (constant_expr m.ports m.body b.value)) (name_self q)
-        (ap (expr_checks known) (literal_own d x s m is b.value ty v) ∙ (assigned_well d x s m is known knows v.place 0 v.op ty v.there v.gives v.typed).checks)
+        (ap (expr_checks known) (literal_own d x s m is b.value ty v) ∙ (assigned_well d x s m is known knows v.position 0 v.op ty v.there v.gives v.typed).checks)
 
     signal_good : (o : Op) (b : ResetBy) → In o m.body → async_reset_in o ≡ Some b → has_role is_input (find_declared known (name_or_nothing (value_name m b.signal))) ≡ true
     signal_good o b within at =
@@ -182,7 +182,7 @@ module _ (d : Design) (x : Setting d) (s : Name) (m : Module) (is : find_module 
     pub output_good : (j : ℕ) (p : Port) → slice_get m.ports j ≡ Some p → p.is_output ≡ true
         → item_checks t known (assign (identifier_text m (port_identifier j)) (expr_for (expression m) (slice_get (output_refs m.body) (output_count (take j m.ports))))) ≡ true
     output_good j p there out =
-        let at = place_of_output m.ports j p there out in
+        let at = position_of_output m.ports j p there out in
         let g = placed_in (type_in m.ports m.body) (λ (u : HwType). Some u) (output_refs m.body) (output_types m.ports) (output_count (take j m.ports)) p.type ((module_sound d x s m is).outputs) at.1 in
         and_intro (has_role can_assign (find_declared known (identifier_text m (port_identifier j)))) (expr_checks known (expr_for (expression m) (slice_get (output_refs m.body) (output_count (take j m.ports)))))
         (ap (has_role can_assign) (found_port d x s m is known knows j p there) ∙ ap (λ z. can_assign (port_role z)) out)
@@ -193,7 +193,7 @@ module _ (d : Design) (x : Setting d) (s : Name) (m : Module) (is : find_module 
     pub result_there : (i : ℕ) (o : Op) (c : Called d m o) (j : ℕ) (p : Port) → slice_get c.module_of.ports j ≡ Some p → p.is_output ≡ true
         → (r : OpResult) × (slice_get o.results (output_count (take j c.module_of.ports)) ≡ Some r)
     result_there i o c j p there out =
-        let at = place_of_output c.module_of.ports j p there out in
+        let at = position_of_output c.module_of.ports j p there out in
         let g = placed_in (λ (r : OpResult). r.type) (λ (u : HwType). u) o.results (output_types c.module_of.ports) (output_count (take j c.module_of.ports)) p.type (c.outputs ∙ sym (map_same (output_types c.module_of.ports))) at.1 in
         (g.0, g.1) where
           map_same : (us : List HwType) → map (λ (u : HwType). u) us ≡ us
@@ -219,7 +219,7 @@ module _ (d : Design) (x : Setting d) (s : Name) (m : Module) (is : find_module 
               ap (λ a. has_role can_assign (find_declared known (identifier_text m (value_identifier i a)))) (zero-add n)
               ∙ ap (has_role can_assign) (found_result d x s m is known knows i n o r.0 (result_in_identifiers m i n o r.0 there emission r.1) there r.1) ∙ ap (λ z. can_assign (result_emission z)) emission
           go false out =
-              let g = placed_in (type_in m.ports m.body) (λ (u : HwType). Some u) o.operands (input_types c.module_of.ports) (input_count (take j c.module_of.ports)) p.type c.inputs (place_of_input c.module_of.ports j p at out) in
+              let g = placed_in (type_in m.ports m.body) (λ (u : HwType). Some u) o.operands (input_types c.module_of.ports) (input_count (take j c.module_of.ports)) p.type c.inputs (position_of_input c.module_of.ports j p at out) in
               ap (λ z. expr_checks known (expr_for (expression m) z)) g.1 ∙ good g.0 p.type g.2
 
     pub all_connections : (i : ℕ) (o : Op) → slice_get m.body i ≡ Some o → emission_of m.ports m.body i o ≡ as_instance → (c : Called d m o) → (cs : List Connection)

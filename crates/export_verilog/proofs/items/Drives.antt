@@ -38,31 +38,31 @@ first_from {A} {B} f (x ∷ xs) b is = go (f x) refl is (first_from f xs b) wher
 -- ---- outputs by number
 
 -- the position of the k-th output
-abbrev pub output_place : ℕ → List Port → Option ℕ
-output_place k [] = None
-output_place k (p ∷ ps) = cond p.is_output (if_zero k (Some 0) (option_map suc (output_place (pred k) ps))) (option_map suc (output_place k ps))
+abbrev pub output_position : ℕ → List Port → Option ℕ
+output_position k [] = None
+output_position k (p ∷ ps) = cond p.is_output (if_zero k (Some 0) (option_map suc (output_position (pred k) ps))) (option_map suc (output_position k ps))
 
-pub place_of_output : (ps : List Port) (j : ℕ) (p : Port) → slice_get ps j ≡ Some p → p.is_output ≡ true
-    → (output_place (output_count (take j ps)) ps ≡ Some j) × (slice_get (output_types ps) (output_count (take j ps)) ≡ Some p.type)
-place_of_output [] j p is out = cc
-place_of_output (x ∷ ps) zero p is out = let e : x ≡ p = cc in let way : x.is_output ≡ true = ap (λ (z : Port). z.is_output) e ∙ out in (
-  ap (λ b. cond b (Some 0) (option_map suc (output_place 0 ps))) way,
+pub position_of_output : (ps : List Port) (j : ℕ) (p : Port) → slice_get ps j ≡ Some p → p.is_output ≡ true
+    → (output_position (output_count (take j ps)) ps ≡ Some j) × (slice_get (output_types ps) (output_count (take j ps)) ≡ Some p.type)
+position_of_output [] j p is out = cc
+position_of_output (x ∷ ps) zero p is out = let e : x ≡ p = cc in let way : x.is_output ≡ true = ap (λ (z : Port). z.is_output) e ∙ out in (
+  ap (λ b. cond b (Some 0) (option_map suc (output_position 0 ps))) way,
   ap (λ b. slice_get (cond b (x.type ∷ output_types ps) (output_types ps)) 0) way ∙ ap (λ (z : Port). Some z.type) e,
 )
-place_of_output (x ∷ ps) (suc j) p is out = go x.is_output refl (place_of_output ps j p is out) where
-  go : (b : Bool) → x.is_output ≡ b → (output_place (output_count (take j ps)) ps ≡ Some j) × (slice_get (output_types ps) (output_count (take j ps)) ≡ Some p.type)
-      → (cond b (if_zero (cond b (suc (output_count (take j ps))) (output_count (take j ps))) (Some 0) (option_map suc (output_place (pred (cond b (suc (output_count (take j ps))) (output_count (take j ps)))) ps)))
-      (option_map suc (output_place (cond b (suc (output_count (take j ps))) (output_count (take j ps))) ps)) ≡ Some (suc j))
+position_of_output (x ∷ ps) (suc j) p is out = go x.is_output refl (position_of_output ps j p is out) where
+  go : (b : Bool) → x.is_output ≡ b → (output_position (output_count (take j ps)) ps ≡ Some j) × (slice_get (output_types ps) (output_count (take j ps)) ≡ Some p.type)
+      → (cond b (if_zero (cond b (suc (output_count (take j ps))) (output_count (take j ps))) (Some 0) (option_map suc (output_position (pred (cond b (suc (output_count (take j ps))) (output_count (take j ps)))) ps)))
+      (option_map suc (output_position (cond b (suc (output_count (take j ps))) (output_count (take j ps))) ps)) ≡ Some (suc j))
       × (slice_get (cond b (x.type ∷ output_types ps) (output_types ps)) (cond b (suc (output_count (take j ps))) (output_count (take j ps))) ≡ Some p.type)
   go true way rest = (ap (option_map suc) rest.0, rest.1)
   go false way rest = (ap (option_map suc) rest.0, rest.1)
 
 pub record OutputAt (ps : List Port) (k : ℕ) (t : HwType) : Type 0 where
-  pub place : ℕ
+  pub position : ℕ
   pub port : Port
-  pub there : slice_get ps place ≡ Some port
+  pub there : slice_get ps position ≡ Some port
   pub out : port.is_output ≡ true
-  pub number : output_count (take place ps) ≡ k
+  pub number : output_count (take position ps) ≡ k
   pub type : port.type ≡ t
 
 pub output_of_number : (ps : List Port) (k : ℕ) (t : HwType) → slice_get (output_types ps) k ≡ Some t → OutputAt ps k t
@@ -70,11 +70,11 @@ output_of_number [] k t is = cc
 output_of_number (x ∷ ps) k t is = go x.is_output refl k is (λ n h. output_of_number ps n t h) where
   go : (b : Bool) → x.is_output ≡ b → (k : ℕ) → slice_get (cond b (x.type ∷ output_types ps) (output_types ps)) k ≡ Some t
       → ((n : ℕ) → slice_get (output_types ps) n ≡ Some t → OutputAt ps n t) → OutputAt (x ∷ ps) k t
-  go true way zero found rest = record { place = 0; port = x; there = refl; out = way; number = refl; type = let e : x.type ≡ t = cc in e }
+  go true way zero found rest = record { position = 0; port = x; there = refl; out = way; number = refl; type = let e : x.type ≡ t = cc in e }
   go true way (suc k) found rest = let h = rest k found in
-      record { place = suc h.place; port = h.port; there = h.there; out = h.out; number = ap (λ b. cond b (suc (output_count (take h.place ps))) (output_count (take h.place ps))) way ∙ ap suc h.number; type = h.type }
+      record { position = suc h.position; port = h.port; there = h.there; out = h.out; number = ap (λ b. cond b (suc (output_count (take h.position ps))) (output_count (take h.position ps))) way ∙ ap suc h.number; type = h.type }
   go false way k found rest = let h = rest k found in
-      record { place = suc h.place; port = h.port; there = h.there; out = h.out; number = ap (λ b. cond b (suc (output_count (take h.place ps))) (output_count (take h.place ps))) way ∙ h.number; type = h.type }
+      record { position = suc h.position; port = h.port; there = h.there; out = h.out; number = ap (λ b. cond b (suc (output_count (take h.position ps))) (output_count (take h.position ps))) way ∙ h.number; type = h.type }
 
 -- ---- what an instance's outputs drive
 
@@ -126,7 +126,7 @@ module _ (d : Design) (x : Setting d) (s : Name) (m : Module) (is : find_module 
   held_drive i = held (vbase (tree_of d) top q + vstate_before (tree_of d) (loads (identifier_text m (value_identifier i 0))) (Some (vmodule d m))) (width_in (vmodule d m) (identifier_text m (value_identifier i 0)))
 
   abbrev pub result_drive : ℕ → ℕ → Op → Option Drive
-  result_drive i k o = option_and_then (λ (c : Module). option_map (λ j. driven_from (vnet (identifier_text m (instance_identifier i) ∷ q) (identifier_text c (port_identifier j)))) (output_place k c.ports)) (callee d o)
+  result_drive i k o = option_and_then (λ (c : Module). option_map (λ j. driven_from (vnet (identifier_text m (instance_identifier i) ∷ q) (identifier_text c (port_identifier j)))) (output_position k c.ports)) (callee d o)
 
   abbrev pub emission_drive : ℕ → ℕ → Op → Emission → Option Drive
   emission_drive i k o inline = None
@@ -158,11 +158,11 @@ module _ (d : Design) (x : Setting d) (s : Name) (m : Module) (is : find_module 
   instance_drive n i o c = ap₂ (λ v f. first_some (joined_output q (identifier_text m (instance_identifier i)) n (vports_of v)) (connections_to f m i o))
       (vmodule_found d x.ok x.symbols c.kind.symbol c.module_of c.there) c.there
 
-  pub value_of_result : (i : ℕ) (o : Op) (c : Called d m o) → slice_get m.body i ≡ Some o → emission_of m.ports m.body i o ≡ as_instance → (k j : ℕ) → output_place k c.module_of.ports ≡ Some j
+  pub value_of_result : (i : ℕ) (o : Op) (c : Called d m o) → slice_get m.body i ≡ Some o → emission_of m.ports m.body i o ≡ as_instance → (k j : ℕ) → output_position k c.module_of.ports ≡ Some j
       → drive_value (value_identifier i k) ≡ Some (driven_from (vnet (identifier_text m (instance_identifier i) ∷ q) (identifier_text c.module_of (port_identifier j))))
   value_of_result i o c there emission k j at =
       value_by_emission i k o as_instance there emission
-      ∙ ap (λ z. option_and_then (λ (y : Module). option_map (λ a. driven_from (vnet (identifier_text m (instance_identifier i) ∷ q) (identifier_text y (port_identifier a)))) (output_place k y.ports)) z) (callee_is d m o c)
+      ∙ ap (λ z. option_and_then (λ (y : Module). option_map (λ a. driven_from (vnet (identifier_text m (instance_identifier i) ∷ q) (identifier_text y (port_identifier a)))) (output_position k y.ports)) z) (callee_is d m o c)
       ∙ ap (option_map (λ a. driven_from (vnet (identifier_text m (instance_identifier i) ∷ q) (identifier_text c.module_of (port_identifier a))))) at
 
   drives_back : (n : Name) (y : Item) (w : Drive) → In y (vitems d m) → gives n y ≡ Some w → (k : Identifier) × In k (module_identifiers m) × (n ≡ identifier_text m k) × (drive_value k ≡ Some w)
@@ -173,7 +173,7 @@ module _ (d : Design) (x : Setting d) (s : Name) (m : Module) (is : find_module 
         let u : Name = identifier_text m (instance_identifier i) in
         let f = first_from (joined_output q u n (vports c.module_of)) (connections_of c.module_of m i 0 0 c.module_of.ports o.operands) w (sym (instance_drive n i o c) ∙ given) in
         let j = joined_gives c.module_of m (x.names c.kind.symbol c.module_of c.there) i o q u n f.0 w f.1 f.2 in
-        let p = place_of_output c.module_of.ports j.0 j.1 j.2 j.3 in
+        let p = position_of_output c.module_of.ports j.0 j.1 j.2 j.3 in
         let typed : option_map (λ (r : OpResult). r.type) (slice_get o.results (output_count (take j.0 c.module_of.ports))) ≡ Some j.1.type =
         sym (slice_of_map o.results (output_count (take j.0 c.module_of.ports))) ∙ ap (λ ts. slice_get ts (output_count (take j.0 c.module_of.ports))) c.outputs ∙ p.1 in
         let r = option_map_some (λ (r : OpResult). r.type) (slice_get o.results (output_count (take j.0 c.module_of.ports))) typed in (
@@ -241,33 +241,33 @@ module _ (d : Design) (x : Setting d) (s : Name) (m : Module) (is : find_module 
         instance_at d m i o c.kind,
         into_items d m (instance_at d m i o c.kind) (an_instance i o c.kind there emission c.is_kind refl),
         instance_drive (identifier_text m k) i o c
-            ∙ first_found (joined_output q (identifier_text m (instance_identifier i)) (identifier_text m k) (vports c.module_of)) (the_drive e.place) (connections_of c.module_of m i 0 0 c.module_of.ports o.operands)
-            (connection_of c.module_of m i e.place 0 (take e.place c.module_of.ports) e.port o.operands)
-            (subst (λ a. In (connection_of c.module_of m i a 0 (take e.place c.module_of.ports) e.port o.operands) (connections_of c.module_of m i 0 0 c.module_of.ports o.operands)) (zero-add e.place)
-            (into_connections c.module_of m i 0 0 c.module_of.ports o.operands e.place e.port e.there))
-            (output_joined c.module_of m (x.names c.kind.symbol c.module_of c.there) i o q (identifier_text m (instance_identifier i)) (identifier_text m k) e.place e.port e.there e.out
+            ∙ first_found (joined_output q (identifier_text m (instance_identifier i)) (identifier_text m k) (vports c.module_of)) (the_drive e.position) (connections_of c.module_of m i 0 0 c.module_of.ports o.operands)
+            (connection_of c.module_of m i e.position 0 (take e.position c.module_of.ports) e.port o.operands)
+            (subst (λ a. In (connection_of c.module_of m i a 0 (take e.position c.module_of.ports) e.port o.operands) (connections_of c.module_of m i 0 0 c.module_of.ports o.operands)) (zero-add e.position)
+            (into_connections c.module_of m i 0 0 c.module_of.ports o.operands e.position e.port e.there))
+            (output_joined c.module_of m (x.names c.kind.symbol c.module_of c.there) i o q (identifier_text m (instance_identifier i)) (identifier_text m k) e.position e.port e.there e.out
             (ap (identifier_text m) same ∙ ap (λ a. identifier_text m (value_identifier i a)) (sym e.number)))
             only
-            ∙ sym (value_of_result i o c there emission l e.place at_place) ∙ ap drive_value (sym same) ∙ value,
+            ∙ sym (value_of_result i o c there emission l e.position at_position) ∙ ap drive_value (sym same) ∙ value,
       ) where
         the_drive : ℕ → Drive
         the_drive a = driven_from (vnet (identifier_text m (instance_identifier i) ∷ q) (identifier_text c.module_of (port_identifier a)))
 
-        at_place : output_place l c.module_of.ports ≡ Some e.place
-        at_place = ap (λ a. output_place a c.module_of.ports) (sym e.number) ∙ (place_of_output c.module_of.ports e.place e.port e.there e.out).0
+        at_position : output_position l c.module_of.ports ≡ Some e.position
+        at_position = ap (λ a. output_position a c.module_of.ports) (sym e.number) ∙ (position_of_output c.module_of.ports e.position e.port e.there e.out).0
 
         only : (y : Connection) (v : Drive) → In y (connections_of c.module_of m i 0 0 c.module_of.ports o.operands)
-            → joined_output q (identifier_text m (instance_identifier i)) (identifier_text m k) (vports c.module_of) y ≡ Some v → v ≡ the_drive e.place
+            → joined_output q (identifier_text m (instance_identifier i)) (identifier_text m k) (vports c.module_of) y ≡ Some v → v ≡ the_drive e.position
         only y v within given =
             let j = joined_gives c.module_of m (x.names c.kind.symbol c.module_of c.there) i o q (identifier_text m (instance_identifier i)) (identifier_text m k) y v within given in
-            let p = place_of_output c.module_of.ports j.0 j.1 j.2 j.3 in
+            let p = position_of_output c.module_of.ports j.0 j.1 j.2 j.3 in
             let other : In (value_identifier i (output_count (take j.0 c.module_of.ports))) (module_identifiers m) = other_in j.0 j.1 p.1 in
             let identifiers : k ≡ value_identifier i (output_count (take j.0 c.module_of.ports)) = texts_apart m are k (value_identifier i (output_count (take j.0 c.module_of.ports))) here other j.4 in
             let both : value_identifier i l ≡ value_identifier i (output_count (take j.0 c.module_of.ports)) = sym same ∙ identifiers in
             let number : l ≡ output_count (take j.0 c.module_of.ports) = cc in
-            let places : Some e.place ≡ Some j.0 = sym at_place ∙ ap (λ a. output_place a c.module_of.ports) number ∙ p.0 in
-            let place : e.place ≡ j.0 = cc in
-            sym j.5 ∙ ap the_drive (sym place) where
+            let positions : Some e.position ≡ Some j.0 = sym at_position ∙ ap (λ a. output_position a c.module_of.ports) number ∙ p.0 in
+            let position : e.position ≡ j.0 = cc in
+            sym j.5 ∙ ap the_drive (sym position) where
               other_in : (j : ℕ) (p : Port) → slice_get (output_types c.module_of.ports) (output_count (take j c.module_of.ports)) ≡ Some p.type
                   → In (value_identifier i (output_count (take j c.module_of.ports))) (module_identifiers m)
               other_in j p at =

@@ -77,8 +77,8 @@ module _ (c m : Module) (i : ℕ) where
     head : Expr → Connection
     head e = record { port = identifier_text c (port_identifier j); value = e }
 
-    place : (n : ℕ) → j ≡ n → connection_of c m i j k [] x rs ≡ connection_of c m i n k [] x rs
-    place n e = ap (λ a. connection_of c m i a k [] x rs) e
+    position : (n : ℕ) → j ≡ n → connection_of c m i j k [] x rs ≡ connection_of c m i n k [] x rs
+    position n e = ap (λ a. connection_of c m i a k [] x rs) e
 
     go : (b : Bool) → x.is_output ≡ b
         → In y (cond b (head (name (identifier_text m (value_identifier i k))) ∷ connections_of c m i (suc j) (suc k) ps rs) (head (expr_or_none (expression m) rs) ∷ connections_of c m i (suc j) k ps (others rs)))
@@ -90,7 +90,7 @@ module _ (c m : Module) (i : ℕ) where
       x,
       refl,
       same ∙ ap (λ n. head (name (identifier_text m (value_identifier i n)))) (sym (add-zero k))
-          ∙ ap (λ b. head (cond b (name (identifier_text m (value_identifier i (k + 0)))) (expr_for (expression m) (slice_get rs 0)))) (sym out) ∙ place (j + 0) (sym (add-zero j)),
+          ∙ ap (λ b. head (cond b (name (identifier_text m (value_identifier i (k + 0)))) (expr_for (expression m) (slice_get rs 0)))) (sym out) ∙ position (j + 0) (sym (add-zero j)),
     )
     go true out (inr later) first second = let h = first later in
         (suc h.0, h.1, h.2, h.3 ∙ shifted_output c m i j k h.0 x (take h.0 ps) h.1 rs out)
@@ -99,7 +99,7 @@ module _ (c m : Module) (i : ℕ) where
       x,
       refl,
       same ∙ ap head (first_expr (expression m) rs)
-          ∙ ap (λ b. head (cond b (name (identifier_text m (value_identifier i (k + 0)))) (expr_for (expression m) (slice_get rs 0)))) (sym out) ∙ place (j + 0) (sym (add-zero j)),
+          ∙ ap (λ b. head (cond b (name (identifier_text m (value_identifier i (k + 0)))) (expr_for (expression m) (slice_get rs 0)))) (sym out) ∙ position (j + 0) (sym (add-zero j)),
     )
     go false out (inr later) first second = let h = second later in
         (suc h.0, h.1, h.2, h.3 ∙ shifted_input c m i j k h.0 x (take h.0 ps) h.1 rs out)
@@ -114,8 +114,8 @@ module _ (c m : Module) (i : ℕ) where
     both : (b : Bool) → List Connection
     both b = cond b (head (name (identifier_text m (value_identifier i k))) ∷ connections_of c m i (suc j) (suc k) ps rs) (head (expr_or_none (expression m) rs) ∷ connections_of c m i (suc j) k ps (others rs))
 
-    place : (n : ℕ) (q : Port) → j ≡ n → x ≡ q → connection_of c m i j k [] x rs ≡ connection_of c m i n k [] q rs
-    place n q e f = ap₂ (λ a (z : Port). connection_of c m i a k [] z rs) e f
+    position : (n : ℕ) (q : Port) → j ≡ n → x ≡ q → connection_of c m i j k [] x rs ≡ connection_of c m i n k [] q rs
+    position n q e f = ap₂ (λ a (z : Port). connection_of c m i a k [] z rs) e f
 
     go : (b : Bool) → x.is_output ≡ b → (n : ℕ) → slice_get (x ∷ ps) n ≡ Some p
         → ((a : ℕ) → slice_get ps a ≡ Some p → In (connection_of c m i (suc j + a) (suc k) (take a ps) p rs) (connections_of c m i (suc j) (suc k) ps rs))
@@ -123,12 +123,12 @@ module _ (c m : Module) (i : ℕ) where
         → In (connection_of c m i (j + n) k (take n (x ∷ ps)) p rs) (both b)
     go true out zero is first second = inl (sym (ap (λ n. head (name (identifier_text m (value_identifier i n)))) (sym (add-zero k))
         ∙ ap (λ b. head (cond b (name (identifier_text m (value_identifier i (k + 0)))) (expr_for (expression m) (slice_get rs 0)))) (sym out)
-        ∙ place (j + 0) p (sym (add-zero j)) (let e : x ≡ p = cc in e)))
+        ∙ position (j + 0) p (sym (add-zero j)) (let e : x ≡ p = cc in e)))
     go true out (suc n) is first second = inr (subst (λ y. In y (connections_of c m i (suc j) (suc k) ps rs)) (shifted_output c m i j k n x (take n ps) p rs out)
         (first n is))
     go false out zero is first second = inl (sym (ap head (first_expr (expression m) rs)
         ∙ ap (λ b. head (cond b (name (identifier_text m (value_identifier i (k + 0)))) (expr_for (expression m) (slice_get rs 0)))) (sym out)
-        ∙ place (j + 0) p (sym (add-zero j)) (let e : x ≡ p = cc in e)))
+        ∙ position (j + 0) p (sym (add-zero j)) (let e : x ≡ p = cc in e)))
     go false out (suc n) is first second = inr (subst (λ y. In y (connections_of c m i (suc j) k ps (others rs))) (shifted_input c m i j k n x (take n ps) p rs out)
         (second n is))
 

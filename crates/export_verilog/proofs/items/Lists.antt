@@ -17,31 +17,31 @@ module _ {A : Type 0} where
 module _ {A B : Type 0} (f : ℕ → A → List B) where
   -- a member comes from an element at a position
   pub record FromEach (i : ℕ) (xs : List A) (y : B) : Type 0 where
-    pub place : ℕ
+    pub position : ℕ
     pub element : A
-    pub there : slice_get xs place ≡ Some element
-    pub within : In y (f (i + place) element)
+    pub there : slice_get xs position ≡ Some element
+    pub within : In y (f (i + position) element)
 
   pub in_each : (i : ℕ) (xs : List A) (y : B) → In y (each f i xs) → FromEach i xs y
   in_each i [] y here = absurd here
   in_each i (x ∷ xs) y here = go (in_append y (f i x) (each f (suc i) xs) here) (in_each (suc i) xs y) where
     later : FromEach (suc i) xs y → FromEach i (x ∷ xs) y
     later e = record {
-      place = suc e.place;
+      position = suc e.position;
       element = e.element;
       there = e.there;
-      within = rw (sym (suc-add i e.place ∙ sym (add-suc i e.place))) e.within;
+      within = rw (sym (suc-add i e.position ∙ sym (add-suc i e.position))) e.within;
     }
 
     go : In y (f i x) ⊎ In y (each f (suc i) xs) → (In y (each f (suc i) xs) → FromEach (suc i) xs y) → FromEach i (x ∷ xs) y
-    go (inl h) rest = record { place = 0; element = x; there = refl; within = rw (add-zero i) h }
+    go (inl h) rest = record { position = 0; element = x; there = refl; within = rw (add-zero i) h }
     go (inr h) rest = later (rest h)
 
-  pub each_in : (i : ℕ) (xs : List A) (y : B) (place : ℕ) (x : A) → slice_get xs place ≡ Some x → In y (f (i + place) x) → In y (each f i xs)
-  each_in i [] y place x there within = cc
+  pub each_in : (i : ℕ) (xs : List A) (y : B) (position : ℕ) (x : A) → slice_get xs position ≡ Some x → In y (f (i + position) x) → In y (each f i xs)
+  each_in i [] y position x there within = cc
   each_in i (z ∷ xs) y zero x there within = let same : z ≡ x = cc in In-append_left y (f i z) (each f (suc i) xs) (rw (same, sym (add-zero i)) within)
-  each_in i (z ∷ xs) y (suc place) x there within =
-      In-append_right y (f i z) (each f (suc i) xs) (each_in (suc i) xs y place x there (rw (suc-add i place ∙ sym (add-suc i place)) within))
+  each_in i (z ∷ xs) y (suc position) x there within =
+      In-append_right y (f i z) (each f (suc i) xs) (each_in (suc i) xs y position x there (rw (suc-add i position ∙ sym (add-suc i position)) within))
 
 -- ---- what is first found
 

@@ -64,7 +64,7 @@ body_more symbols os j number first old new at before now =
 
 -- ---- modules one by one
 
--- what a list before a place names has its mark, and nothing else has
+-- what a list before a position names has its mark, and nothing else has
 pub record HasMarks (lists : List (List ℕ)) (i : ℕ) (marks : List Bool) : Type 0 where
   pub count : length marks ≡ length lists
   pub sound : (v : ℕ) → has_mark marks v ≡ true → (k : ℕ) × In v (edges lists k)

@@ -7,7 +7,7 @@ use Rattle.hw_model.specs.Flat.{input_count}
 use Rattle.hw_model.specs.Sound.{type_in, input_types, output_types, SoundBody}
 use Rattle.export_verilog.proofs.items.Items.{output_count}
 use Rattle.export_verilog.proofs.items.Settings.{Called}
-use Rattle.export_verilog.proofs.items.Drives.{place_of_output}
+use Rattle.export_verilog.proofs.items.Drives.{position_of_output}
 use Rattle.hw_model.proofs.NetWidths.{input_found, typed_at}
 
 pub get_map : {A B : Type 0} (f : A → B) (xs : List A) (n : ℕ) → slice_get (map f xs) n ≡ option_map f (slice_get xs n)
@@ -24,7 +24,7 @@ none_at type_of rs ts n same is =
 pub output_ref_at : (d : Design) (m : Module) → SoundBody d m.ports m.body → (j : ℕ) (y : Port) → slice_get m.ports j ≡ Some y → y.is_output ≡ true
     → (r : Ref) × (slice_get (output_refs m.body) (output_count (take j m.ports)) ≡ Some r) × (type_in m.ports m.body r ≡ Some y.type)
 output_ref_at d m sound j y there out =
-    typed_at (type_in m.ports m.body) (output_refs m.body) (output_types m.ports) (output_count (take j m.ports)) y.type sound.outputs (place_of_output m.ports j y there out).1
+    typed_at (type_in m.ports m.body) (output_refs m.body) (output_types m.ports) (output_count (take j m.ports)) y.type sound.outputs (position_of_output m.ports j y there out).1
 
 -- what an instance joins to an input port
 pub operand_at : (d : Design) (m : Module) (o : Op) (c : Called d m o) (j : ℕ) (y : Port) → slice_get c.module_of.ports j ≡ Some y → y.is_output ≡ false

@@ -55,10 +55,10 @@ module _ (d : Design) (x : Setting d) (s : Name) (m : Module) (is : find_module 
 
   -- a value that is an integer constant's of a type
   pub record IsValueOf (r : Ref) (t : HwType) : Type 0 where
-    pub place : ℕ
-    pub is_result : r ≡ result place 0
+    pub position : ℕ
+    pub is_result : r ≡ result position 0
     pub op : Op
-    pub there : slice_get m.body place ≡ Some op
+    pub there : slice_get m.body position ≡ Some op
     pub number : ℤ
     pub kind : op.kind ≡ constant number
     pub typed : result_type op 0 ≡ Some t
@@ -80,7 +80,7 @@ module _ (d : Design) (x : Setting d) (s : Name) (m : Module) (is : find_module 
         let h = option_map_some (λ (z : OpResult). z.type) (slice_get c.op.results c.number) typed_here in
         let first : c.number ≡ 0 = only_first c.op.results one.0 c.number h.0 one.1 h.1 in
         record {
-          place = c.position;
+          position = c.position;
           is_result = c.is_result ∙ ap (result c.position) first;
           op = c.op;
           there = c.there;
@@ -91,5 +91,5 @@ module _ (d : Design) (x : Setting d) (s : Name) (m : Module) (is : find_module 
         }
 
   -- its literal is what is assigned to its name
-  pub literal_own : (r : Ref) (t : HwType) (v : IsValueOf r t) → constant_expr m.ports m.body r ≡ assigned_expr m (result v.place 0)
-  literal_own r t v = ap (constant_expr m.ports m.body) v.is_result ∙ constant_own (value_name m) m.ports m.body (expression m) v.place v.op v.number t v.there v.kind v.typed
+  pub literal_own : (r : Ref) (t : HwType) (v : IsValueOf r t) → constant_expr m.ports m.body r ≡ assigned_expr m (result v.position 0)
+  literal_own r t v = ap (constant_expr m.ports m.body) v.is_result ∙ constant_own (value_name m) m.ports m.body (expression m) v.position v.op v.number t v.there v.kind v.typed

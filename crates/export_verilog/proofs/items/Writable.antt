@@ -14,7 +14,7 @@ use Rattle.hw_model.proofs.Sorts.{Sort, sort_of}
 use Rattle.hw_model.proofs.Sorts.Sort.{a_register, an_instance, an_output, a_made}
 use Rattle.ir_store.specs.Positions.{same_ref}
 use Rattle.verilog_expr.specs.Expressions.{value_width}
-use Rattle.verilog_expr.specs.Spilling.{is_pure, is_wire_kind, is_constant_kind, is_narrower, places_in, one_if, cuts, some_op, is_shared, part_of_op, has_wire, height, spilled, spilled_op}
+use Rattle.verilog_expr.specs.Spilling.{is_pure, is_wire_kind, is_constant_kind, is_narrower, positions_in, one_if, cuts, some_op, is_shared, part_of_op, has_wire, height, spilled, spilled_op}
 use Rattle.verilog_expr.specs.Spilling.Part.{flat, shared, nested}
 use Rattle.verilog_expr.specs.Values.{gives_values, IsWritable}
 use Rattle.export_verilog.specs.Identifiers.{emission_of, module_identifiers, identifier_text, identifier_name, value_name, input_name}
@@ -55,8 +55,8 @@ module _ (ports : List Port) (os : List Op) where
       → is_narrower o.kind (width_of (result_type o 0)) (value_width ports os (result j 0)) ≡ true → spilled ports os (result j 0) ≡ true
   unfolding spilled
   cut_spilled j i o' o there pure user only narrow = ap (spilled_op ports os (result j 0)) there ∙ go (is_constant_kind o'.kind) refl where
-    counted : nat_lt 0 (places_in (result j 0) o.operands) ≡ true
-    counted = ap (λ rs. nat_lt 0 (places_in (result j 0) rs)) only ∙ ap (λ b. nat_lt 0 (one_if b + 0)) (ref_self (result j 0))
+    counted : nat_lt 0 (positions_in (result j 0) o.operands) ≡ true
+    counted = ap (λ rs. nat_lt 0 (positions_in (result j 0) rs)) only ∙ ap (λ b. nat_lt 0 (one_if b + 0)) (ref_self (result j 0))
 
     cut : some_op (cuts ports os (result j 0)) os ≡ true
     cut = passes_some (cuts ports os (result j 0)) os i o user (ap₂ (λ a b. a && b) narrow counted)

@@ -45,29 +45,29 @@ among_none ks ns identifier never = go (name_among ks ns identifier) refl where
 -- ---- the keys of an operation are of its position
 
 -- the position of the operation of a thing of a body
-abbrev place_of : Identifier → ℕ
-place_of (port_identifier j) = 0
-place_of (value_identifier i k) = i
-place_of (instance_identifier i) = i
+abbrev position_of : Identifier → ℕ
+position_of (port_identifier j) = 0
+position_of (value_identifier i k) = i
+position_of (instance_identifier i) = i
 
-own_place : (r : Emission) (i : ℕ) (o : Op) (identifier : Identifier) → In identifier (identifiers_of r i o) → place_of identifier ≡ i
-own_place inline i o identifier here = absurd here
-own_place as_wire i o identifier (inl same) = ap place_of same
-own_place as_wire i o identifier (inr never) = absurd never
-own_place as_reg i o identifier (inl same) = ap place_of same
-own_place as_reg i o identifier (inr never) = absurd never
-own_place as_instance i o identifier (inl same) = ap place_of same
-own_place as_instance i o identifier (inr within) = let found = in_results i 0 o.results identifier within in ap place_of found.3
+own_position : (r : Emission) (i : ℕ) (o : Op) (identifier : Identifier) → In identifier (identifiers_of r i o) → position_of identifier ≡ i
+own_position inline i o identifier here = absurd here
+own_position as_wire i o identifier (inl same) = ap position_of same
+own_position as_wire i o identifier (inr never) = absurd never
+own_position as_reg i o identifier (inl same) = ap position_of same
+own_position as_reg i o identifier (inr never) = absurd never
+own_position as_instance i o identifier (inl same) = ap position_of same
+own_position as_instance i o identifier (inr within) = let found = in_results i 0 o.results identifier within in ap position_of found.3
 
 module _ (ports : List Port) (os : List Op) where
   -- no thing of an operation is among those of the later ones
-  later_apart : (i : ℕ) (xs : List Op) (identifier : Identifier) → place_of identifier < i → In identifier (each (op_identifiers ports os) i xs) → ⊥
+  later_apart : (i : ℕ) (xs : List Op) (identifier : Identifier) → position_of identifier < i → In identifier (each (op_identifiers ports os) i xs) → ⊥
   later_apart i xs identifier before here =
       let e = in_each (op_identifiers ports os) i xs identifier here in
-      let same : place_of identifier ≡ i + e.place = own_place (emission_of ports os (i + e.place) e.element) (i + e.place) e.element identifier e.within in
+      let same : position_of identifier ≡ i + e.position = own_position (emission_of ports os (i + e.position) e.element) (i + e.position) e.element identifier e.within in
       omega (arith, before, same)
 
-  none_later : (i : ℕ) (xs : List Op) (ms : List Name) (identifier : Identifier) → place_of identifier ≡ i → name_among (each (op_identifiers ports os) (suc i) xs) ms identifier ≡ None
+  none_later : (i : ℕ) (xs : List Op) (ms : List Name) (identifier : Identifier) → position_of identifier ≡ i → name_among (each (op_identifiers ports os) (suc i) xs) ms identifier ≡ None
   none_later i xs ms identifier at = among_none (each (op_identifiers ports os) (suc i) xs) ms identifier (later_apart (suc i) xs identifier (omega (arith, at)))
 
 -- ---- the names of an operation's things
@@ -161,7 +161,7 @@ given_name (Some ns) k = name_in ns k
 
 module _ (ports : List Port) (os : List Op) where
   -- a thing of a later operation
-  step_later : (ts : List Name) (i : ℕ) (x : Op) (xs : List Op) (j : ℕ) (identifier : Identifier) → place_of identifier ≡ i + suc j
+  step_later : (ts : List Name) (i : ℕ) (x : Op) (xs : List Op) (j : ℕ) (identifier : Identifier) → position_of identifier ≡ i + suc j
       → name_among (each (op_identifiers ports os) i (x ∷ xs)) (legal_after ts (body_name_hints ports os i (x ∷ xs))) identifier
       ≡ name_among (each (op_identifiers ports os) (suc i) xs) (legal_after (ts ++ legal_after ts (op_name_hints (emission_of ports os i x) x)) (body_name_hints ports os (suc i) xs)) identifier
   step_later ts i x xs j identifier at =
@@ -170,7 +170,7 @@ module _ (ports : List Port) (os : List Op) where
       let ls = each (op_identifiers ports os) (suc i) xs in
       ap (λ l. name_among (op_identifiers ports os i x ++ ls) l identifier) (legal_append ts ws (body_name_hints ports os (i + 1) xs))
       ∙ among_later (op_identifiers ports os i x) ls (legal_after ts ws) (legal_after us (body_name_hints ports os (i + 1) xs)) identifier (own_count ports os i x ts)
-      (λ h. (let same = own_place (emission_of ports os i x) i x identifier h in omega (arith, at, same)))
+      (λ h. (let same = own_position (emission_of ports os i x) i x identifier h in omega (arith, at, same)))
       ∙ ap (λ n. name_among ls (legal_after us (body_name_hints ports os n xs)) identifier) (add-one i)
 
   pub values_given : (ts : List Name) (i : ℕ) (xs : List Op) (j k : ℕ) → name_among (each (op_identifiers ports os) i xs) (legal_after ts (body_name_hints ports os i xs)) (value_identifier (i + j) k)

@@ -18,7 +18,7 @@ use Rattle.export_verilog.proofs.items.Lists.{in_append, in_each, each_in}
 module _ {A B : Type 0} (f : ℕ → A → List B) where
   pub from_each : (xs : List A) (y : B) → In y (each f 0 xs) → (i : ℕ) × (x : A) × (slice_get xs i ≡ Some x) × In y (f i x)
   from_each xs y here = let e = in_each f 0 xs y here in
-      (e.place, e.element, e.there, subst (λ n. In y (f n e.element)) (zero-add e.place) e.within)
+      (e.position, e.element, e.there, subst (λ n. In y (f n e.element)) (zero-add e.position) e.within)
 
   pub into_each : (xs : List A) (y : B) (i : ℕ) (x : A) → slice_get xs i ≡ Some x → In y (f i x) → In y (each f 0 xs)
   into_each xs y i x there within = each_in f 0 xs y i x there (subst (λ n. In y (f n x)) (sym (zero-add i)) within)

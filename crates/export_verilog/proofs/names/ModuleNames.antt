@@ -22,7 +22,7 @@ use Rattle.export_verilog.proofs.names.PortNames.{port_names_are}
 use Rattle.export_verilog.proofs.names.IdentifierNameHints.{names_are}
 use Rattle.export_verilog.proofs.names.GivenNames.{among_later, given_name, values_given, instances_given, given_count}
 
--- ---- what stands at places of lists of one length
+-- ---- what stands at positions of lists of one length
 
 there : {A B : Type 0} (xs : List A) (ys : List B) (i : ℕ) (x : A) → length ys ≡ length xs → slice_get xs i ≡ Some x → (y : B) × (slice_get ys i ≡ Some y)
 there [] ys i x count at = cc
@@ -55,7 +55,7 @@ port_count o [] = refl
 port_count o (p ∷ ps) = ap suc (port_count (suc o) ps)
 
 never_port : (ps : List Port) (identifier : Identifier) → ((j : ℕ) → identifier ≡ port_identifier j → ⊥) → In identifier (each port_identifiers 0 ps) → ⊥
-never_port ps identifier never here = let e = in_each port_identifiers 0 ps identifier here in go e.place e.within where
+never_port ps identifier never here = let e = in_each port_identifiers 0 ps identifier here in go e.position e.within where
   go : (n : ℕ) → (identifier ≡ port_identifier (0 + n)) ⊎ ⊥ → ⊥
   go n (inl same) = never (0 + n) same
   go n (inr none) = none

@@ -23,21 +23,21 @@ numbered E d first zero (t ∷ texts) all = absurd all
 numbered E d first (suc n) [] all = absurd all
 numbered E d first (suc n) (t ∷ texts) (one, rest) =
     let more = numbered E d (first + 1) n texts rest in
-    (ap suc more.0, λ i text at. by_place i text at more.1)
+    (ap suc more.0, λ i text at. by_position i text at more.1)
   where
-    by_place : (i : ℕ) (text : Text) → slice_get (t ∷ texts) i ≡ Some text → ((k : ℕ) (u : Text) → slice_get texts k ≡ Some u → IsTextOf d (first + 1 + k) u) → IsTextOf d (first + i) text
-    by_place zero text at later =
+    by_position : (i : ℕ) (text : Text) → slice_get (t ∷ texts) i ≡ Some text → ((k : ℕ) (u : Text) → slice_get texts k ≡ Some u → IsTextOf d (first + 1 + k) u) → IsTextOf d (first + i) text
+    by_position zero text at later =
         let same : t ≡ text = cc in
-        let place : first ≡ first + 0 = omega arith in
-        subst (λ k. IsTextOf d k text) place (subst (IsTextOf d first) same one)
-    by_place (suc k) text at later = let place : first + 1 + k ≡ first + suc k = omega arith in subst (λ j. IsTextOf d j text) place (later k text at)
+        let position : first ≡ first + 0 = omega arith in
+        subst (λ k. IsTextOf d k text) position (subst (IsTextOf d first) same one)
+    by_position (suc k) text at later = let position : first + 1 + k ≡ first + suc k = omega arith in subst (λ j. IsTextOf d j text) position (later k text at)
 
 pub all_texts : (E : Type 0) (d : Design) (n : ℕ) (rs : List (Result Text E)) (texts : List Text) → n ≡ length d → AllZip (λ (i : ℕ) (r : Result Text E). IfOk r (IsTextOf d i)) (range_with_len 0 n) rs → rs ≡ map Ok texts
     → AreTextsOf d texts
 all_texts E d n rs texts size all are =
     let told = numbered E d 0 n texts (subst (AllZip (λ i r. IfOk r (IsTextOf d i)) (range_with_len 0 n)) are all) in record {
       count = told.0 ∙ size;
-      each = λ i text at. let place : 0 + i ≡ i = omega arith in subst (λ k. IsTextOf d k text) place (told.1 i text at);
+      each = λ i text at. let position : 0 + i ≡ i = omega arith in subst (λ k. IsTextOf d k text) position (told.1 i text at);
     }
 
 -- a number of a range is below its end

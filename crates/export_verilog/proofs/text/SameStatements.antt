@@ -53,16 +53,16 @@ module _ (s : Scope) (v : ValueNames) (values : (r : Ref) → named_of v r ≡ v
       ap₂ (λ n b. always (name_or_nothing n) b ∷ []) (values r.clock)
       (register_block_same (named_of v) (value_name (scope_module s)) values (value_expr s v) (expression (scope_module s)) used_same (value_literal s) q r a)
 
-  -- what is stated for an operation at a place
-  module _ (d : Design) (i j : ℕ) (o : Op) (place : j ≡ i) where
+  -- what is stated for an operation at a position
+  module _ (d : Design) (i j : ℕ) (o : Op) (position : j ≡ i) where
     own_name : name_or_nothing (named_of v (result j 0)) ≡ identifier_text (scope_module s) (value_identifier i 0)
-    own_name = ap (λ n. name_or_nothing (named_of v (result n 0))) place ∙ ap name_or_nothing (values (result i 0))
+    own_name = ap (λ n. name_or_nothing (named_of v (result n 0))) position ∙ ap name_or_nothing (values (result i 0))
 
     pub net_same : assign (name_or_nothing (named_of v (result j 0))) (own_expr (named_of v) (scope_ports s) (scope_ops s) (value_expr s v) (result j 0)) ∷ []
         ≡ stated_as d (scope_module s) i o as_wire
     net_same =
         ap₂ (λ n e. assign n e ∷ []) own_name
-        (ap (λ n. own_expr (named_of v) (scope_ports s) (scope_ops s) (value_expr s v) (result n 0)) place ∙ assigned_same (result i 0))
+        (ap (λ n. own_expr (named_of v) (scope_ports s) (scope_ops s) (value_expr s v) (result n 0)) position ∙ assigned_same (result i 0))
 
     pub variable_same : (q : Name) → q ≡ name_or_nothing (named_of v (result j 0)) → register_items (named_of v) (value_expr s v) (value_literal s) q (async_reset_in o) (register_in o) ≡ stated_as d (scope_module s) i o as_reg
     variable_same q is = register_same q (async_reset_in o) (register_in o) ∙ ap (λ n. always_of (scope_module s) n (async_reset_in o) (register_in o)) (is ∙ own_name)

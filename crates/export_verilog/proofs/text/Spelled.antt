@@ -32,8 +32,8 @@ use Rattle.export_verilog.proofs.items.Settings.{Setting, Called, module_ok, mod
 use Rattle.export_verilog.proofs.items.Writable.{named_input}
 use Rattle.export_verilog.proofs.checks.Known.{identifier_word, known_first, knows_first}
 use Rattle.export_verilog.proofs.checks.Readable.{expression_well, assigned_well}
-use Rattle.export_verilog.proofs.checks.Stated.{first_small, result_small, place_of_input, placed_in, result_there}
-use Rattle.export_verilog.proofs.items.Drives.{place_of_output}
+use Rattle.export_verilog.proofs.checks.Stated.{first_small, result_small, position_of_input, placed_in, result_there}
+use Rattle.export_verilog.proofs.items.Drives.{position_of_output}
 
 high_word : (w : ℕ) → w < 2 ^ 64 → IsHigh (high_of w)
 high_word w small = go (w == 1) where
@@ -94,7 +94,7 @@ module _ (d : Design) (x : Setting d) where
         let p = signal_port d x s m is o b within at in
         let v = value_of_reset d x s m is o b within at t (are.value b (async_reset_of o b at r is_register_of)) in
         let literal : IsSpellable (constant_expr m.ports m.body b.value) =
-        subst IsSpellable (sym (literal_own d x s m is b.value t v)) (assigned_well d x s m is (known_first m) (knows_first d x s m is) v.place 0 v.op t v.there v.gives v.typed).words in (
+        subst IsSpellable (sym (literal_own d x s m is b.value t v)) (assigned_well d x s m is (known_first m) (knows_first d x s m is) v.position 0 v.op t v.there v.gives v.typed).words in (
           subst IsWord (sym p.called) (word_of_identifier s m is (port_identifier p.number) (port_in m p.number p.port_of p.there)),
           (record { target = word_of_identifier s m is (value_identifier i 0) here; value = literal }, load_spelled i here r.next t are.next),
         )
@@ -125,7 +125,7 @@ module _ (d : Design) (x : Setting d) where
       go true out = let r = result_there d x s m is (known_first m) (knows_first d x s m is) i o c j p at out in
           subst (λ a. IsWord (identifier_text m (value_identifier i a))) (sym (zero-add n)) (word_of_identifier s m is (value_identifier i n) (result_in_identifiers m i n o r.0 there emission r.1))
       go false out =
-          let g = placed_in (type_in m.ports m.body) (λ (u : HwType). Some u) o.operands (input_types c.module_of.ports) (input_count (take j c.module_of.ports)) p.type c.inputs (place_of_input c.module_of.ports j p at out) in
+          let g = placed_in (type_in m.ports m.body) (λ (u : HwType). Some u) o.operands (input_types c.module_of.ports) (input_count (take j c.module_of.ports)) p.type c.inputs (position_of_input c.module_of.ports j p at out) in
           subst (λ z. IsSpellable (expr_for (expression m) z)) (sym g.1) (written g.0 p.type g.2)
 
     connections_spelled : (i : ℕ) (o : Op) → slice_get m.body i ≡ Some o → emission_of m.ports m.body i o ≡ as_instance → (c : Called d m o) → (es : List Connection)
@@ -151,7 +151,7 @@ module _ (d : Design) (x : Setting d) where
 
     output_spelled : (j : ℕ) (p : Port) → slice_get m.ports j ≡ Some p → p.is_output ≡ true → IsSpellable (expr_for (expression m) (slice_get (output_refs m.body) (output_count (take j m.ports))))
     output_spelled j p there out =
-        let g = placed_in (type_in m.ports m.body) (λ (u : HwType). Some u) (output_refs m.body) (output_types m.ports) (output_count (take j m.ports)) p.type ((module_sound d x s m is).outputs) (place_of_output m.ports j p there out).1 in
+        let g = placed_in (type_in m.ports m.body) (λ (u : HwType). Some u) (output_refs m.body) (output_types m.ports) (output_count (take j m.ports)) p.type ((module_sound d x s m is).outputs) (position_of_output m.ports j p there out).1 in
         subst (λ z. IsSpellable (expr_for (expression m) z)) (sym g.1) (written g.0 p.type g.2)
 
     item_spelled : (y : Item) → From d m y → IsSpellableItem y

@@ -11,7 +11,7 @@ use Rattle.export_verilog.specs.Layout.{Text, module_text}
 use Rattle.export_verilog.specs.ModuleTexts.{module_under}
 use Rattle.export_verilog.specs.WritableDesigns.{IsWritableModule, IsWritableDesign}
 use Rattle.export_verilog.proofs.names.Symbols.{among_at}
-use Rattle.export_verilog.proofs.names.SymbolPlaces.{symbol_count}
+use Rattle.export_verilog.proofs.names.SymbolPositions.{symbol_count}
 use Rattle.export_verilog.proofs.text.SameModules.{under_same}
 
 -- a module of some ports and some operations

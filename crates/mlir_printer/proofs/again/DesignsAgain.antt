@@ -170,7 +170,7 @@ module _ (m : Module) (p : IsPrintableModule m) where
       let os = body_said in
       sym (rw (ps, es, os) refl)
 
--- the text of a design says the design, but for places
+-- the text of a design says the design, but for positions
 pub printable_designs_are_said : (d : Design) → Printable d → IsSameDesign d (design_of (map inherent_view (modules_shown d)))
 printable_designs_are_said [] p = refl
 printable_designs_are_said (m ∷ d) p =

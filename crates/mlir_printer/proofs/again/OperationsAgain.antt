@@ -180,7 +180,7 @@ module _ (ports : List Port) (body : List Op) (o : Op) (p : IsPrintableOp ports 
           ∙ own_again o.name (first_name ns) o.dictionary (none_given (opcode_of o.kind) o.dictionary h p.dictionary.kept)
           (suits_own o.name ns (subst (λ ws. Suits ws ns) k.0 suits))
 
-  -- the operation that is said is the one that is printed, but for its place
+  -- the operation that is said is the one that is printed, but for its position
   pub operation_again : (m earlier : Meanings) (means : Ref → ValueText) (i : ℕ) (ns : List Name)
       → ((r : Ref) → IsDefined ports body r → resolve_operand m (said_operand (means r)) ≡ r)
       → AreNew earlier (operation_definitions i (shown means ns)) → Suits (name_hints (parts_in o)) ns

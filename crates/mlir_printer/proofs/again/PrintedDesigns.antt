@@ -9,7 +9,7 @@ use Rattle.printing_laws.specs.Printable.{Printable}
 use Rattle.mlir_printer.proofs.lexed.LexedModules.{spellable_texts_are_spelled}
 use Rattle.mlir_printer.proofs.again.DesignsAgain.{printable_designs_are_said}
 use Rattle.mlir_printer.proofs.again.DesignsFit.{printable_designs_are_spellable}
-use Rattle.mlir_printer.proofs.again.PlacesChosen.{unlocated_is_spelled}
+use Rattle.mlir_printer.proofs.again.PositionsChosen.{unlocated_is_spelled}
 
 pub printable_designs_are_spelled : (d : Design) → Printable d → SpellsUnlocated (ir_text d) d
 unfolding ir_text
@@ -17,7 +17,7 @@ printable_designs_are_spelled d p =
     let bytes = spellable_texts_are_spelled (modules_shown d) (printable_designs_are_spellable d p) in
     (map inherent_view (modules_shown d), bytes.0, bytes.1, bytes.2, printable_designs_are_said d p)
 
--- it spells one with the places of its tokens, and is read as that one, since what is spelled is read
+-- it spells one with the positions of its tokens, and is read as that one, since what is spelled is read
 pub printed_designs_are_read_again : ((source : List ℕ) (d : Design) → Spells source d → length source ≤ text_limit → read source ≡ Ok d)
     → (d : Design) → Printable d → (e : Design) × Spells (ir_text d) e × IsSameDesign d e × (length (ir_text d) ≤ text_limit → read (ir_text d) ≡ Ok e)
 printed_designs_are_read_again spelled d p =

@@ -14,7 +14,7 @@ use Rattle.mlir_printer.specs.Naming.{hints_or_numbers, input_count, names_given
 use Rattle.printing_laws.specs.NameHints.{port_name_hints, body_name_hints}
 use Rattle.mlir_printer.specs.Chosen.{Chosen, with_name_hints}
 use Rattle.mlir_printer.specs.Choices.{name_chosen}
-use Rattle.mlir_printer.specs.Places.{HavePlaces, port_places}
+use Rattle.mlir_printer.specs.Slots.{HaveSlots, port_slots}
 use Rattle.mlir_printer.specs.Shown.{parts_in_body}
 use Rattle.mlir_printer.specs.Views.{names_held, value_held, slot_value, port_placed}
 use Rattle.mlir_printer.specs.declared.value_names.ValueNames.{ValueNames}
@@ -39,12 +39,12 @@ all_names start mid end ps ops empty zero p q =
 pub ports_first : (start mid : Chosen) (ps : List Port) → start.names ≡ [] → mid ≡ with_name_hints start (port_name_hints ps) → length mid.names ≡ input_count ps
 ports_first start mid ps empty p = omega (arith, ap (λ (c : Chosen). length c.names) p, name_hints_length start (port_name_hints ps), ap length empty)
 
-pub all_values : (v : ValueNames) (ps : List Port) (ops : List BodyOp) → v.ports.items ≡ port_places 0 ps → HavePlaces (input_count ps) ops v.places.items
+pub all_values : (v : ValueNames) (ps : List Port) (ops : List BodyOp) → v.ports.items ≡ port_slots 0 ps → HaveSlots (input_count ps) ops v.slots.items
     → (x : Value) → value_held v x ≡ value_named (names_held v) ps (parts_in_body ops) (ref_by (position_of (ids_in ops)) x)
 unfolding value_held
-all_values v ps ops ports places (value.Port n) = ap (λ l. port_placed (names_held v) (slice_get l n)) ports ∙ port_called (names_held v) ps 0 n
-all_values v ps ops ports places (value.Result id k) =
-    table_called (names_held v) v.places.items id.index k
-    ∙ ap (λ p. slot_value (names_held v) p k) (places id.index)
+all_values v ps ops ports slots (value.Port n) = ap (λ l. port_placed (names_held v) (slice_get l n)) ports ∙ port_called (names_held v) ps 0 n
+all_values v ps ops ports slots (value.Result id k) =
+    table_called (names_held v) v.slots.items id.index k
+    ∙ ap (λ p. slot_value (names_held v) p k) (slots id.index)
     ∙ result_called (names_held v) ops (input_count ps) id.index k
-all_values v ps ops ports places value.Undefined = refl
+all_values v ps ops ports slots value.Undefined = refl

@@ -3,8 +3,8 @@ use Rattle.acceptance_laws.proofs.PutIn.{fit_inserted}
 use Rattle.acceptance_laws.proofs.TakenOut.{fit_erased, fit_without_dead}
 use Rattle.acceptance_laws.proofs.laws.each_edit_keeps_fit.Goals as goal
 
-pub returns-clause-place : goal.returns-clause-place
-returns-clause-place c = fit_in_place
+pub returns-clause-position : goal.returns-clause-position
+returns-clause-position c = fit_in_place
 
 pub returns-clause-erased : goal.returns-clause-erased
 returns-clause-erased c = fit_erased

@@ -1,12 +1,12 @@
 use Rattle.std.proofs.Common.{◌≡◌, suc, Bool, true, false, not, List, [], ◌∷◌, nat_eq, length, Option, Some, None, MatchOption, is_some, sym, ne_eqb, arith, ap, ◌∙◌}
-use Rattle.ir_store.specs.declared.operation.UsePlace.{UsePlace}
+use Rattle.ir_store.specs.declared.operation.UsePosition.{UsePosition}
 use Rattle.ir_store.specs.UsesLeft.{uses_left}
 use Rattle.body_edits.proofs.OnlyUses.{told_uses}
 use Rattle.body_edits.proofs.nested.has_one_use.Goals as goal
 
 -- where nothing comes next, nothing is left
-only_left : (r : Option UsePlace) (ps qs : List UsePlace) (t : Bool) → is_some r ≡ not t → MatchOption r ((ps ≡ []) × (qs ≡ [])) (λ p. ps ≡ p ∷ qs) → t ≡ nat_eq (suc (length ps)) 1
-only_left None ps qs true is left = sym (ap (λ (xs : List UsePlace). nat_eq (suc (length xs)) 1) left.0)
+only_left : (r : Option UsePosition) (ps qs : List UsePosition) (t : Bool) → is_some r ≡ not t → MatchOption r ((ps ≡ []) × (qs ≡ [])) (λ p. ps ≡ p ∷ qs) → t ≡ nat_eq (suc (length ps)) 1
+only_left None ps qs true is left = sym (ap (λ (xs : List UsePosition). nat_eq (suc (length xs)) 1) left.0)
 only_left None ps qs false is left = cc
 only_left (Some p) ps qs false is left =
     let more : length ps ≡ suc (length qs) = ap length left in

@@ -11,8 +11,8 @@ pub drop_operand-requires-2-clause-live : goal.drop_operand-requires-2-clause-li
 drop_operand-requires-2-clause-live c =
     op_stays c.args.body.now c.drop_operand.new.self c.args.op (λ xs. remove xs c.in_ok-second.second) c.drop_operand.ensures.ops c.requires.live
 
-pub drop_operand-requires-2-clause-place : goal.drop_operand-requires-2-clause-place
-drop_operand-requires-2-clause-place c =
+pub drop_operand-requires-2-clause-position : goal.drop_operand-requires-2-clause-position
+drop_operand-requires-2-clause-position c =
     operand_stays c.args.body.now c.drop_operand.new.self c.args.op (λ xs. remove xs c.in_ok-second.second) c.in_ok-first.first c.args.second c.drop_operand.ensures.ops
     (λ xs there. let within : c.in_ok-second.second < length xs = omega (arith, there, c.in_ok-second.ensures) in
     omega (arith, within, c.in_ok-first.ensures, c.in_ok-second.ensures, c.requires.order, length-remove xs c.in_ok-second.second within))

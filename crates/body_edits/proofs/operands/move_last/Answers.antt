@@ -8,8 +8,8 @@ use Rattle.body_edits.proofs.operands.move_last.Goals as goal
 pub drop_operand-requires-clause-live : goal.drop_operand-requires-clause-live
 drop_operand-requires-clause-live c = op_stays c.args.body.now c.insert_operand.new.self c.args.op _ c.in_ok-insert_operand.ensures.ok c.requires.live
 
-pub drop_operand-requires-clause-place : goal.drop_operand-requires-clause-place
-drop_operand-requires-clause-place c =
+pub drop_operand-requires-clause-position : goal.drop_operand-requires-clause-position
+drop_operand-requires-clause-position c =
     operand_stays c.args.body.now c.insert_operand.new.self c.args.op _ c.in_ok-at.at c.args.at c.in_ok-insert_operand.ensures.ok
     (λ xs there. longer xs _ _ c.in_ok-at.at (omega (arith, there, c.in_ok-at.ensures))) c.requires.within
 

@@ -10,6 +10,6 @@ from_distinct-requires c =
 pub returns : goal.returns
 returns c =
     let search_learns = learnt c.args.trail.now.variables c.args.clauses.now c.args.trail.now.entries c.requires.sound c.in_ok-literals.ensures.apart c.minimise.new.hints.items c.minimise.new.seen c.in_ok-minimise.ensures.resolving
-    c.args.floor c.place_after_marked-start.result c.decision_from-place.result (c.in_ok-minimise.ensures.count ∙ c.in_ok-hints.ensures.count) c.requires.floor c.decision_from-place.ensures.start c.decision_from-place.ensures.last
-    c.place_after_marked-start.ensures.above c.place_after_marked-start.ensures.marked (none_is _ c.decision_from-place.ensures.decision) c.decision_from-place.ensures.before in
+    c.args.floor c.position_after_marked-start.result c.decision_from-position.result (c.in_ok-minimise.ensures.count ∙ c.in_ok-hints.ensures.count) c.requires.floor c.decision_from-position.ensures.start c.decision_from-position.ensures.last
+    c.position_after_marked-start.ensures.above c.position_after_marked-start.ensures.marked (none_is _ c.decision_from-position.ensures.decision) c.decision_from-position.ensures.before in
     record { learnt = rw (c.from_distinct.ensures, c.in_ok-literals.ensures.negations, c.from_vec.ensures) search_learns }

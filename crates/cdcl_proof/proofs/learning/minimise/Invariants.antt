@@ -3,9 +3,9 @@ use Rattle.cdcl_proof.specs.Learning.{count_seen}
 use Rattle.cdcl_proof.specs.Resolving.{IsResolving, HasPivotsFrom}
 use Rattle.cdcl_proof.proofs.learning.minimise.Given as goal
 
-abbrev pub invariant-loop-place : goal.invariant-loop-place
-invariant-loop-place l = IsResolving l.clauses l.trail.entries l.hints.items l.seen × HasPivotsFrom l.trail.entries l.place l.hints.items
-    × (count_seen l.seen (drop l.floor l.trail.entries) ≡ count_seen l.fn.seen (drop l.floor l.trail.entries)) × (length l.seen ≡ l.trail.variables) × (l.place ≤ l.floor)
+abbrev pub invariant-loop-position : goal.invariant-loop-position
+invariant-loop-position l = IsResolving l.clauses l.trail.entries l.hints.items l.seen × HasPivotsFrom l.trail.entries l.position l.hints.items
+    × (count_seen l.seen (drop l.floor l.trail.entries) ≡ count_seen l.fn.seen (drop l.floor l.trail.entries)) × (length l.seen ≡ l.trail.variables) × (l.position ≤ l.floor)
 
-abbrev pub decreases-loop-place : goal.decreases-loop-place
-decreases-loop-place l = l.place
+abbrev pub decreases-loop-position : goal.decreases-loop-position
+decreases-loop-position l = l.position

@@ -14,24 +14,24 @@ returns-in_ok-push-in-Some-clause-resolving c =
     let why = ap (λ (e : Entry). e.reason) (sym at) ∙ c.in-Some.is in
     let marked = subst (λ (e : Entry). is_seen_entry c.args.seen.now e ≡ true) at c.if-not-seen-pivot.false in
     let all = subst (λ (xs : List Literal). list_all (is_seen_literal c.args.seen.now) xs ≡ true) c.clause_of.ensures (sym c.are_marked.ensures ∙ c.if-not-are_marked.false) in
-    let less = subsumed c.args.trail.now.variables c.args.clauses.now c.args.trail.now.entries c.requires.sound c.entry-entry.ensures.apart c.args.place c.in-Some.number c.requires.place why c.args.hints.now.items c.args.seen.now c.requires.seen marked all c.requires.resolving c.requires.pivots in
+    let less = subsumed c.args.trail.now.variables c.args.clauses.now c.args.trail.now.entries c.requires.sound c.entry-entry.ensures.apart c.args.position c.in-Some.number c.requires.position why c.args.hints.now.items c.args.seen.now c.requires.seen marked all c.requires.resolving c.requires.pivots in
     rw (c.in_ok-push-in-Some.ensures.items, at) less
 
 pub returns-in_ok-push-in-Some-clause-pivots : goal.returns-in_ok-push-in-Some-clause-pivots
 returns-in_ok-push-in-Some-clause-pivots c =
-    rw c.in_ok-push-in-Some.ensures.items (pivots_more c.args.trail.now.entries c.args.place c.args.hints.now.items
-    (record { clause = c.in-Some.number; pivot = c.entry-entry.result.literal.variable }) c.requires.pivots c.requires.place
+    rw c.in_ok-push-in-Some.ensures.items (pivots_more c.args.trail.now.entries c.args.position c.args.hints.now.items
+    (record { clause = c.in-Some.number; pivot = c.entry-entry.result.literal.variable }) c.requires.pivots c.requires.position
     (ap (λ (e : Entry). e.literal.variable) (sym c.entry-entry.ensures.entry)))
 
 pub returns-in_ok-push-in-Some-clause-count : goal.returns-in_ok-push-in-Some-clause-count
 returns-in_ok-push-in-Some-clause-count c floor below =
-    rw c.entry-entry.ensures.entry (count_seen-before c.args.trail.now.variables c.args.seen.now c.args.trail.now.entries floor c.args.place c.entry-entry.ensures.apart c.requires.place below)
+    rw c.entry-entry.ensures.entry (count_seen-before c.args.trail.now.variables c.args.seen.now c.args.trail.now.entries floor c.args.position c.entry-entry.ensures.apart c.requires.position below)
 
 pub returns-then-not-are_marked-clause-pivots : goal.returns-then-not-are_marked-clause-pivots
-returns-then-not-are_marked-clause-pivots c = pivots_later c.args.trail.now.entries c.args.place c.args.hints.now.items c.requires.pivots
+returns-then-not-are_marked-clause-pivots c = pivots_later c.args.trail.now.entries c.args.position c.args.hints.now.items c.requires.pivots
 
 pub returns-then-not-seen-pivot-clause-pivots : goal.returns-then-not-seen-pivot-clause-pivots
-returns-then-not-seen-pivot-clause-pivots c = pivots_later c.args.trail.now.entries c.args.place c.args.hints.now.items c.requires.pivots
+returns-then-not-seen-pivot-clause-pivots c = pivots_later c.args.trail.now.entries c.args.position c.args.hints.now.items c.requires.pivots
 
 pub returns-in-None-clause-pivots : goal.returns-in-None-clause-pivots
-returns-in-None-clause-pivots c = pivots_later c.args.trail.now.entries c.args.place c.args.hints.now.items c.requires.pivots
+returns-in-None-clause-pivots c = pivots_later c.args.trail.now.entries c.args.position c.args.hints.now.items c.requires.pivots

@@ -3,7 +3,7 @@ use Rattle.ir_store.specs.declared.operation.OpId.{OpId}
 use Rattle.ir_store.specs.Bodies.{ops_of}
 use Rattle.cse_pass.specs.Same.{are_same_at}
 use Rattle.cse_pass.specs.Groups.{group_of}
-use Rattle.cse_pass.proofs.EarlierEqual.{is_word, none_impure, place_found, found_there, group_there}
+use Rattle.cse_pass.proofs.EarlierEqual.{is_word, none_impure, position_found, found_there, group_there}
 use Rattle.cse_pass.proofs.merges.equal_earlier.Goals as goal
 
 pub hash_of-requires : goal.hash_of-requires
@@ -18,7 +18,7 @@ returns-then-not-is_pure-clause-equal c =
 
 pub returns-clause-equal : goal.returns-clause-equal
 returns-clause-equal c =
-    place_found c.args.body.now c.requires.fit c.args.op c.op-own.result c.op-own.ensures c.args.position c.requires.position (sym c.is_pure.ensures ∙ c.if-not-is_pure.false)
+    position_found c.args.body.now c.requires.fit c.args.op c.op-own.result c.op-own.ensures c.args.position c.requires.position (sym c.is_pure.ensures ∙ c.if-not-is_pure.false)
     c.args.groups.now c.requires.grouped c.find_same.result
     (c.find_same.ensures ∙ ap (find (λ (x : OpId). are_same_at (ops_of c.args.body.now) x c.args.op)) (c.of.ensures ∙ ap (group_of c.args.groups.now) c.hash_of.ensures))
 

@@ -6,7 +6,7 @@ use Rattle.cse_pass.proofs.merges.groups_of_first.Given as goal
 abbrev pub invariant-loop-position : goal.invariant-loop-position
 invariant-loop-position l = record {
   most : l.position ≤ l.count;
-  place : l.at ≡ first_id (map op_id (drop l.position (ids_of l.body)));
+  stands : l.at ≡ first_id (map op_id (drop l.position (ids_of l.body)));
   grouped : IsGrouping l.groups (take l.position (ops_of l.body));
 }
 

@@ -7,7 +7,7 @@ use Rattle.design_cycles.specs.Asked.{IsCyclicAt}
 use Rattle.graphs.specs.Graphs.{lists_of, edges, has_mark}
 use Rattle.design_cycles.specs.Graphs.{ReturnsWithin}
 use Rattle.design_cycles.specs.Nodes.{bit_sets_by}
-use Rattle.design_cycles.specs.Places.{ids_at}
+use Rattle.design_cycles.specs.Positions.{ids_at}
 use Rattle.design_cycles.proofs.Cyclic.{position_cyclic, position_acyclic, cyclic_within}
 use Rattle.design_cycles.proofs.Graphing.{graph_small}
 use Rattle.graphs.proofs.Marking.{length-lists}

@@ -3,11 +3,11 @@ use Rattle.ir_store.specs.Designs.{StoredModule, modules_of, design_of}
 use Rattle.design_cycles.specs.Asked.{IsCyclicAt}
 use Rattle.graphs.specs.Graphs.{lists_of}
 use Rattle.design_cycles.specs.Nodes.{bit_sets_by}
-use Rattle.design_cycles.specs.Places.{FindsOp, ids_at, symbol_at}
+use Rattle.design_cycles.specs.Positions.{FindsOp, ids_at, symbol_at}
 use Rattle.design_cycles.specs.Summing.{KnowsCallees}
 use Rattle.design_cycles.proofs.Cyclic.{cyclic_module}
 use Rattle.graphs.proofs.Marking.{length-lists}
-use Rattle.design_cycles.proofs.Returning.{no_module_more, place_found_first}
+use Rattle.design_cycles.proofs.Returning.{no_module_more, position_found_first}
 use Rattle.design_cycles.proofs.Sizing.{whole_order}
 use Rattle.design_cycles.proofs.cycles.first_cycle.Goals as goal
 
@@ -25,7 +25,7 @@ first_in_module-requires-clause-inner c =
 
 pub returns-in-Some : goal.returns-in-Some
 returns-in-Some c = record {
-  found = place_found_first (modules_of c.args.design.now) (IsCyclicAt (design_of c.args.design.now)) c.loop-module.module c.in-Some.op c.loop-module.invariant
+  found = position_found_first (modules_of c.args.design.now) (IsCyclicAt (design_of c.args.design.now)) c.loop-module.module c.in-Some.op c.loop-module.invariant
       (subst (FindsOp (IsCyclicAt (design_of c.args.design.now) c.loop-module.module) (ids_at (modules_of c.args.design.now) c.loop-module.module)) c.in-Some.is c.in_ok-op.ensures);
 }
 

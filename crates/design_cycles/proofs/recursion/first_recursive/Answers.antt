@@ -3,14 +3,14 @@ use Rattle.ir_store.specs.Designs.{modules_of, design_of}
 use Rattle.design_cycles.specs.Asked.{IsRecursiveAt}
 use Rattle.graphs.specs.Graphs.{lists_of}
 use Rattle.graphs.specs.Orders.{IsOrder}
-use Rattle.design_cycles.specs.Places.{FindsOp, ids_at}
-use Rattle.design_cycles.proofs.Returning.{no_module_more, place_found_first, placed_none, recursive_module, none_recursive}
+use Rattle.design_cycles.specs.Positions.{FindsOp, ids_at}
+use Rattle.design_cycles.proofs.Returning.{no_module_more, position_found_first, placed_none, recursive_module, none_recursive}
 use Rattle.design_cycles.proofs.recursion.first_recursive.Goals as goal
 use Rattle.design_cycles.proofs.recursion.first_recursive.Goals.{then-is_open+in_ok-op+in_default, else-is_open}
 
 pub returns-in-Some-clause-found : goal.returns-in-Some-clause-found
 returns-in-Some-clause-found c =
-    place_found_first (modules_of c.args.design.now) (IsRecursiveAt (design_of c.args.design.now)) c.loop-module.module c.in-Some.op c.loop-module.invariant
+    position_found_first (modules_of c.args.design.now) (IsRecursiveAt (design_of c.args.design.now)) c.loop-module.module c.in-Some.op c.loop-module.invariant
     (subst (FindsOp (IsRecursiveAt (design_of c.args.design.now) c.loop-module.module) (ids_at (modules_of c.args.design.now) c.loop-module.module)) c.in-Some.is c.in_ok-op.ensures)
 
 pub loop-module-preserved : goal.loop-module-preserved

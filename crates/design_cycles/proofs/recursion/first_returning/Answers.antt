@@ -5,7 +5,7 @@ use Rattle.ir_store.specs.Designs.{modules_of, design_of, module_of}
 use Rattle.design_cycles.specs.Asked.{IsRecursiveAt}
 use Rattle.graphs.specs.Graphs.{lists_of}
 use Rattle.design_cycles.specs.Graphs.{LeadsTo}
-use Rattle.design_cycles.specs.Places.{ids_at}
+use Rattle.design_cycles.specs.Positions.{ids_at}
 use Rattle.design_cycles.proofs.Returning.{position_returns, position_not, none_more, first_found, recursive_within, id_at_position}
 use Rattle.design_cycles.proofs.recursion.first_returning.Goals as goal
 

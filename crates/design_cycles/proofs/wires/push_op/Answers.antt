@@ -26,7 +26,7 @@ returns-in-Calls c =
     (called_need c.args.scope.now.body.now c.op_at-op.result c.args.layout.now.ports (bit_sets_by
     (map (λ (m : StoredModule). m.symbol) (modules_of c.args.scope.now.design.now)) c.args.scope.now.summaries.now) c.args.position c.args.layout.now
     c.requires.layout c.op_at-op.ensures (instance_of c.in-Calls.instance.now) (lists_of c.bit_sets_at-bit_sets.result.now)
-    (c.bit_sets_at-bit_sets.ensures ∙ ap (bit_sets_at c.args.scope.now.summaries.now) c.find.ensures.place
+    (c.bit_sets_at-bit_sets.ensures ∙ ap (bit_sets_at c.args.scope.now.summaries.now) c.find.ensures.position
     ∙ ap (bit_sets_by (map (λ (m : StoredModule). m.symbol) (modules_of c.args.scope.now.design.now)) c.args.scope.now.summaries.now) c.as_bytes.ensures)
     c.in-Calls.ensures.register c.in-Calls.ensures.instance)
     c.push_instance.ensures

@@ -9,9 +9,9 @@ use Rattle.ir_store.specs.OpIndexes.{op_view}
 use Rattle.export_verilog.proofs.items.Marks.{body_more}
 use Rattle.export_verilog.proofs.called.mark_body.Goals as goal
 
-pub loop-place-preserved : goal.loop-place-preserved
-loop-place-preserved c =
+pub loop-position-preserved : goal.loop-position-preserved
+loop-position-preserved c =
     let symbols = map (λ (m : StoredModule). m.symbol) (modules_of c.args.design.now) in
-    body_more symbols (ops_by_position (ops_of c.args.body.now)) c.loop-place.place (callee_number symbols (instance_in (kind_of c.op_at.result.kind.now))) c.args.marks.now.items
-    c.loop-place.marks.items c.mark_called.new.marks.items (record { op_there = op_view c.args.body.now c.op_at.result; has_op = c.op_at.ensures; number_is = refl }) c.loop-place.invariant
+    body_more symbols (ops_by_position (ops_of c.args.body.now)) c.loop-position.position (callee_number symbols (instance_in (kind_of c.op_at.result.kind.now))) c.args.marks.now.items
+    c.loop-position.marks.items c.mark_called.new.marks.items (record { op_there = op_view c.args.body.now c.op_at.result; has_op = c.op_at.ensures; number_is = refl }) c.loop-position.invariant
     c.mark_called.ensures

@@ -7,6 +7,6 @@ use Rattle.design_cycles.specs.Calls.{numbers_of}
 use Rattle.export_verilog.specs.Called.{with_marks}
 use Rattle.export_verilog.proofs.called.mark_body.Given as goal
 
-abbrev pub invariant-loop-place : goal.invariant-loop-place
-invariant-loop-place l =
-    l.marks.items ≡ with_marks (numbers_of (map (λ (m : StoredModule). m.symbol) (modules_of l.design)) (callee_symbols (take l.place (ops_by_position (ops_of l.body))))) l.fn.marks.items
+abbrev pub invariant-loop-position : goal.invariant-loop-position
+invariant-loop-position l =
+    l.marks.items ≡ with_marks (numbers_of (map (λ (m : StoredModule). m.symbol) (modules_of l.design)) (callee_symbols (take l.position (ops_by_position (ops_of l.body))))) l.fn.marks.items

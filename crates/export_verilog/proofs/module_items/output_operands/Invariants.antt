@@ -3,5 +3,5 @@ use Rattle.hw_model.specs.Design.{output_refs}
 use Rattle.verilog_expr.specs.Scopes.{scope_ops}
 use Rattle.export_verilog.proofs.module_items.output_operands.Given as goal
 
-abbrev pub invariant-loop-place : goal.invariant-loop-place
-invariant-loop-place l = output_refs (drop l.place (scope_ops l.scope)) ≡ output_refs (scope_ops l.scope)
+abbrev pub invariant-loop-position : goal.invariant-loop-position
+invariant-loop-position l = output_refs (drop l.position (scope_ops l.scope)) ≡ output_refs (scope_ops l.scope)

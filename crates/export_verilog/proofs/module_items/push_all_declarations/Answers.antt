@@ -16,22 +16,22 @@ push_declarations-requires c =
     let s = c.args.writer.now.scope in
     ap (slice_get (scope_ops s)) c.id_at.ensures ∙ c.op_at-op.ensures
 
-pub loop-place-preserved : goal.loop-place-preserved
-loop-place-preserved c =
+pub loop-position-preserved : goal.loop-position-preserved
+loop-position-preserved c =
     let s = c.args.writer.now.scope in
     let m = scope_module s in
     let O = scope_ops s in
-    let i = c.loop-place.place in
+    let i = c.loop-position.position in
     let o = c.op_at-op.result in
     let x = op_read s o in
     let r = emission_seen c.emission_of-emission.result in
-    let lt : i < length O = omega (arith, c.loop-place-test.true, c.count-place-end.ensures) in
+    let lt : i < length O = omega (arith, c.loop-position-test.true, c.count-position-end.ensures) in
     let emission : r ≡ emission_of (scope_ports s) O i x = c.emission_of-emission.ensures ∙ ap (λ b. emission_by b (kind_of o.kind.now)) (c.has_wire.ensures ∙ c.args.writer.now.wires_are i lt) in
-    each_step (declares m) O i x (declared_as m i x r) c.loop-place.out c.push_declarations.new.out (c.args.out.now ++ each_left (declares m) O 0) c.op_at-op.ensures
-    (ap (declared_as m i x) emission) (c.in_ok-push_declarations.ensures ∙ ap (λ j. c.loop-place.out ++ items_text (declared_as m j x r) []) c.id_at.ensures) c.loop-place.invariant
+    each_step (declares m) O i x (declared_as m i x r) c.loop-position.out c.push_declarations.new.out (c.args.out.now ++ each_left (declares m) O 0) c.op_at-op.ensures
+    (ap (declared_as m i x) emission) (c.in_ok-push_declarations.ensures ∙ ap (λ j. c.loop-position.out ++ items_text (declared_as m j x r) []) c.id_at.ensures) c.loop-position.invariant
 
 pub returns : goal.returns
 returns c =
     let s = c.args.writer.now.scope in
     let f = declares (scope_module s) in
-    each_end f (scope_ops s) c.loop-place.place c.loop-place.out (c.args.out.now ++ each_left f (scope_ops s) 0) (omega (arith, c.loop-place-test.false, c.count-place-end.ensures)) c.loop-place.invariant
+    each_end f (scope_ops s) c.loop-position.position c.loop-position.out (c.args.out.now ++ each_left f (scope_ops s) 0) (omega (arith, c.loop-position-test.false, c.count-position-end.ensures)) c.loop-position.invariant

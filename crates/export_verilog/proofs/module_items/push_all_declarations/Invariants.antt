@@ -5,7 +5,7 @@ use Rattle.export_verilog.specs.ScopeModules.{scope_module}
 use Rattle.export_verilog.proofs.text.ItemLists.{each_left}
 use Rattle.export_verilog.proofs.module_items.push_all_declarations.Given as goal
 
-abbrev pub invariant-loop-place : goal.invariant-loop-place
-invariant-loop-place l =
+abbrev pub invariant-loop-position : goal.invariant-loop-position
+invariant-loop-position l =
     let m = scope_module l.writer.scope in
-    l.out ++ each_left (declares m) (scope_ops l.writer.scope) l.place ≡ l.initial.out ++ each_left (declares m) (scope_ops l.writer.scope) 0
+    l.out ++ each_left (declares m) (scope_ops l.writer.scope) l.position ≡ l.initial.out ++ each_left (declares m) (scope_ops l.writer.scope) 0

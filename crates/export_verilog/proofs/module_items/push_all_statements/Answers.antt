@@ -13,23 +13,23 @@ use Rattle.export_verilog.proofs.module_items.push_all_statements.Goals as goal
 pub push_statements-requires : goal.push_statements-requires
 push_statements-requires c = record { there = c.op_at-op.ensures; id = c.id_at.ensures }
 
-pub loop-place-preserved : goal.loop-place-preserved
-loop-place-preserved c =
+pub loop-position-preserved : goal.loop-position-preserved
+loop-position-preserved c =
     let s = c.args.writer.now.scope in
     let d = design_of c.args.writer.now.design.now.design.now in
     let m = scope_module s in
     let O = scope_ops s in
-    let i = c.loop-place.place in
+    let i = c.loop-position.position in
     let o = c.op_at-op.result in
     let x = op_read s o in
     let r = emission_seen c.emission_of-emission.result in
-    let lt : i < length O = omega (arith, c.loop-place-test.true, c.count-place-end.ensures) in
+    let lt : i < length O = omega (arith, c.loop-position-test.true, c.count-position-end.ensures) in
     let emission : r ≡ emission_of (scope_ports s) O i x = c.emission_of-emission.ensures ∙ ap (λ b. emission_by b (kind_of o.kind.now)) (c.has_wire.ensures ∙ c.args.writer.now.wires_are i lt) in
-    each_step (states d m) O i x (stated_as d m i x r) c.loop-place.out c.push_statements.new.out (c.args.out.now ++ each_left (states d m) O 0) c.op_at-op.ensures
-    (ap (stated_as d m i x) emission) c.in_ok-push_statements.ensures c.loop-place.invariant
+    each_step (states d m) O i x (stated_as d m i x r) c.loop-position.out c.push_statements.new.out (c.args.out.now ++ each_left (states d m) O 0) c.op_at-op.ensures
+    (ap (stated_as d m i x) emission) c.in_ok-push_statements.ensures c.loop-position.invariant
 
 pub returns : goal.returns
 returns c =
     let s = c.args.writer.now.scope in
     let f = states (design_of c.args.writer.now.design.now.design.now) (scope_module s) in
-    each_end f (scope_ops s) c.loop-place.place c.loop-place.out (c.args.out.now ++ each_left f (scope_ops s) 0) (omega (arith, c.loop-place-test.false, c.count-place-end.ensures)) c.loop-place.invariant
+    each_end f (scope_ops s) c.loop-position.position c.loop-position.out (c.args.out.now ++ each_left f (scope_ops s) 0) (omega (arith, c.loop-position-test.false, c.count-position-end.ensures)) c.loop-position.invariant

@@ -6,7 +6,7 @@ use Rattle.export_verilog.specs.ScopeModules.{scope_module}
 use Rattle.export_verilog.proofs.text.ItemLists.{each_left}
 use Rattle.export_verilog.proofs.module_items.push_all_statements.Given as goal
 
-abbrev pub invariant-loop-place : goal.invariant-loop-place
-invariant-loop-place l =
+abbrev pub invariant-loop-position : goal.invariant-loop-position
+invariant-loop-position l =
     let f = states (design_of l.writer.design.now.design.now) (scope_module l.writer.scope) in
-    l.out ++ each_left f (scope_ops l.writer.scope) l.place ≡ l.initial.out ++ each_left f (scope_ops l.writer.scope) 0
+    l.out ++ each_left f (scope_ops l.writer.scope) l.position ≡ l.initial.out ++ each_left f (scope_ops l.writer.scope) 0

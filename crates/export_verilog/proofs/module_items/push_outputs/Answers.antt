@@ -13,38 +13,38 @@ use Rattle.export_verilog.specs.ScopeModules.{scope_module}
 use Rattle.export_verilog.proofs.text.Listed.{viewed}
 use Rattle.export_verilog.proofs.names.SameNames.{expr_same}
 use Rattle.export_verilog.proofs.text.OutputItems.{outputs_left, outputs_assigned, outputs_passed, outputs_end}
-use Rattle.export_verilog.proofs.module_items.push_outputs.Goals.{then-ports-place+in_ok-push_output, else-ports-place}
+use Rattle.export_verilog.proofs.module_items.push_outputs.Goals.{then-ports-position+in_ok-push_output, else-ports-position}
 use Rattle.export_verilog.proofs.module_items.push_outputs.Goals as goal
 
-pub loop-place-preserved : goal.loop-place-preserved
-loop-place-preserved c =
+pub loop-position-preserved : goal.loop-position-preserved
+loop-position-preserved c =
     let s = c.args.writer.now.scope in
     let m = scope_module s in
-    let i = c.loop-place.place in
-    let p = port_of c.index-ports-place.result in
+    let i = c.loop-position.position in
+    let p = port_of c.index-ports-position.result in
     let whole = c.args.out.now ++ outputs_left m (scope_ref s) c.args.operands.now 0 0 in
     let at : slice_get m.ports i ≡ Some p =
-    sym (ap (λ ps. slice_get ps i) c.ports-ports.ensures) ∙ viewed port_of c.ports-ports.result.now i c.index-ports-place.result (omega (arith, c.loop-place-test.true)) c.index-ports-place.is in
-    elim c.if-ports-place.branch [
-      | then-ports-place+in_ok-push_output w ↦
+    sym (ap (λ ps. slice_get ps i) c.ports-ports.ensures) ∙ viewed port_of c.ports-ports.result.now i c.index-ports-position.result (omega (arith, c.loop-position-test.true)) c.index-ports-position.is in
+    elim c.if-ports-position.branch [
+      | then-ports-position+in_ok-push_output w ↦
           record {
-            bytes = rw (w.out-is, w.number-is) (outputs_assigned m (scope_ref s) c.args.operands.now i c.loop-place.number p c.loop-place.out whole at c.loop-place.invariant.bytes
-                w.as_bytes-name.result.now (value_expr s c.args.writer.now.names.values) w.push_output.new.out (ap (λ (q : Port). q.out) c.index-ports-place.is ∙ w.if-ports-place.true)
+            bytes = rw (w.out-is, w.number-is) (outputs_assigned m (scope_ref s) c.args.operands.now i c.loop-position.number p c.loop-position.out whole at c.loop-position.invariant.bytes
+                w.as_bytes-name.result.now (value_expr s c.args.writer.now.names.values) w.push_output.new.out (ap (λ (q : Port). q.out) c.index-ports-position.is ∙ w.if-ports-position.true)
                 (w.as_bytes-name.ensures ∙ w.index.ensures ∙ get_or_from_slice_get c.args.writer.now.names.ports.items i (identifier_text m (port_identifier i)) w.index.result.now (c.args.writer.now.names_are.ports_are i p at))
                 (expr_same (named_of c.args.writer.now.names.values) (value_name m) (scope_ports s) (scope_ops s) c.args.writer.now.names_are.values_are (suc height_limit)) w.in_ok-push_output.ensures);
-            number = omega (arith, w.number-is, c.loop-place.invariant.number);
+            number = omega (arith, w.number-is, c.loop-position.invariant.number);
           }
-      | else-ports-place w ↦
+      | else-ports-position w ↦
           record {
-            bytes = rw (w.out-is, w.number-is) (outputs_passed m (scope_ref s) c.args.operands.now i c.loop-place.number p c.loop-place.out whole at c.loop-place.invariant.bytes
-                (ap (λ (q : Port). q.out) c.index-ports-place.is ∙ w.if-ports-place.false));
-            number = omega (arith, w.number-is, c.loop-place.invariant.number);
+            bytes = rw (w.out-is, w.number-is) (outputs_passed m (scope_ref s) c.args.operands.now i c.loop-position.number p c.loop-position.out whole at c.loop-position.invariant.bytes
+                (ap (λ (q : Port). q.out) c.index-ports-position.is ∙ w.if-ports-position.false));
+            number = omega (arith, w.number-is, c.loop-position.invariant.number);
           }
     ]
 
 pub returns : goal.returns
 returns c =
     let s = c.args.writer.now.scope in
-    outputs_end (scope_module s) (scope_ref s) c.args.operands.now c.loop-place.place c.loop-place.number c.loop-place.out
+    outputs_end (scope_module s) (scope_ref s) c.args.operands.now c.loop-position.position c.loop-position.number c.loop-position.out
     (c.args.out.now ++ outputs_left (scope_module s) (scope_ref s) c.args.operands.now 0 0)
-    (omega (arith, c.loop-place-test.false, ap length c.ports-ports.ensures, length-map c.ports-ports.result.now port_of)) c.loop-place.invariant.bytes
+    (omega (arith, c.loop-position-test.false, ap length c.ports-ports.ensures, length-map c.ports-ports.result.now port_of)) c.loop-position.invariant.bytes

@@ -4,10 +4,10 @@ use Rattle.export_verilog.specs.ScopeModules.{scope_module}
 use Rattle.export_verilog.proofs.text.OutputItems.{outputs_left}
 use Rattle.export_verilog.proofs.module_items.push_outputs.Given as goal
 
-abbrev pub invariant-loop-place : goal.invariant-loop-place
-invariant-loop-place l =
+abbrev pub invariant-loop-position : goal.invariant-loop-position
+invariant-loop-position l =
     let m = scope_module l.writer.scope in
     record {
-      bytes : l.out ++ outputs_left m (scope_ref l.writer.scope) l.operands l.place l.number ≡ l.initial.out ++ outputs_left m (scope_ref l.writer.scope) l.operands 0 0;
-      number : l.number ≤ l.place;
+      bytes : l.out ++ outputs_left m (scope_ref l.writer.scope) l.operands l.position l.number ≡ l.initial.out ++ outputs_left m (scope_ref l.writer.scope) l.operands 0 0;
+      number : l.number ≤ l.position;
     }

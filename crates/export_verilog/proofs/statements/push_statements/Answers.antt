@@ -14,7 +14,7 @@ unfolding items_text
 returns-in_ok-push_net-in-Wire c =
     let s = c.args.writer.now.scope in
     let d = design_of c.args.writer.now.design.now.design.now in
-    let i = c.args.place in
+    let i = c.args.position in
     let o = op_read s c.args.op.now in
     c.in_ok-push_net-in-Wire.ensures
     ∙ ap (λ is. c.args.out.now ++ items_text is [])
@@ -24,7 +24,7 @@ pub returns-in_ok-push_register-in-Reg : goal.returns-in_ok-push_register-in-Reg
 returns-in_ok-push_register-in-Reg c =
     let s = c.args.writer.now.scope in
     let d = design_of c.args.writer.now.design.now.design.now in
-    let i = c.args.place in
+    let i = c.args.position in
     let o = op_read s c.args.op.now in
     c.in_ok-push_register-in-Reg.ensures
     ∙ ap (λ is. c.args.out.now ++ items_text is [])

@@ -9,7 +9,7 @@ use Rattle.ir_store.proofs.BodyLemmas.{ids_once}
 use Rattle.ir_store.proofs.Living.{ids_stay}
 use Rattle.body_edits.proofs.SpliceEdits.{one_change}
 use Rattle.inline_pass.specs.MovedOps.{operands_moved}
-use Rattle.inline_pass.specs.Places.{value_there}
+use Rattle.inline_pass.specs.Destinations.{value_there}
 use Rattle.inline_pass.proofs.body_changes.move_operands.Goals as goal
 
 pub op-requires : goal.op-requires
@@ -23,7 +23,7 @@ set_operands-requires c = record {
 
 pub loop-op-preserved : goal.loop-op-preserved
 loop-op-preserved c =
-    let f = value_there c.args.places.now in
+    let f = value_there c.args.destinations.now in
     let id = get_or c.args.ops.now c.loop-op.op-index (op_id 0) in
     let ok = c.in_ok-set_operands.ensures.ok in
     let changed : ops_of c.set_operands.new.self ≡ operands_at id.index (map f) (ops_of c.loop-op.body) =

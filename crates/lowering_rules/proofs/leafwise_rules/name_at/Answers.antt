@@ -3,7 +3,7 @@ use Rattle.std.specs.Prelude.{IfOk}
 use Rattle.std.proofs.lemmas.List.{map-id}
 use Rattle.hw_model.specs.Types.{Name}
 use Rattle.aggregate_laws.specs.Aggregates.{name_at}
-use Rattle.lowering_rules.proofs.Places.{place_index, place_past}
+use Rattle.lowering_rules.proofs.Offsets.{position_index, position_past}
 use Rattle.lowering_rules.proofs.leafwise_rules.name_at.Goals as goal
 
 pub returns-in-Some : goal.returns-in-Some
@@ -12,7 +12,7 @@ returns-in-Some c =
     let names = c.args.names.now in
     let i = c.args.number in
     let is : c.in-Some.name.now ≡ name_at names i =
-    place_index name_at (λ (x : Name). x) (λ y ys. refl) (λ y ys n. refl) names i c.in-Some.name.now h.3.0 h.1 ∙ ap (λ ns. name_at ns i) (map-id names) in
+    position_index name_at (λ (x : Name). x) (λ y ys. refl) (λ y ys n. refl) names i c.in-Some.name.now h.3.0 h.1 ∙ ap (λ ns. name_at ns i) (map-id names) in
     subst (λ (name : Name). IfOk c.try_clone.result (λ text. text ≡ name)) is c.try_clone.ensures
 
 pub returns-in-None : goal.returns-in-None
@@ -21,5 +21,5 @@ returns-in-None c =
     let names = c.args.names.now in
     let i = c.args.number in
     c.new.ensures
-    ∙ place_past name_at (λ (x : Name). x) [] (λ n. refl) (λ y ys n. refl) names i h.3
+    ∙ position_past name_at (λ (x : Name). x) [] (λ n. refl) (λ y ys n. refl) names i h.3
     ∙ ap (λ ns. name_at ns i) (map-id names)

@@ -4,6 +4,6 @@ use Rattle.lowering_rules.proofs.shapes.in_blocks.Given as goal
 
 abbrev pub invariant-loop-size : goal.invariant-loop-size
 invariant-loop-size l = record {
-  places : l.places.items ++ ends l.next (drop l.size-index l.sizes) ≡ ends l.first l.sizes;
+  offsets : l.offsets.items ++ ends l.next (drop l.size-index l.sizes) ≡ ends l.first l.sizes;
   last : last_end l.next (drop l.size-index l.sizes) ≡ last_end l.first l.sizes;
 }

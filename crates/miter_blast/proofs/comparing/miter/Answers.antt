@@ -57,9 +57,9 @@ returns-then-not-are_same-clause-refused c =
     let first_held = c.in_ok-first_widths.ensures ∙ ap (λ (x : Module). held_widths x.body) first_is in
     let second_held = c.in_ok-second_widths.ensures ∙ ap (λ (x : Module). held_widths x.body) second_is in
     let apart = not_told c.are_same.result (c.as_slice.result.now ≡ c.as_slice-2.result.now) c.are_same.ensures c.if-not-are_same.true in
-    let place = same_there (design_of c.args.right.now.design) c.in-Ok.pair.right (numbered_module (module_of c.module_in-then-not-are_same.result.now)) pair.right c.module_in-then-not-are_same.ensures pair.right_at in
+    let position = same_there (design_of c.args.right.now.design) c.in-Ok.pair.right (numbered_module (module_of c.module_in-then-not-are_same.result.now)) pair.right c.module_in-then-not-are_same.ensures pair.right_at in
     rw c.at_module.ensures
-    (subst (λ p. IsComparisonRefusal (design_of c.args.left.now.design) c.args.a.now (design_of c.args.right.now.design) c.args.b.now (at_module 1 p RegistersDiffer)) (sym (ap (λ (x : Module). x.location) place))
+    (subst (λ p. IsComparisonRefusal (design_of c.args.left.now.design) c.args.a.now (design_of c.args.right.now.design) c.args.b.now (at_module 1 p RegistersDiffer)) (sym (ap (λ (x : Module). x.location) position))
     (refused_registers (design_of c.args.left.now.design) c.args.a.now (design_of c.args.right.now.design) c.args.b.now c.in-Ok.pair.left c.in-Ok.pair.right pair c.args.left.now.accepted left_printable c.args.right.now.accepted right_printable (design_of c.in_ok-first.first.design) c.in_ok-first.ensures (design_of c.in_ok-second.second.design) c.in_ok-second.ensures
     (λ same. apart (c.as_slice.ensures.value ∙ first_held ∙ same ∙ sym second_held ∙ sym c.as_slice-2.ensures.value))))
 
@@ -95,9 +95,9 @@ returns-then-branch-gt-MOST_GATES-clause-refused c =
     let second_held = c.in_ok-second_widths.ensures ∙ ap (λ (x : Module). held_widths x.body) second_is in
     let lists = so_told c.are_same.result (c.as_slice.result.now ≡ c.as_slice-2.result.now) c.are_same.ensures c.if-not-are_same.false in
     let same = sym first_held ∙ sym c.as_slice.ensures.value ∙ lists ∙ c.as_slice-2.ensures.value ∙ second_held in
-    let place = same_there (design_of c.args.left.now.design) c.in-Ok.pair.left (numbered_module (module_of c.module_in-then-branch-gt-MOST_GATES.result.now)) pair.left c.module_in-then-branch-gt-MOST_GATES.ensures pair.left_at in
+    let position = same_there (design_of c.args.left.now.design) c.in-Ok.pair.left (numbered_module (module_of c.module_in-then-branch-gt-MOST_GATES.result.now)) pair.left c.module_in-then-branch-gt-MOST_GATES.ensures pair.left_at in
     rw c.at_module-then-branch-gt-MOST_GATES.ensures
-    (subst (λ p. IsComparisonRefusal (design_of c.args.left.now.design) c.args.a.now (design_of c.args.right.now.design) c.args.b.now (at_module 0 p TooManyGates)) (sym (ap (λ (x : Module). x.location) place))
+    (subst (λ p. IsComparisonRefusal (design_of c.args.left.now.design) c.args.a.now (design_of c.args.right.now.design) c.args.b.now (at_module 0 p TooManyGates)) (sym (ap (λ (x : Module). x.location) position))
     (refused_price (design_of c.args.left.now.design) c.args.a.now (design_of c.args.right.now.design) c.args.b.now c.in-Ok.pair.left c.in-Ok.pair.right pair c.args.left.now.accepted left_printable c.args.right.now.accepted right_printable (design_of c.in_ok-first.first.design) c.in_ok-first.ensures (design_of c.in_ok-second.second.design) c.in_ok-second.ensures same c.in_ok-price_of.field-0 c.in_ok-price_of.ensures c.if-branch-gt-MOST_GATES.true))
 
 pub built-requires-clause-ready : goal.built-requires-clause-ready

@@ -4,11 +4,11 @@ use Rattle.ir_store.specs.Numbered.{position_of}
 use Rattle.op_verifier.specs.Entries.{op_in}
 use Rattle.op_verifier.proofs.body_view.positions.Given as goal
 
-abbrev pub invariant-loop-place : goal.invariant-loop-place
-invariant-loop-place l = record {
-  within : l.place ≤ length l.entries;
-  noted : (q : ℕ) → slice_index_or l.table.items q (length l.entries) ≡ l.place + position_of (drop l.place (ids_in (map op_in l.entries))) q;
+abbrev pub invariant-loop-position : goal.invariant-loop-position
+invariant-loop-position l = record {
+  within : l.position ≤ length l.entries;
+  noted : (q : ℕ) → slice_index_or l.table.items q (length l.entries) ≡ l.position + position_of (drop l.position (ids_in (map op_in l.entries))) q;
 }
 
-abbrev pub decreases-loop-place : goal.decreases-loop-place
-decreases-loop-place l = l.place
+abbrev pub decreases-loop-position : goal.decreases-loop-position
+decreases-loop-position l = l.position

@@ -4,7 +4,7 @@ use Rattle.op_verifier.specs.BodyViews.{ports_viewed, body_viewed}
 use Rattle.op_verifier.specs.Faults.{body_fault}
 use Rattle.op_verifier.proofs.faults.body_fault.Given as goal
 
-abbrev pub invariant-loop-place : goal.invariant-loop-place
-invariant-loop-place l =
+abbrev pub invariant-loop-position : goal.invariant-loop-position
+invariant-loop-position l =
     body_fault (design_of l.design) (ports_viewed l.view) (body_viewed l.view) (body_viewed l.view)
-    ≡ body_fault (design_of l.design) (ports_viewed l.view) (body_viewed l.view) (drop l.place (body_viewed l.view))
+    ≡ body_fault (design_of l.design) (ports_viewed l.view) (body_viewed l.view) (drop l.position (body_viewed l.view))

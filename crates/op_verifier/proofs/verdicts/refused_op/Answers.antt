@@ -4,7 +4,7 @@ use Rattle.ir_store.specs.BodyOps.{BodyOp, op_at}
 use Rattle.ir_store.specs.Bodies.{read_op}
 use Rattle.ir_store.specs.OperationViews.{location_of}
 use Rattle.ir_store.specs.Designs.{StoredModule, module_of}
-use Rattle.design_cycles.specs.Places.{ids_of_module}
+use Rattle.design_cycles.specs.Positions.{ids_of_module}
 use Rattle.hw_model.specs.Opcodes.{opcode_of}
 use Rattle.op_verifier.specs.Faults.{refused_at}
 use Rattle.op_verifier.proofs.WholeDesigns.{some_from}

@@ -1,8 +1,8 @@
 use Rattle.pass_laws.proofs.Shapes.{shape_set, shape_erase, shape_insert, shape_register}
 use Rattle.pass_laws.proofs.laws.edits_keep_shape.Goals as goal
 
-pub returns-clause-place : goal.returns-clause-place
-returns-clause-place c = shape_set
+pub returns-clause-position : goal.returns-clause-position
+returns-clause-position c = shape_set
 
 pub returns-clause-erased : goal.returns-clause-erased
 returns-clause-erased c = shape_erase

@@ -11,7 +11,7 @@ pub returns-in-Some : goal.returns-in-Some
 returns-in-Some c =
     subst (λ ps. OnOk c.push_operands.result (AddsPairs ps (lists_of c.args.joined.now.items) (lists_of c.push_operands.new.joined.items)))
     (sym (call_some (modules_of c.args.design.now) c.args.starts.now c.args.caller.now.number (map port_of c.args.caller.now.ports.now) (map ref_seen c.args.operands.now)
-    c.args.instance.now.symbol c.as_bytes.result.now c.find.result c.find.ensures.place c.as_bytes.ensures c.in-Some.number (module_of c.module.result.now) c.deref.result.now
+    c.args.instance.now.symbol c.as_bytes.result.now c.find.result c.find.ensures.position c.as_bytes.ensures c.in-Some.number (module_of c.module.result.now) c.deref.result.now
     c.in-Some.is c.module.ensures (ap (map port_of) (sym c.deref.ensures.value))))
     c.push_operands.ensures
 
@@ -19,5 +19,5 @@ pub returns-in-None : goal.returns-in-None
 returns-in-None c =
     subst (λ ps. AddsPairs ps (lists_of c.args.joined.now.items) (lists_of c.args.joined.now.items))
     (sym (call_none (modules_of c.args.design.now) c.args.starts.now c.args.caller.now.number (map port_of c.args.caller.now.ports.now) (map ref_seen c.args.operands.now)
-    c.args.instance.now.symbol c.as_bytes.result.now c.find.result c.find.ensures.place c.as_bytes.ensures c.in-None.is))
+    c.args.instance.now.symbol c.as_bytes.result.now c.find.result c.find.ensures.position c.as_bytes.ensures c.in-None.is))
     (adds_none (lists_of c.args.joined.now.items))

@@ -15,9 +15,9 @@ loop-depth-init c =
       known = c.requires.known;
       still = λ i there. there;
       path = subst (λ (w : Waiting). IsPath ports os c.args.heights.now (set c.args.path.now 0 w) 1) (sym c.start.ensures)
-          (path_start ports os c.args.heights.now c.args.path.now c.args.place some c.requires.within c.requires.above c.requires.unknown);
+          (path_start ports os c.args.heights.now c.args.path.now c.args.position some c.requires.within c.requires.above c.requires.unknown);
       room = omega arith;
-      first = λ lt. ap (λ (w : Waiting). (waiting_at (set c.args.path.now 0 w) 0).place) c.start.ensures ∙ start_first ports os c.args.path.now c.args.place some;
+      first = λ lt. ap (λ (w : Waiting). (waiting_at (set c.args.path.now 0 w) 0).position) c.start.ensures ∙ start_first ports os c.args.path.now c.args.position some;
       found = λ none. absurd (omega (arith, none));
     }
 
@@ -26,7 +26,7 @@ loop-depth-smaller-in-Height c =
     let d = c.loop-depth.depth - 1 in
     let e : c.loop-depth.depth ≡ suc d = omega (arith, c.loop-depth-test.true) in
     let last : d < c.loop-depth.depth = omega (arith, e) in
-    measure_up c.loop-depth.heights (waiting_at c.loop-depth.path d).place c.in-Height.height c.loop-depth.depth d e
+    measure_up c.loop-depth.heights (waiting_at c.loop-depth.path d).position c.in-Height.height c.loop-depth.depth d e
     (omega (arith, (c.loop-depth.invariant.path.waiting d last).within, c.requires.height_count, c.loop-depth.auto.heights)) (c.loop-depth.invariant.path.unknown d last)
 
 pub loop-depth-preserved-in-Height : goal.loop-depth-preserved-in-Height
@@ -37,17 +37,17 @@ loop-depth-preserved-in-Height c =
     let e : c.loop-depth.depth ≡ suc d = omega (arith, c.loop-depth-test.true) in
     let last : d < c.loop-depth.depth = omega (arith, e) in
     let hs = c.loop-depth.heights in
-    let place = (waiting_at c.loop-depth.path d).place in
-    let within : place < length hs = omega (arith, (c.loop-depth.invariant.path.waiting d last).within, c.requires.height_count, c.loop-depth.auto.heights) in
+    let position = (waiting_at c.loop-depth.path d).position in
+    let within : position < length hs = omega (arith, (c.loop-depth.invariant.path.waiting d last).within, c.requires.height_count, c.loop-depth.auto.heights) in
     record {
-      known = known_set ports os hs place (Some c.in-Height.height) c.loop-depth.invariant.known within c.in-Height.ensures;
-      still = λ i there. set_still hs place c.in-Height.height i (c.loop-depth.invariant.still i there);
+      known = known_set ports os hs position (Some c.in-Height.height) c.loop-depth.invariant.known within c.in-Height.ensures;
+      still = λ i there. set_still hs position c.in-Height.height i (c.loop-depth.invariant.still i there);
       path = path_up ports os c.requires.acyclic hs c.loop-depth.path c.loop-depth.depth d c.in-Height.height e c.loop-depth.invariant.path;
       room = omega (arith, c.loop-depth.invariant.room);
       first = λ lt. c.loop-depth.invariant.first (omega (arith, e));
       found = λ none.
-          let is : place ≡ c.args.place = ap (λ k. (waiting_at c.loop-depth.path k).place) none ∙ c.loop-depth.invariant.first (omega (arith, e)) in
-          subst (λ p. is_some (height_get (set hs place (Some c.in-Height.height)) p) ≡ true) is (set_found hs place c.in-Height.height within);
+          let is : position ≡ c.args.position = ap (λ k. (waiting_at c.loop-depth.path k).position) none ∙ c.loop-depth.invariant.first (omega (arith, e)) in
+          subst (λ p. is_some (height_get (set hs position (Some c.in-Height.height)) p) ≡ true) is (set_found hs position c.in-Height.height within);
     }
 
 pub bounds-path-depth-in-Down-2 : goal.bounds-path-depth-in-Down-2
@@ -85,7 +85,7 @@ loop-depth-preserved c =
           (path_down ports os hs path c.loop-depth.depth d c.in-Down.waiting c.in-Down.below e longer c.loop-depth.invariant.path c.in-Down.ensures);
       room = omega (arith, room);
       first = λ lt.
-          ap (λ (w : Waiting). (waiting_at (set (set path d c.in-Down.waiting) c.loop-depth.depth w) 0).place) c.start-in-Down.ensures
+          ap (λ (w : Waiting). (waiting_at (set (set path d c.in-Down.waiting) c.loop-depth.depth w) 0).position) c.start-in-Down.ensures
           ∙ path_first ports os hs path c.loop-depth.depth d c.in-Down.waiting c.in-Down.below e longer c.in-Down.ensures.same
           ∙ c.loop-depth.invariant.first c.loop-depth-test.true;
       found = λ none. absurd (omega (arith, none));

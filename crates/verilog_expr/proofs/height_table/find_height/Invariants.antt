@@ -10,8 +10,8 @@ invariant-loop-depth l = record {
   still : AreStill l.initial.heights l.heights;
   path : IsPath (scope_ports l.scope) (scope_ops l.scope) l.heights l.path l.depth;
   room : l.depth ≤ length (scope_ops l.scope) + 1;
-  first : 0 < l.depth → (waiting_at l.path 0).place ≡ l.place;
-  found : l.depth ≡ 0 → is_some (height_get l.heights l.place) ≡ true;
+  first : 0 < l.depth → (waiting_at l.path 0).position ≡ l.position;
+  found : l.depth ≡ 0 → is_some (height_get l.heights l.position) ≡ true;
 }
 
 abbrev pub decreases-loop-depth : goal.decreases-loop-depth

@@ -14,7 +14,7 @@ returns-in-Unknown c =
     let os = scope_ops c.args.scope.now in
     let ref = scope_ref c.args.scope.now in
     let x = get_or c.op_at.result.operands.now c.loop-passed.passed (Port 0) in
-    let same : operands_at os (result_of c.args.waiting.place 0) ≡ map ref c.op_at.result.operands.now = ap operands_of c.op_at.ensures in
+    let same : operands_at os (result_of c.args.waiting.position 0) ≡ map ref c.op_at.result.operands.now = ap operands_of c.op_at.ensures in
     let at : slice_get (map ref c.op_at.result.operands.now) c.loop-passed.passed ≡ Some (ref x) =
     mapped_at ref c.op_at.result.operands.now c.loop-passed.passed x c.loop-passed-test.true (sym (any_default c.op_at.result.operands.now c.loop-passed.passed (Port 0) c.loop-passed-test.true)) in
     record {
@@ -25,7 +25,7 @@ returns-in-Unknown c =
         most = subst (λ rs. max c.loop-passed.most (stands_most ports os (drop c.loop-passed.passed rs)) ≡ stands_most ports os rs) (sym same) c.loop-passed.invariant.most;
         low = c.loop-passed.invariant.low;
       };
-      needed = operand_needed ports os c.args.waiting.place c.loop-passed.passed (result_of c.in-Unknown.below 0) c.requires.waiting.above
+      needed = operand_needed ports os c.args.waiting.position c.loop-passed.passed (result_of c.in-Unknown.below 0) c.requires.waiting.above
           (ap (λ rs. slice_get rs c.loop-passed.passed) same ∙ at ∙ ap Some c.in-Unknown.ensures.0);
       unknown = c.in-Unknown.ensures.1;
     }

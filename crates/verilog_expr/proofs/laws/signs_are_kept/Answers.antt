@@ -1,14 +1,14 @@
 use Rattle.verilog_expr.specs.Signs.{keeps_signs}
 use Rattle.verilog_expr.proofs.Carried.{own_carried, depth_carried, body_carried}
-use Rattle.verilog_expr.proofs.Places.{places_asked}
+use Rattle.verilog_expr.proofs.Positions.{positions_asked}
 use Rattle.verilog_expr.proofs.Signed.{unsigned_at_signed, signed_kinds, signed_only, built_keeps, signs_carried}
 use Rattle.verilog_expr.proofs.laws.signs_are_kept.Goals as goal
 
 pub returns-clause-asked : goal.returns-clause-asked
-returns-clause-asked c = places_asked
+returns-clause-asked c = positions_asked
 
-pub returns-clause-places : goal.returns-clause-places
-returns-clause-places c = unsigned_at_signed
+pub returns-clause-positions : goal.returns-clause-positions
+returns-clause-positions c = unsigned_at_signed
 
 pub returns-clause-kinds : goal.returns-clause-kinds
 returns-clause-kinds c = signed_kinds

@@ -10,7 +10,7 @@ divisor_in-divisor-requires c =
     omega (
       arith,
       c.result_width-width.ensures,
-      width_result (scope_ports c.args.scope.now) (scope_ops c.args.scope.now) c.requires.place c.args.number (op_read c.args.scope.now c.args.op.now) c.requires.there c.args.scope.now.small,
+      width_result (scope_ports c.args.scope.now) (scope_ops c.args.scope.now) c.requires.position c.args.number (op_read c.args.scope.now c.args.op.now) c.requires.there c.args.scope.now.small,
     )
 
 pub template_for-requires : goal.template_for-requires
@@ -18,13 +18,13 @@ template_for-requires c =
     omega (
       arith,
       c.result_width-width.ensures,
-      width_result (scope_ports c.args.scope.now) (scope_ops c.args.scope.now) c.requires.place c.args.number (op_read c.args.scope.now c.args.op.now) c.requires.there c.args.scope.now.small,
+      width_result (scope_ports c.args.scope.now) (scope_ops c.args.scope.now) c.requires.position c.args.number (op_read c.args.scope.now c.args.op.now) c.requires.there c.args.scope.now.small,
     )
 
 pub returns : goal.returns
 returns c =
     let o = op_read c.args.scope.now c.args.op.now in
-    let small = width_result (scope_ports c.args.scope.now) (scope_ops c.args.scope.now) c.requires.place c.args.number o c.requires.there c.args.scope.now.small in
+    let small = width_result (scope_ports c.args.scope.now) (scope_ops c.args.scope.now) c.requires.position c.args.number o c.requires.there c.args.scope.now.small in
     let wide : c.result_width-width.result ≡ width_of (result_type o c.args.number) = omega (arith, c.result_width-width.ensures, small) in
     λ r found. node_is c.args.scope.now o c.args.number r found c.template_for.result c.args.op.now.operands.now
     c.result_width-width.result c.divisor_in-divisor.result c.head_width-head.result (length c.args.op.now.operands.now)

@@ -4,8 +4,8 @@ use Rattle.verilog_expr.specs.Spilling.{spilled}
 use Rattle.verilog_expr.specs.Scopes.{scope_ports, scope_ops}
 use Rattle.verilog_expr.proofs.wires.wires_of.Given as goal
 
-abbrev pub invariant-loop-place : goal.invariant-loop-place
-invariant-loop-place l = record {
-  count : length l.wires.items ≡ l.place;
-  wires : (i : ℕ) → i < l.place → get_or l.wires.items i false ≡ spilled (scope_ports l.scope) (scope_ops l.scope) (result_of i 0);
+abbrev pub invariant-loop-position : goal.invariant-loop-position
+invariant-loop-position l = record {
+  count : length l.wires.items ≡ l.position;
+  wires : (i : ℕ) → i < l.position → get_or l.wires.items i false ≡ spilled (scope_ports l.scope) (scope_ops l.scope) (result_of i 0);
 }

@@ -6,13 +6,13 @@ pub returns-then-is_none : goal.returns-then-is_none
 returns-then-is_none c = λ id settled.
     let marked = c.mark.ensures id settled in (
       marked.0,
-      apart_one c.args.body.now c.args.op c.requires (uses_left c.uses-uses.result) c.uses-uses.ensures.uses c.in-Some.place (uses_left c.next.new.self) id c.in-Some.ensures.steps
+      apart_one c.args.body.now c.args.op c.requires (uses_left c.uses-uses.result) c.uses-uses.ensures.uses c.in-Some.position (uses_left c.next.new.self) id c.in-Some.ensures.steps
           (none_left c.next-in-Some.result (uses_left c.next.new.self) (uses_left c.next-in-Some.new.self) c.is_none.result c.is_none.ensures c.if-is_none.true c.next-in-Some.ensures.steps) marked.1,
     )
 
 pub returns-else-is_none : goal.returns-else-is_none
 returns-else-is_none c = λ id settled. (
   settled,
-  apart_many c.args.body.now c.args.op c.requires (uses_left c.uses-uses.result) c.uses-uses.ensures.uses c.in-Some.place (uses_left c.next.new.self) id c.in-Some.ensures.steps
+  apart_many c.args.body.now c.args.op c.requires (uses_left c.uses-uses.result) c.uses-uses.ensures.uses c.in-Some.position (uses_left c.next.new.self) id c.in-Some.ensures.steps
       (some_left c.next-in-Some.result (uses_left c.next.new.self) (uses_left c.next-in-Some.new.self) c.is_none.result c.is_none.ensures c.if-is_none.false c.next-in-Some.ensures.steps),
 )

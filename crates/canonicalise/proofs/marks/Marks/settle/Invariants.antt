@@ -7,4 +7,4 @@ abbrev pub invariant-loop-self : goal.invariant-loop-self
 invariant-loop-self l = (id : ℕ) → IsSettled l.self id → IsSettled l.fn.self id
 
 abbrev pub decreases-loop-self : goal.decreases-loop-self
-decreases-loop-self l = l.place + 1 - length l.self.settled.items
+decreases-loop-self l = l.position + 1 - length l.self.settled.items

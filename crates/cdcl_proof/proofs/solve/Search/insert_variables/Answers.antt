@@ -16,9 +16,9 @@ loop-index-init c = record {
   chains = refl;
   watched = refl;
   waiting = λ v low high. elim (c.requires.waiting v low high) as (λ _. Waits c.args.self.now.order.heap.items v
-      ⊎ ((k : ℕ) × (k < length c.args.self.now.watched.entries) × ((k < c.args.place) ⊎ (c.args.place ≤ k)) × ((entry_at c.args.self.now.watched.entries k).literal.variable ≡ v))) [
+      ⊎ ((k : ℕ) × (k < length c.args.self.now.watched.entries) × ((k < c.args.position) ⊎ (c.args.position ≤ k)) × ((entry_at c.args.self.now.watched.entries k).literal.variable ≡ v))) [
         | inl w ↦ inl w
-        | inr m ↦ let r = entry_of_mentions c.args.self.now.watched.entries v m in inr (r.0, r.1, before_or_from r.0 c.args.place, r.2)
+        | inr m ↦ let r = entry_of_mentions c.args.self.now.watched.entries v m in inr (r.0, r.1, before_or_from r.0 c.args.position, r.2)
       ];
 }
 
@@ -33,16 +33,16 @@ loop-index-preserved c =
       chains = e.chains ∙ i.chains;
       watched = e.watched ∙ i.watched;
       waiting = λ v low high. elim (i.waiting v low (subst (λ (w : Watching). v ≤ w.variables) e.watched high)) as
-          (λ _. Waits c.insert_variable.new.self.order.heap.items v ⊎ ((k : ℕ) × (k < length c.insert_variable.new.self.watched.entries) × ((k < c.args.place) ⊎ (c.loop-index.index + 1 ≤ k))
+          (λ _. Waits c.insert_variable.new.self.order.heap.items v ⊎ ((k : ℕ) × (k < length c.insert_variable.new.self.watched.entries) × ((k < c.args.position) ⊎ (c.loop-index.index + 1 ≤ k))
           × ((entry_at c.insert_variable.new.self.watched.entries k).literal.variable ≡ v))) [
             | inl w ↦ inl (e.kept v w)
             | inr k ↦ elim (cases_eq k.0 c.loop-index.index) as (λ _. Waits c.insert_variable.new.self.order.heap.items v
-                ⊎ ((j : ℕ) × (j < length c.insert_variable.new.self.watched.entries) × ((j < c.args.place) ⊎ (c.loop-index.index + 1 ≤ j))
+                ⊎ ((j : ℕ) × (j < length c.insert_variable.new.self.watched.entries) × ((j < c.args.position) ⊎ (c.loop-index.index + 1 ≤ j))
                 × ((entry_at c.insert_variable.new.self.watched.entries j).literal.variable ≡ v))) [
                   | inl here ↦ inl (subst (λ (x : ℕ). Waits c.insert_variable.new.self.order.heap.items x)
                       (ap (λ (x : Entry). x.literal.variable) entry ∙ ap (λ (n : ℕ). (entry_at c.loop-index.self.watched.entries n).literal.variable) (sym here) ∙ k.3) e.waits)
-                  | inr other ↦ inr (subst (λ (w : Watching). (j : ℕ) × (j < length w.entries) × ((j < c.args.place) ⊎ (c.loop-index.index + 1 ≤ j)) × ((entry_at w.entries j).literal.variable ≡ v))
-                      (sym e.watched) (k.0, k.1, elim k.2 as (λ _. (k.0 < c.args.place) ⊎ (c.loop-index.index + 1 ≤ k.0)) [ inl a ↦ inl a | inr b ↦ inr (omega (arith, b, other)) ], k.3))
+                  | inr other ↦ inr (subst (λ (w : Watching). (j : ℕ) × (j < length w.entries) × ((j < c.args.position) ⊎ (c.loop-index.index + 1 ≤ j)) × ((entry_at w.entries j).literal.variable ≡ v))
+                      (sym e.watched) (k.0, k.1, elim k.2 as (λ _. (k.0 < c.args.position) ⊎ (c.loop-index.index + 1 ≤ k.0)) [ inl a ↦ inl a | inr b ↦ inr (omega (arith, b, other)) ], k.3))
                 ]
           ];
     }
@@ -53,8 +53,8 @@ returns-clause-waiting c v low high =
     let end = ap (λ (w : Watching). length w.entries) i.watched in
     let len = c.len-index-end.ensures.len in
     let all = ap (λ (p : Path). length p.entries) c.trail.ensures in
-    elim (i.waiting v low high) as (λ _. Waits c.loop-index.self.order.heap.items v ⊎ (mentions (literals (take c.args.place c.loop-index.self.watched.entries)) v ≡ true)) [
+    elim (i.waiting v low high) as (λ _. Waits c.loop-index.self.order.heap.items v ⊎ (mentions (literals (take c.args.position c.loop-index.self.watched.entries)) v ≡ true)) [
       | inl w ↦ inl w
-      | inr k ↦ inr (mentions_before c.loop-index.self.watched.entries c.args.place k.0 v (elim k.2 as
-          (λ _. k.0 < c.args.place) [ inl a ↦ a | inr b ↦ let l = k.1 in absurd (omega (arith, b, l, end, len, all, c.loop-index-test.false)) ]) k.1 k.3)
+      | inr k ↦ inr (mentions_before c.loop-index.self.watched.entries c.args.position k.0 v (elim k.2 as
+          (λ _. k.0 < c.args.position) [ inl a ↦ a | inr b ↦ let l = k.1 in absurd (omega (arith, b, l, end, len, all, c.loop-index-test.false)) ]) k.1 k.3)
     ]

@@ -10,5 +10,5 @@ invariant-loop-index l = record {
   formula : l.self.cnf.now ≡ l.fn.self.cnf.now;
   chains : l.self.chains ≡ l.fn.self.chains;
   watched : l.self.watched ≡ l.fn.self.watched;
-  waiting : (v : ℕ) → 1 ≤ v → v ≤ l.self.watched.variables → Waits l.self.order.heap.items v ⊎ ((k : ℕ) × (k < length l.self.watched.entries) × ((k < l.place) ⊎ (l.index ≤ k)) × ((entry_at l.self.watched.entries k).literal.variable ≡ v));
+  waiting : (v : ℕ) → 1 ≤ v → v ≤ l.self.watched.variables → Waits l.self.order.heap.items v ⊎ ((k : ℕ) × (k < length l.self.watched.entries) × ((k < l.position) ⊎ (l.index ≤ k)) × ((entry_at l.self.watched.entries k).literal.variable ≡ v));
 }

@@ -12,7 +12,7 @@ use Rattle.cdcl_proof.proofs.table.Table.move_watch.Goals as goal
 
 pub shift-requires-clause-to : goal.shift-requires-clause-to
 shift-requires-clause-to c =
-    let r = reads c.args.self.now c.args.slot c.args.place c.args.k c.at-clause.result c.index.result.now c.as_slice-stored_clause.result.now c.index-2.result.now c.index-stored_clause-k.result c.requires.slot c.at-clause.ensures c.index.ensures c.as_slice-stored_clause.ensures c.index-2.ensures c.requires.inside c.index-stored_clause-k.is in
+    let r = reads c.args.self.now c.args.slot c.args.position c.args.k c.at-clause.result c.index.result.now c.as_slice-stored_clause.result.now c.index-2.result.now c.index-stored_clause-k.result c.requires.slot c.at-clause.ensures c.index.ensures c.as_slice-stored_clause.ensures c.index-2.ensures c.requires.inside c.index-stored_clause-k.is in
     let low : c.args.k < length (stored_clause_at c.args.self.now.stored_clauses.items c.at-clause.result.clause) = let e = ap length r.is_stored in omega (arith, e, r.inside) in
     let at = slot_in c.args.self.now c.requires.table c.at-clause.result.clause c.args.k low in
     let one : slot_of (literal_at (stored_clause_at c.args.self.now.stored_clauses.items c.at-clause.result.clause) c.args.k)
@@ -21,7 +21,7 @@ shift-requires-clause-to c =
 
 pub shift-requires-clause-other : goal.shift-requires-clause-other
 shift-requires-clause-other c e =
-    let r = reads c.args.self.now c.args.slot c.args.place c.args.k c.at-clause.result c.index.result.now c.as_slice-stored_clause.result.now c.index-2.result.now c.index-stored_clause-k.result c.requires.slot c.at-clause.ensures c.index.ensures c.as_slice-stored_clause.ensures c.index-2.ensures c.requires.inside c.index-stored_clause-k.is in
+    let r = reads c.args.self.now c.args.slot c.args.position c.args.k c.at-clause.result c.index.result.now c.as_slice-stored_clause.result.now c.index-2.result.now c.index-stored_clause-k.result c.requires.slot c.at-clause.ensures c.index.ensures c.as_slice-stored_clause.ensures c.index-2.ensures c.requires.inside c.index-stored_clause-k.is in
     let stored_clauses = c.args.self.now.stored_clauses.items in
     let i = c.at-clause.result.clause in
     let low : c.args.k < length (stored_clause_at c.args.self.now.stored_clauses.items c.at-clause.result.clause) = let q = ap length r.is_stored in omega (arith, q, r.inside) in
@@ -49,10 +49,10 @@ returns-in_err-shift-clause-table c =
 
 pub returns-clause-table : goal.returns-clause-table
 returns-clause-table c =
-    let r = reads c.args.self.now c.args.slot c.args.place c.args.k c.at-clause.result c.index.result.now c.as_slice-stored_clause.result.now c.index-2.result.now c.index-stored_clause-k.result c.requires.slot c.at-clause.ensures c.index.ensures c.as_slice-stored_clause.ensures c.index-2.ensures c.requires.inside c.index-stored_clause-k.is in
+    let r = reads c.args.self.now c.args.slot c.args.position c.args.k c.at-clause.result c.index.result.now c.as_slice-stored_clause.result.now c.index-2.result.now c.index-stored_clause-k.result c.requires.slot c.at-clause.ensures c.index.ensures c.as_slice-stored_clause.ensures c.index-2.ensures c.requires.inside c.index-stored_clause-k.is in
     let t = c.requires.table in
     let same_lists : c.shift.new.lists.items ≡ moved_lists c.args.self.now.lists.items c.slot-target.result
-    (record { clause = c.at-clause.result.clause; blocker = c.index-stored_clause-first.result; is_binary = false }) c.args.slot c.args.place = c.in_ok-shift.ensures.ok in
+    (record { clause = c.at-clause.result.clause; blocker = c.index-stored_clause-first.result; is_binary = false }) c.args.slot c.args.position = c.in_ok-shift.ensures.ok in
     let stored_clause_is : c.index_mut-stored_clause.result.now ≡ c.as_slice-stored_clause.result.now = get_or_read c.args.self.now.stored_clauses.items c.at-clause.result.clause c.index_mut-stored_clause.result.now r.clause_in c.index_mut-stored_clause.ensures.value [] ∙ r.is_stored in
     let swapped : c.swap.new.self ≡ swap c.as_slice-stored_clause.result.now c.args.first c.args.k = c.swap.ensures ∙ ap (λ (x : List Literal). swap x c.args.first c.args.k) stored_clause_is in
     let same_stored_clauses : set c.args.self.now.stored_clauses.items c.at-clause.result.clause c.swap.new.self
@@ -74,12 +74,12 @@ returns-clause-table c =
     ≡ true = subst (λ (l : Literal). holds c.as_slice-stored_clause.result.now l ≡ true)
     (sym (get_or_read c.as_slice-stored_clause.result.now (1 - c.args.first) c.index-stored_clause-first.result other_in c.index-stored_clause-first.is no_literal))
     (holds_at c.as_slice-stored_clause.result.now (1 - c.args.first) other_in) in
-    let k = table_moved c.args.self.now.stored_clauses.items c.args.self.now.lists.items t.watched t.blockers c.args.slot c.args.place c.args.first c.args.k c.requires.slot c.requires.place c.requires.first c.requires.later c.as_slice-stored_clause.result.now c.at-clause.result (record { clause = c.at-clause.result.clause; blocker = c.index-stored_clause-first.result; is_binary = false }) r.is_w r.is_stored r.inside from c.slot-target.result target (let n = at in omega (arith, n, same_slot)) apart refl blocks c.args.self.now.clauses.items c.args.self.now.short.items t.stored_clauses t.short in
+    let k = table_moved c.args.self.now.stored_clauses.items c.args.self.now.lists.items t.watched t.blockers c.args.slot c.args.position c.args.first c.args.k c.requires.slot c.requires.position c.requires.first c.requires.later c.as_slice-stored_clause.result.now c.at-clause.result (record { clause = c.at-clause.result.clause; blocker = c.index-stored_clause-first.result; is_binary = false }) r.is_w r.is_stored r.inside from c.slot-target.result target (let n = at in omega (arith, n, same_slot)) apart refl blocks c.args.self.now.clauses.items c.args.self.now.short.items t.stored_clauses t.short in
     let to = c.slot-target.result in
     let source = c.args.slot in
     let added : Watch = record { clause = c.at-clause.result.clause; blocker = c.index-stored_clause-first.result; is_binary = false } in
     let n1 = length-set c.args.self.now.lists.items to (list_at c.args.self.now.lists.items to ++ added ∷ []) in
-    let n2 = length-set (set c.args.self.now.lists.items to (list_at c.args.self.now.lists.items to ++ added ∷ [])) source (swap_remove (list_at c.args.self.now.lists.items source) c.args.place no_watch) in
+    let n2 = length-set (set c.args.self.now.lists.items to (list_at c.args.self.now.lists.items to ++ added ∷ [])) source (swap_remove (list_at c.args.self.now.lists.items source) c.args.position no_watch) in
     let all : length c.shift.new.lists.items ≡ length c.args.self.now.lists.items = ap length same_lists ∙ n2 ∙ n1 in
     record {
       small = t.small;

@@ -6,19 +6,19 @@ use Rattle.cdcl_proof.specs.Trail.{IsTied}
 use Rattle.cdcl_proof.proofs.Entries.{tied_push, AreApart_from, length_below}
 use Rattle.cdcl_proof.proofs.trail.Trail.add.Goals as goal
 
-kept : (c : goal.After-self-1) → IsTied (set c.self.inside.marks.items (c.args.entry.literal.variable - 1) (Some (record { positive = c.args.entry.literal.positive; place = c.len-place.result }))) c.push_reserved.new.self.items
+kept : (c : goal.After-self-1) → IsTied (set c.self.inside.marks.items (c.args.entry.literal.variable - 1) (Some (record { positive = c.args.entry.literal.positive; position = c.len-position.result }))) c.push_reserved.new.self.items
 kept c =
     let among = rw (← c.self.view_is) at c.requires.among in
     let free = rw (← c.self.view_is) at c.requires.free in
     let at = tied_push c.self.inside.marks.items c.self.inside.entries.items c.args.entry c.self.invariant.0 among (not-true _ free) in
-    let place : c.len-place.result ≡ length c.self.inside.entries.items = search rules in
-    rw (place, c.push_reserved.ensures.items) at
+    let position : c.len-position.result ≡ length c.self.inside.entries.items = search rules in
+    rw (position, c.push_reserved.ensures.items) at
 
 pub push_reserved-requires : goal.push_reserved-requires
 push_reserved-requires c =
     let among = rw (← c.self.view_is) at c.requires.among in
     let free = rw (← c.self.view_is) at c.requires.free in
-    let mark : Mark = record { positive = c.args.entry.literal.positive; place = length c.self.inside.entries.items } in
+    let mark : Mark = record { positive = c.args.entry.literal.positive; position = length c.self.inside.entries.items } in
     let tied = tied_push c.self.inside.marks.items c.self.inside.entries.items c.args.entry c.self.invariant.0 among (not-true _ free) in
     let bound = length_below _ _ (AreApart_from _ _ tied) in
     let long = length_push c.self.inside.entries.items c.args.entry in
@@ -28,7 +28,7 @@ push_reserved-requires c =
 
 pub invariant_of-self : goal.invariant_of-self
 invariant_of-self c =
-    let len = length-set c.self.inside.marks.items (c.args.entry.literal.variable - 1) (Some (record { positive = c.args.entry.literal.positive; place = c.len-place.result })) in
+    let len = length-set c.self.inside.marks.items (c.args.entry.literal.variable - 1) (Some (record { positive = c.args.entry.literal.positive; position = c.len-position.result })) in
     let room = c.push_reserved.ensures.capacity in
     (kept c, omega (arith, len, room, c.self.invariant.1))
 

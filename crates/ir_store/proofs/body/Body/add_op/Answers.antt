@@ -1,7 +1,7 @@
 use Rattle.std.proofs.Common.{◌≡◌, ◌≤◌, map, length, arith, refl, ap}
 use Rattle.std.proofs.lemmas.List.{length-map}
 use Rattle.linked_lists.specs.Ids.{put_at}
-use Rattle.ir_store.specs.BodyOps.{place_before}
+use Rattle.ir_store.specs.BodyOps.{position_before}
 use Rattle.ir_store.specs.OperationViews.{parts_of, new_parts}
 use Rattle.ir_store.specs.Orders.{live_ids}
 use Rattle.linked_lists.proofs.IdLemmas.{map-put_at, not_contained, insert_there, length-put_at}
@@ -20,7 +20,7 @@ returns-clause-ok c =
     rw (items, map-put_at parts_of c.add-id.result c.into_parts.result c.args.self.now.parts.items, c.into_parts.ensures) in
     let lists = rw (c.reserve-3.ensures.lists, c.as_slice.ensures) at c.put.ensures.lists in
     op_put (map parts_of c.args.self.now.parts.items) (map parts_of c.put_parts.new.parts.items) c.args.self.now.operands.lists c.put.new.self.lists
-    c.args.before (new_parts c.args.op) c.args.op.operands.items (live_ids c.args.self.now.order) (live_ids c.add-id.new.self) c.add-id.result (place_before c.args.before (live_ids c.args.self.now.order))
+    c.args.before (new_parts c.args.op) c.args.op.operands.items (live_ids c.args.self.now.order) (live_ids c.add-id.new.self) c.add-id.result (position_before c.args.before (live_ids c.args.self.now.order))
     (omega (arith, within, length-map c.args.self.now.parts.items parts_of, c.args.self.now.parts_fit)) (omega (arith, within, c.args.self.now.lists_fit))
     fresh parts lists ids refl
 
@@ -29,7 +29,7 @@ returns-clause-there c =
     let live = c.reserve.ensures.ids in
     let ids = rw live at c.add-id.ensures.ids in
     rw (ids_seen (map parts_of c.put_parts.new.parts.items) c.put.new.self.lists (live_ids c.add-id.new.self), ids)
-    (insert_there (live_ids c.args.self.now.order) (place_before c.args.before (live_ids c.args.self.now.order)) c.add-id.result)
+    (insert_there (live_ids c.args.self.now.order) (position_before c.args.before (live_ids c.args.self.now.order)) c.add-id.result)
 
 pub returns-clause-fresh : goal.returns-clause-fresh
 returns-clause-fresh c =

@@ -8,11 +8,11 @@ use Rattle.ir_store.proofs.body.Body.drop_operand.Goals as goal
 pub index_of-index-requires : goal.index_of-index-requires
 index_of-index-requires c = rw (ids_seen (map parts_of c.args.self.now.parts.items) c.args.self.now.operands.lists (live_ids c.args.self.now.order)) at c.requires.live
 
-pub remove-requires-clause-place : goal.remove-requires-clause-place
-remove-requires-clause-place c =
-    let place = rw (op_found (map parts_of c.args.self.now.parts.items) c.args.self.now.operands.lists (live_ids c.args.self.now.order) c.args.op.index
-    (rw (ids_seen (map parts_of c.args.self.now.parts.items) c.args.self.now.operands.lists (live_ids c.args.self.now.order)) at c.requires.live)) at c.requires.place in
-    rw c.index_of-index.ensures.value (omega (arith, place))
+pub remove-requires-clause-position : goal.remove-requires-clause-position
+remove-requires-clause-position c =
+    let position = rw (op_found (map parts_of c.args.self.now.parts.items) c.args.self.now.operands.lists (live_ids c.args.self.now.order) c.args.op.index
+    (rw (ids_seen (map parts_of c.args.self.now.parts.items) c.args.self.now.operands.lists (live_ids c.args.self.now.order)) at c.requires.live)) at c.requires.position in
+    rw c.index_of-index.ensures.value (omega (arith, position))
 
 pub returns-clause-ops : goal.returns-clause-ops
 returns-clause-ops c =

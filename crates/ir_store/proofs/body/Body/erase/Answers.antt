@@ -2,7 +2,7 @@ use Rattle.std.proofs.Common.{◌≡◌, ◌≤◌, ◌-◌, [], map, length, se
 use Rattle.std.specs.Prelude.{Some}
 use Rattle.std.proofs.lemmas.List.{map-set, length-set}
 use Rattle.linked_lists.specs.Ids.{times}
-use Rattle.ir_store.specs.BodyOps.{place_before}
+use Rattle.ir_store.specs.BodyOps.{position_before}
 use Rattle.linked_lists.specs.Links.{walk}
 use Rattle.ir_store.specs.OperationViews.{parts_of}
 use Rattle.ir_store.specs.Orders.{live_ids}
@@ -30,7 +30,7 @@ returns-clause-ops c =
     rw c.index_of-index.ensures.value (map-set parts_of c.args.self.now.parts.items c.args.op.index c.empty.result) in
     let lists = rw c.index_of-index.ensures.value at c.clear.ensures.lists in
     op_gone (map parts_of c.args.self.now.parts.items) (map parts_of (set c.args.self.now.parts.items c.index_of-index.result c.empty.result)) c.args.self.now.operands.lists c.clear.new.self.lists
-    c.args.op (parts_of c.empty.result) [] (live_ids c.args.self.now.order) (live_ids c.remove.new.self) (place_before (Some c.args.op) (live_ids c.args.self.now.order)) here once parts lists c.remove.ensures.ids refl
+    c.args.op (parts_of c.empty.result) [] (live_ids c.args.self.now.order) (live_ids c.remove.new.self) (position_before (Some c.args.op) (live_ids c.args.self.now.order)) here once parts lists c.remove.ensures.ids refl
 
 pub returns-clause-spare : goal.returns-clause-spare
 returns-clause-spare c =

@@ -8,11 +8,11 @@ use Rattle.ir_store.proofs.body.Body.insert_operand.Goals as goal
 pub index_of-index-requires : goal.index_of-index-requires
 index_of-index-requires c = rw (ids_seen (map parts_of c.args.self.now.parts.items) c.args.self.now.operands.lists (live_ids c.args.self.now.order)) at c.requires.live
 
-pub insert-requires-clause-place : goal.insert-requires-clause-place
-insert-requires-clause-place c =
+pub insert-requires-clause-position : goal.insert-requires-clause-position
+insert-requires-clause-position c =
     rw (c.reserve_insert.ensures.lists, c.index_of-index.ensures.value)
     (rw (op_found (map parts_of c.args.self.now.parts.items) c.args.self.now.operands.lists (live_ids c.args.self.now.order) c.args.op.index
-    (rw (ids_seen (map parts_of c.args.self.now.parts.items) c.args.self.now.operands.lists (live_ids c.args.self.now.order)) at c.requires.live)) at c.requires.place)
+    (rw (ids_seen (map parts_of c.args.self.now.parts.items) c.args.self.now.operands.lists (live_ids c.args.self.now.order)) at c.requires.live)) at c.requires.position)
 
 pub returns-clause-ok : goal.returns-clause-ok
 returns-clause-ok c =

@@ -8,11 +8,11 @@ use Rattle.ir_store.proofs.body.Body.set_operand.Goals as goal
 pub index_of-index-requires : goal.index_of-index-requires
 index_of-index-requires c = rw (ids_seen (map parts_of c.args.self.now.parts.items) c.args.self.now.operands.lists (live_ids c.args.self.now.order)) at c.requires.live
 
-pub set-requires-clause-place : goal.set-requires-clause-place
-set-requires-clause-place c =
+pub set-requires-clause-position : goal.set-requires-clause-position
+set-requires-clause-position c =
     rw c.index_of-index.ensures.value
     (rw (op_found (map parts_of c.args.self.now.parts.items) c.args.self.now.operands.lists (live_ids c.args.self.now.order) c.args.op.index
-    (rw (ids_seen (map parts_of c.args.self.now.parts.items) c.args.self.now.operands.lists (live_ids c.args.self.now.order)) at c.requires.live)) at c.requires.place)
+    (rw (ids_seen (map parts_of c.args.self.now.parts.items) c.args.self.now.operands.lists (live_ids c.args.self.now.order)) at c.requires.live)) at c.requires.position)
 
 pub returns-clause-ops : goal.returns-clause-ops
 returns-clause-ops c =

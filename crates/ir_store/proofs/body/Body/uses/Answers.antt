@@ -1,12 +1,12 @@
 use Rattle.std.proofs.Common.{◌≡◌, ◌≤◌, ◌<◌, ℕ, zero, suc, Bool, true, false, List, [], ◌∷◌, map, length, ◌-◌, refl, ap, sym, ◌∙◌, arith}
 use Rattle.std.specs.Prelude.{Option}
 use Rattle.ir_store.specs.declared.operation.UseId.{UseId}
-use Rattle.ir_store.specs.declared.operation.UsePlace.{UsePlace}
+use Rattle.ir_store.specs.declared.operation.UsePosition.{UsePosition}
 use Rattle.linked_lists.specs.Ids.{times}
 use Rattle.ir_store.specs.ChainedValues.{cells_of}
 use Rattle.ir_store.specs.UseChains.{use_id}
 use Rattle.ir_store.specs.Uses.{use_some, use_of, live_cells}
-use Rattle.ir_store.proofs.UseCells.{places_are}
+use Rattle.ir_store.proofs.UseCells.{positions_are}
 use Rattle.linked_lists.specs.Links.{none, walk, is_live_at}
 use Rattle.linked_lists.specs.Chains.{once_if}
 use Rattle.ir_store.specs.OperationViews.{parts_of}
@@ -36,9 +36,9 @@ returns-clause-uses c =
     ∙ sym (uses_count c.args.value p (map parts_of c.args.self.now.parts.items) c.args.self.now.operands.lists (live_ids order) most (is_live_at order.links.items p.op.index) marked)
 
 -- a use is told by its cell
-by_cells : (f : ℕ → Option UsePlace) (cells : List ℕ) → map f cells ≡ map (λ (u : UseId). f u.cell) (map use_id cells)
+by_cells : (f : ℕ → Option UsePosition) (cells : List ℕ) → map f cells ≡ map (λ (u : UseId). f u.cell) (map use_id cells)
 by_cells f [] = refl
-by_cells f (c ∷ cells) = ap (λ places. f c ∷ places) (by_cells f cells)
+by_cells f (c ∷ cells) = ap (λ positions. f c ∷ positions) (by_cells f cells)
 
 pub returns-clause-chain : goal.returns-clause-chain
 returns-clause-chain c =
@@ -46,4 +46,4 @@ returns-clause-chain c =
     let owners = c.args.self.now.operands.owners in
     let blocks = c.args.self.now.operands.blocks in
     let cells = cells_of c.args.value c.args.self.now.operands.cells in
-    ap (map use_some) (rw c.links.ensures at c.among.ensures.cells) ∙ (places_are links owners blocks cells ∙ by_cells (use_of links owners blocks) (live_cells links owners blocks cells))
+    ap (map use_some) (rw c.links.ensures at c.among.ensures.cells) ∙ (positions_are links owners blocks cells ∙ by_cells (use_of links owners blocks) (live_cells links owners blocks cells))

@@ -11,4 +11,4 @@ pub returns-clause-owners : goal.returns-clause-owners
 returns-clause-owners c =
     rw (c.push_all-2.ensures.owners, c.push.ensures.owners, c.push_all.ensures.owners)
     (three_parts c.args.self.now.owners.items (length (take c.args.at c.args.list.now)) (length (take (length c.args.list.now - c.args.at) (drop c.args.at c.args.list.now))) (length c.args.list.now + 1) c.args.owner
-    (omega (arith, length-take c.args.at c.args.list.now, length-take (length c.args.list.now - c.args.at) (drop c.args.at c.args.list.now), length-drop c.args.at c.args.list.now, c.requires.place)))
+    (omega (arith, length-take c.args.at c.args.list.now, length-take (length c.args.list.now - c.args.at) (drop c.args.at c.args.list.now), length-drop c.args.at c.args.list.now, c.requires.position)))

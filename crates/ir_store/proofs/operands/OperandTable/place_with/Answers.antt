@@ -20,7 +20,7 @@ invariant_of-self c =
     ) in
     let kept : List Value = take (c.args.start + c.args.count - c.args.start) (drop c.args.start c.self.inside.spare.items) in
     let size : length kept ≡ c.args.count = omega (arith, length-take (c.args.start + c.args.count - c.args.start) (drop c.args.start c.self.inside.spare.items), length-drop c.args.start c.self.inside.spare.items, within) in
-    let longer : length (insert kept c.args.at c.args.value) ≡ length kept + 1 = length-insert kept c.args.at c.args.value (omega (arith, size, c.requires.place)) in
+    let longer : length (insert kept c.args.at c.args.value) ≡ length kept + 1 = length-insert kept c.args.at c.args.value (omega (arith, size, c.requires.position)) in
     let more = length-append c.self.inside.cells.values.items (insert kept c.args.at c.args.value) in
     let values = rw c.deref.ensures.value at c.push_with.ensures.values in
     let owners = rw c.deref.ensures.value at c.push_with.ensures.owners in

@@ -7,7 +7,7 @@ use Rattle.ir_store.proofs.operands.OperandTable.remove.Goals as goal
 pub overflow_sub-self : goal.overflow_sub-self
 overflow_sub-self c =
     let h = in_blocks c.self.inside.cells.values.items c.self.inside.blocks.items c.args.self.now.lists c.args.i (ap (λ (t : OperandLists). t.lists) c.self.view_is) c.requires.list in
-    let place = rw (← c.self.view_is) at c.requires.place in
+    let place = rw (← c.self.view_is) at c.requires.position in
     omega (arith, block_le c.self.inside.blocks.items c.args.i, length_at c.self.inside.cells.values.items c.self.inside.cells.owners.items c.self.inside.blocks.items c.self.inside.live c.self.invariant.0 c.args.i, place, c.self.invariant.0.count)
 
 pub invariant_of-self : goal.invariant_of-self
@@ -15,7 +15,7 @@ invariant_of-self c =
     let h = in_blocks c.self.inside.cells.values.items c.self.inside.blocks.items c.args.self.now.lists c.args.i (ap (λ (t : OperandLists). t.lists) c.self.view_is) c.requires.list in
     let b = block_is c.self.inside.blocks.items c.args.i c.index-block.result.now h c.index-block.ensures in
     let w = block_is c.self.inside.blocks.items c.args.i c.index_mut.result.now h c.index_mut.ensures.value in
-    let place = rw (← c.self.view_is) at c.requires.place in
+    let place = rw (← c.self.view_is) at c.requires.position in
     let long = length_at c.self.inside.cells.values.items c.self.inside.cells.owners.items c.self.inside.blocks.items c.self.inside.live c.self.invariant.0 c.args.i in
     let nb : Block = record { start = c.index_mut.result.now.start; len = c.index-block.result.now.len - 1 } in
     rw c.close_gap.ensures.owners (
@@ -30,7 +30,7 @@ returns-clause-lists c =
     let h = in_blocks c.self.inside.cells.values.items c.self.inside.blocks.items c.args.self.now.lists c.args.i (ap (λ (t : OperandLists). t.lists) c.self.view_is) c.requires.list in
     let b = block_is c.self.inside.blocks.items c.args.i c.index-block.result.now h c.index-block.ensures in
     let w = block_is c.self.inside.blocks.items c.args.i c.index_mut.result.now h c.index_mut.ensures.value in
-    let place = rw (← c.self.view_is) at c.requires.place in
+    let place = rw (← c.self.view_is) at c.requires.position in
     let start = ap (λ (d : Block). d.start) b in
     let len = ap (λ (d : Block). d.len) b in
     let long = length_at c.self.inside.cells.values.items c.self.inside.cells.owners.items c.self.inside.blocks.items c.self.inside.live c.self.invariant.0 c.args.i in
@@ -41,7 +41,7 @@ returns-clause-lists c =
 pub returns-clause-room : goal.returns-clause-room
 returns-clause-room c =
     let h = in_blocks c.self.inside.cells.values.items c.self.inside.blocks.items c.args.self.now.lists c.args.i (ap (λ (t : OperandLists). t.lists) c.self.view_is) c.requires.list in
-    let place = rw (← c.self.view_is) at c.requires.place in
+    let place = rw (← c.self.view_is) at c.requires.position in
     let room : cell_room c.close_gap.new.self ≡ cell_room c.self.inside.cells = rw (c.close_gap.ensures.room, c.close_gap.ensures.owners) refl in
     rw (← c.self.view_is)
     (omega (arith, room, c.close_gap.ensures.count, length_at c.self.inside.cells.values.items c.self.inside.cells.owners.items c.self.inside.blocks.items c.self.inside.live c.self.invariant.0 c.args.i, place, c.self.invariant.0.fits, c.self.invariant.0.count, block_le c.self.inside.blocks.items c.args.i, c.self.invariant.1.0))

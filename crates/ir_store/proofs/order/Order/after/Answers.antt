@@ -1,7 +1,7 @@
 use Rattle.std.proofs.Common.{◌∙◌, suc, drop}
 use Rattle.ir_store.specs.Numbered.{position_of}
 use Rattle.ir_store.specs.Orders.{live_ids}
-use Rattle.ir_store.proofs.PlacesBefore.{after_live, none_after, some_after}
+use Rattle.ir_store.proofs.PositionsBefore.{after_live, none_after, some_after}
 use Rattle.ir_store.proofs.order.Order.after.Goals as goal
 
 pub returns-then-next : goal.returns-then-next

@@ -10,7 +10,7 @@ use Rattle.ir_store.proofs.order.Order.remove.Goals as goal
 pub link_out-requires : goal.link_out-requires
 link_out-requires c =
     record {
-      place = live_below (live_ids c.args.self.now) (walk c.args.self.now.links.items (length c.args.self.now.links.items - c.args.self.now.live) c.args.self.now.free) (length c.args.self.now.links.items)
+      position = live_below (live_ids c.args.self.now) (walk c.args.self.now.links.items (length c.args.self.now.links.items - c.args.self.now.live) c.args.self.now.free) (length c.args.self.now.links.items)
           c.args.id.index c.args.self.now.below c.requires;
     }
 

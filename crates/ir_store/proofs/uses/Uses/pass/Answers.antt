@@ -3,7 +3,7 @@ use Rattle.std.specs.Prelude.{Option, Some, None, Contains}
 use Rattle.linked_lists.specs.Ids.{times}
 use Rattle.linked_lists.specs.Chains.{times_at}
 use Rattle.ir_store.specs.ChainedValues.{cells_of, has_value, rest_at}
-use Rattle.ir_store.specs.Uses.{with_use, places_of}
+use Rattle.ir_store.specs.Uses.{with_use, positions_of}
 use Rattle.linked_lists.proofs.Chaining.{once_at_most}
 use Rattle.linked_lists.proofs.IdLemmas.{times_contained, contained_times}
 use Rattle.ir_store.proofs.Seeking.{step}
@@ -36,10 +36,10 @@ returns-clause-left c =
     (arith, c.next-self.ensures.each d, once_at_most (has_value c.args.self.now.value c.args.self.now.operands.now.cells.items d)) in
     let s = step c.args.cell c.next-self.result (cells_of c.args.self.now.value c.args.self.now.operands.now.cells)
     (here (cells_of c.args.self.now.value c.args.self.now.operands.now.cells) c.args.self.now.at c.args.cell c.args.self.now.here c.requires) most (λ xs ys e. c.next-self.ensures.next xs ys e) in
-    ap (λ o. places_of c.args.self.now.links.now c.args.self.now.operands.now.owners c.args.self.now.operands.now.blocks (rest_at o (cells_of c.args.self.now.value c.args.self.now.operands.now.cells))) c.requires
-    ∙ (ap (places_of c.args.self.now.links.now c.args.self.now.operands.now.owners c.args.self.now.operands.now.blocks) s.whole
-    ∙ ap (λ o. with_use o (places_of c.args.self.now.links.now c.args.self.now.operands.now.owners c.args.self.now.operands.now.blocks
-    (rest_at c.next-self.result (cells_of c.args.self.now.value c.args.self.now.operands.now.cells)))) (sym c.use_of-place.ensures))
+    ap (λ o. positions_of c.args.self.now.links.now c.args.self.now.operands.now.owners c.args.self.now.operands.now.blocks (rest_at o (cells_of c.args.self.now.value c.args.self.now.operands.now.cells))) c.requires
+    ∙ (ap (positions_of c.args.self.now.links.now c.args.self.now.operands.now.owners c.args.self.now.operands.now.blocks) s.whole
+    ∙ ap (λ o. with_use o (positions_of c.args.self.now.links.now c.args.self.now.operands.now.owners c.args.self.now.operands.now.blocks
+    (rest_at c.next-self.result (cells_of c.args.self.now.value c.args.self.now.operands.now.cells)))) (sym c.use_of-position.ensures))
 
 pub returns-clause-fewer : goal.returns-clause-fewer
 returns-clause-fewer c =

@@ -7,7 +7,7 @@ use Rattle.linked_lists.proofs.Linking.{length-linked_out}
 pub link_out-requires : goal.link_out-requires
 link_out-requires c =
     let there = rw (← c.self.view_is) at c.requires in
-    record { place = cell_in c.self.inside.links.items c.self.inside.heads.items c.args.head c.args.cell c.self.invariant there }
+    record { position = cell_in c.self.inside.links.items c.self.inside.heads.items c.args.head c.args.cell c.self.invariant there }
 
 pub invariant_of-self : goal.invariant_of-self
 invariant_of-self c =

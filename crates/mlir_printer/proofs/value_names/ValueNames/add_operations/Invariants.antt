@@ -6,10 +6,10 @@ use Rattle.ir_store.specs.Bodies.{ids_of, ops_of, ids_left}
 use Rattle.ir_store.specs.Live.{AreDistinct}
 use Rattle.printing_laws.specs.NameHints.{body_name_hints}
 use Rattle.mlir_printer.specs.Chosen.{with_name_hints}
-use Rattle.mlir_printer.specs.Places.{place_in}
+use Rattle.mlir_printer.specs.Slots.{slot_in}
 use Rattle.mlir_printer.specs.Shown.{parts_in_body}
 use Rattle.mlir_printer.specs.Views.{names_held, chosen_names}
-use Rattle.mlir_printer.proofs.names.Placing.{place_left}
+use Rattle.mlir_printer.proofs.names.Placing.{slot_left}
 use Rattle.ir_store.proofs.Walks.{ops_at}
 use Rattle.mlir_printer.proofs.value_names.ValueNames.add_operations.Given as goal
 
@@ -20,6 +20,6 @@ invariant-loop-id l = record {
       ≡ with_name_hints (chosen_names l.initial.self) (body_name_hints (parts_in_body (ops_of l.body)));
   ports : l.self.ports ≡ l.initial.self.ports;
   once : AreDistinct (ids_in (ops_at (ops_of l.body) (ids_left l.id-iterator)));
-  places : (id : ℕ) → place_left l.self.places.items (length (names_held l.self)) (ops_at (ops_of l.body) (ids_left l.id-iterator)) id
-      ≡ place_in (length (names_held l.initial.self)) (ops_of l.body) id;
+  slots : (id : ℕ) → slot_left l.self.slots.items (length (names_held l.self)) (ops_at (ops_of l.body) (ids_left l.id-iterator)) id
+      ≡ slot_in (length (names_held l.initial.self)) (ops_of l.body) id;
 }

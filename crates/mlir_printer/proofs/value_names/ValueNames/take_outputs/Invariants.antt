@@ -9,5 +9,5 @@ invariant-loop-port l = record {
   chosen : with_name_hints (chosen_names l.self) (instance_name_hints l.instance.name (drop l.port-index l.port-items))
       ≡ with_name_hints (chosen_names l.initial.self) (instance_name_hints l.instance.name l.port-items);
   ports : l.self.ports ≡ l.initial.self.ports;
-  places : l.self.places ≡ l.initial.self.places;
+  slots : l.self.slots ≡ l.initial.self.slots;
 }

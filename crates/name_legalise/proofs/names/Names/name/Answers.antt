@@ -23,11 +23,11 @@ pub returns : goal.returns
 returns c =
     let self = c.args.self.now in
     let names = taken_names self.taken in
-    let places = map (λ (id : _). id.index) self.legal.items in
-    let within : c.args.id.index < length self.legal.items = omega (arith, c.requires, length-names_at names places, length-map self.legal.items (λ id. id.index)) in
+    let positions = map (λ (id : _). id.index) self.legal.items in
+    let within : c.args.id.index < length self.legal.items = omega (arith, c.requires, length-names_at names positions, length-map self.legal.items (λ id. id.index)) in
     let at =
     slice_get-map (λ id. id.index) self.legal.items c.args.id.index
     ∙ ap (option_map (λ id. id.index)) (slice_get-get_or self.legal.items c.args.id.index c.index.result.now within ∙ ap Some (sym c.index.ensures)) in
     c.name.ensures
     ∙ slice_get-get_or names c.index.result.now.index [] (self.table.within c.args.id.index c.index.result.now.index at)
-    ∙ sym (slice_get-names_at names places c.args.id.index c.index.result.now.index at)
+    ∙ sym (slice_get-names_at names positions c.args.id.index c.index.result.now.index at)

@@ -14,14 +14,14 @@ use Rattle.sched_core.proofs.sched.Sched.draw.Goals as goal
 pub index_mut-requires : goal.index_mut-requires
 index_mut-requires c =
     let t = table_of c.self.inside in
-    omega (arith, leaf-lt t.callees t.leaf c.args.m (drawn_by c.self.view_is c.requires.turn), c.self.invariant.places.stages)
+    omega (arith, leaf-lt t.callees t.leaf c.args.m (drawn_by c.self.view_is c.requires.turn), c.self.invariant.positions.stages)
 
 pub overflow_add-index_mut : goal.overflow_add-index_mut
 overflow_add-index_mut c =
     let t = table_of c.self.inside in
     let turn = drawn_by c.self.view_is c.requires.turn in
     let few = there-lt t c.args.w c.self.invariant (may_by (Claim c.args.w) c.self.view_is c.requires.may).0 in
-    let old : c.index_mut-2.result.now ≡ get_or t.busy c.args.w 0 = get_or_read t.busy _ _ (omega (arith, few, c.self.invariant.places.busy)) c.index_mut-2.ensures.value 0 in
+    let old : c.index_mut-2.result.now ≡ get_or t.busy c.args.w 0 = get_or_read t.busy _ _ (omega (arith, few, c.self.invariant.positions.busy)) c.index_mut-2.ensures.value 0 in
     omega (
       arith,
       c.self.invariant.busy c.args.w few,
@@ -31,7 +31,7 @@ overflow_add-index_mut c =
 pub overflow_add-self : goal.overflow_add-self
 overflow_add-self c =
     let t = table_of c.self.inside in
-    omega (arith, leaf-le t c.self.invariant, c.self.invariant.places.modules)
+    omega (arith, leaf-le t c.self.invariant, c.self.invariant.positions.modules)
 
 pub invariant_of-self : goal.invariant_of-self
 invariant_of-self c =
@@ -39,7 +39,7 @@ invariant_of-self c =
     let t = table_of c.self.inside in
     let few = there-lt t c.args.w c.self.invariant may.0 in
     draw-writes t c.args.w c.args.m c.index_mut-2.result.now c.self.invariant may (drawn_by c.self.view_is c.requires.turn)
-    (get_or_read t.busy _ _ (omega (arith, few, c.self.invariant.places.busy)) c.index_mut-2.ensures.value 0) few)).0
+    (get_or_read t.busy _ _ (omega (arith, few, c.self.invariant.positions.busy)) c.index_mut-2.ensures.value 0) few)).0
 
 pub returns : goal.returns
 returns c =
@@ -47,4 +47,4 @@ returns c =
     let t = table_of c.self.inside in
     let few = there-lt t c.args.w c.self.invariant may.0 in
     draw-writes t c.args.w c.args.m c.index_mut-2.result.now c.self.invariant may (drawn_by c.self.view_is c.requires.turn)
-    (get_or_read t.busy _ _ (omega (arith, few, c.self.invariant.places.busy)) c.index_mut-2.ensures.value 0) few)).1
+    (get_or_read t.busy _ _ (omega (arith, few, c.self.invariant.positions.busy)) c.index_mut-2.ensures.value 0) few)).1

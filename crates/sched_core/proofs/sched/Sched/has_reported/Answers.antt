@@ -11,6 +11,6 @@ pub returns : goal.returns
 returns c =
     let t = table_of c.self.inside in
     let there = subst (λ (s : Table). IsThere (state_of s) c.args.w) (sym c.self.view_is) c.requires in
-    let within : c.args.w < length c.self.inside.untold.items = omega (arith, there-lt t c.args.w c.self.invariant there, c.self.invariant.places.untold) in
+    let within : c.args.w < length c.self.inside.untold.items = omega (arith, there-lt t c.args.w c.self.invariant there, c.self.invariant.positions.untold) in
     subst (λ (s : Table). IsTrue (c.index.result.now == 0) ↔ HasReported (state_of s) c.args.w) c.self.view_is
     (reported-test t c.args.w c.index.result.now c.self.invariant there (get_or_read c.self.inside.untold.items _ _ within c.index.ensures 0))

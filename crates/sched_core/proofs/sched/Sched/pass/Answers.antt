@@ -9,7 +9,7 @@ use Rattle.sched_core.proofs.sched.Sched.pass.Goals as goal
 pub overflow_add-self : goal.overflow_add-self
 overflow_add-self c =
     let t = table_of c.self.inside in
-    omega (arith, leaf-le t c.self.invariant, c.self.invariant.places.modules)
+    omega (arith, leaf-le t c.self.invariant, c.self.invariant.positions.modules)
 
 pub invariant_of-self : goal.invariant_of-self
 invariant_of-self c =

@@ -15,7 +15,7 @@ invariant_of-self c =
     let t = table_of c.self.inside in
     subst (λ rows. Writes t (record t { edges = rows }) (PutEdge c.args.w c.args.c c.args.i))
     (sym (rows-set (λ v. v.items) c.self.inside.edges.items c.args.c c.args.i (record c.edge-edge.result { fill = Full }) c.index_mut.result.now
-    (with_item c.index_mut.result.now c.args.i (record c.edge-edge.result { fill = Full })) (caller-within t c.args.c c.args.i c.self.invariant.places may.0) c.index_mut.ensures.value refl))
+    (with_item c.index_mut.result.now c.args.i (record c.edge-edge.result { fill = Full })) (caller-within t c.args.c c.args.i c.self.invariant.positions may.0) c.index_mut.ensures.value refl))
     (put_edge-writes t c.args.w c.args.c c.args.i c.edge-edge.result c.self.invariant may
     (c.edge-edge.ensures ∙ ap (λ (s : Table). (state_of s).edge c.args.c c.args.i) (sym c.self.view_is))))).0
 
@@ -25,6 +25,6 @@ returns c =
     let t = table_of c.self.inside in
     subst (λ rows. Writes t (record t { edges = rows }) (PutEdge c.args.w c.args.c c.args.i))
     (sym (rows-set (λ v. v.items) c.self.inside.edges.items c.args.c c.args.i (record c.edge-edge.result { fill = Full }) c.index_mut.result.now
-    (with_item c.index_mut.result.now c.args.i (record c.edge-edge.result { fill = Full })) (caller-within t c.args.c c.args.i c.self.invariant.places may.0) c.index_mut.ensures.value refl))
+    (with_item c.index_mut.result.now c.args.i (record c.edge-edge.result { fill = Full })) (caller-within t c.args.c c.args.i c.self.invariant.positions may.0) c.index_mut.ensures.value refl))
     (put_edge-writes t c.args.w c.args.c c.args.i c.edge-edge.result c.self.invariant may
     (c.edge-edge.ensures ∙ ap (λ (s : Table). (state_of s).edge c.args.c c.args.i) (sym c.self.view_is))))).1

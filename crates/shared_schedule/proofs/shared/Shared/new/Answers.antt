@@ -12,11 +12,11 @@ new-requires g c =
     let rows = c.args.callees.items in
     let size : length (map (λ row. row.items) rows) ≡ length rows = length-map rows (λ row. row.items) in
     let n : c.len.result ≡ length (map (λ row. row.items) rows) = omega (arith, c.len.ensures, c.args.callees.ok.0) in
-    let place : slice_index c.in_ok-first_slots.first_slots.items c.len.result ≡ edge_slot
+    let position : slice_index c.in_ok-first_slots.first_slots.items c.len.result ≡ edge_slot
     (map (λ row. row.items) c.as_slice-2.result.now) c.len.result 0 = c.in_ok-first_slots.ensures.firsts c.len.result
     (let l : length c.as_slice-2.result.now ≡ length rows = ap length c.as_slice-2.ensures.value in omega arith) in
     let count : c.len.result + c.edge_count-edges.result ≡ edge_slot (map (λ row. row.items) rows) (length (map (λ row. row.items) rows)) 0 =
-    c.edge_count-edges.ensures.count ∙ ap (λ s. slice_index s c.len.result) c.as_slice-5.ensures.value ∙ place ∙ (λ j. edge_slot (map (λ row. row.items) (c.as_slice-2.ensures.value j)) (n j) 0) in
+    c.edge_count-edges.ensures.count ∙ ap (λ s. slice_index s c.len.result) c.as_slice-5.ensures.value ∙ position ∙ (λ j. edge_slot (map (λ row. row.items) (c.as_slice-2.ensures.value j)) (n j) 0) in
     opens g.P.Pieces.first g.P.Pieces.finished g.P.Pieces.copied (record { pieces = c.args.pieces; callees = c.args.callees }) _ c.in_ok-slots.slots.items c.requires.callees
     (first-words (λ row. row.items) rows _ (c.as_slice-6.ensures.value ∙ c.in_ok-words.ensures ∙ ap (λ rs. 0 ∷ map (λ row. length row.items) rs) c.as_slice-4.ensures.value))
     (first-slots g.P.Pieces.first (map (λ row. row.items) rows) c.args.pieces c.args.bodies.items c.in_ok-slots.slots.items c.edge_count-edges.result
@@ -27,11 +27,11 @@ invariant_of-result-clause-slots g c =
     let rows = c.args.callees.items in
     let size : length (map (λ row. row.items) rows) ≡ length rows = length-map rows (λ row. row.items) in
     let n : c.len.result ≡ length (map (λ row. row.items) rows) = omega (arith, c.len.ensures, c.args.callees.ok.0) in
-    let place : slice_index c.in_ok-first_slots.first_slots.items c.len.result ≡ edge_slot
+    let position : slice_index c.in_ok-first_slots.first_slots.items c.len.result ≡ edge_slot
     (map (λ row. row.items) c.as_slice-2.result.now) c.len.result 0 = c.in_ok-first_slots.ensures.firsts c.len.result
     (let l : length c.as_slice-2.result.now ≡ length rows = ap length c.as_slice-2.ensures.value in omega arith) in
     let count : c.len.result + c.edge_count-edges.result ≡ edge_slot (map (λ row. row.items) rows) (length (map (λ row. row.items) rows)) 0 =
-    c.edge_count-edges.ensures.count ∙ ap (λ s. slice_index s c.len.result) c.as_slice-5.ensures.value ∙ place ∙ (λ j. edge_slot (map (λ row. row.items) (c.as_slice-2.ensures.value j)) (n j) 0) in
+    c.edge_count-edges.ensures.count ∙ ap (λ s. slice_index s c.len.result) c.as_slice-5.ensures.value ∙ position ∙ (λ j. edge_slot (map (λ row. row.items) (c.as_slice-2.ensures.value j)) (n j) 0) in
     let slots = first-slots g.P.Pieces.first (map (λ row. row.items) rows) c.args.pieces c.args.bodies.items c.in_ok-slots.slots.items c.edge_count-edges.result
     (c.in_ok-slots.ensures ∙ ap (λ s. s ++ replicate c.edge_count-edges.result Bare) c.in_ok-stored.ensures) (c.requires.bodies ∙ sym size) (omega arith) c.requires.first in
     let long : length c.in_ok-slots.slots.items ≡ slots_of (map (λ row. row.items) rows) = slots.long in
@@ -42,11 +42,11 @@ invariant_of-result-clause-few g c =
     let rows = c.args.callees.items in
     let size : length (map (λ row. row.items) rows) ≡ length rows = length-map rows (λ row. row.items) in
     let n : c.len.result ≡ length (map (λ row. row.items) rows) = omega (arith, c.len.ensures, c.args.callees.ok.0) in
-    let place : slice_index c.in_ok-first_slots.first_slots.items c.len.result ≡ edge_slot
+    let position : slice_index c.in_ok-first_slots.first_slots.items c.len.result ≡ edge_slot
     (map (λ row. row.items) c.as_slice-2.result.now) c.len.result 0 = c.in_ok-first_slots.ensures.firsts c.len.result
     (let l : length c.as_slice-2.result.now ≡ length rows = ap length c.as_slice-2.ensures.value in omega arith) in
     let last : slice_index c.as_slice-5.result.now c.len.result ≡ edge_slot (map (λ row. row.items) rows) (length (map (λ row. row.items) rows)) 0 =
-    ap (λ s. slice_index s c.len.result) c.as_slice-5.ensures.value ∙ place ∙ (λ j. edge_slot (map (λ row. row.items) (c.as_slice-2.ensures.value j)) (n j) 0) in
+    ap (λ s. slice_index s c.len.result) c.as_slice-5.ensures.value ∙ position ∙ (λ j. edge_slot (map (λ row. row.items) (c.as_slice-2.ensures.value j)) (n j) 0) in
     omega (arith, c.edge_count-edges.ensures.fits)
 
 pub invariant_of-result-clause-firsts : goal.invariant_of-result-clause-firsts

@@ -1,4 +1,4 @@
--- The places of operands that ask for unsigned expressions are those of the kinds.
+-- The positions of operands that ask for unsigned expressions are those of the kinds.
 use Rattle.std.proofs.Common.{◌≡◌, ℕ, ◌/◌, Bool, true, false, cond, not, ◌&&◌, ◌==◌, refl, sym, ap, ◌∙◌}
 use Rattle.hw_model.specs.Kinds.{Kind, Predicate}
 use Rattle.hw_model.specs.Kinds.Predicate.{eq, ne, slt, sle, sgt, sge, ult, ule, ugt, uge, ceq, cne, weq, wne}
@@ -6,7 +6,7 @@ use Rattle.hw_model.specs.Kinds.Kind.{variadic, sub, division, shift, icmp, pari
 use Rattle.verilog_expr.specs.Building.{variadic_operator, division_operator, shift_operator, is_signed_division, is_signed_shift}
 use Rattle.verilog_expr.specs.Forms.{asks_unsigned, operator_in_code}
 use Rattle.verilog_expr.specs.Templates.{chain_template, template_of_count, division_form, shift_form, comparison_form, extract_template, template_for}
-use Rattle.verilog_expr.specs.Signs.{is_signed_order, is_unsigned_place}
+use Rattle.verilog_expr.specs.Signs.{is_signed_order, is_unsigned_position}
 use Rattle.verilog_expr.specs.declared.form.Operator.{Operator}
 use Rattle.verilog_expr.specs.declared.form.Operator.TheVariants as signs
 use Rattle.verilog_expr.specs.declared.form.Form.{Form}
@@ -56,30 +56,30 @@ module _ (f : Form) (i : ℕ) (other : f ≡ Same → ⊥) where
   compared weq = refl
   compared wne = refl
 
-division_place : (b : Bool) (o : Operator) (w divisor i : ℕ) → asks_unsigned (division_form b o w divisor) i ≡ not b
-division_place false o w divisor i = refl
-division_place true o w divisor i = refl
+division_position : (b : Bool) (o : Operator) (w divisor i : ℕ) → asks_unsigned (division_form b o w divisor) i ≡ not b
+division_position false o w divisor i = refl
+division_position true o w divisor i = refl
 
-shift_place : (b : Bool) (o : Operator) (i : ℕ) → asks_unsigned (shift_form b o) i ≡ (not b && (i == 0))
-shift_place false o i = refl
-shift_place true o i = refl
+shift_position : (b : Bool) (o : Operator) (i : ℕ) → asks_unsigned (shift_form b o) i ≡ (not b && (i == 0))
+shift_position false o i = refl
+shift_position true o i = refl
 
-pub places_asked : (kind : Kind) (w v divisor n i : ℕ) (f : Form) → template_for kind w v divisor n ≡ Operands f → (f ≡ Same → ⊥) → asks_unsigned f i ≡ is_unsigned_place kind i
-places_asked (variadic o) w v divisor n i f is other = of_chain f i other n (operator_in_code (variadic_operator o)) is
-places_asked sub w v divisor n i f is other = of_count f i other n 2 (Chain signs.Minus) is
-places_asked (division d) w v divisor n i f is other =
+pub positions_asked : (kind : Kind) (w v divisor n i : ℕ) (f : Form) → template_for kind w v divisor n ≡ Operands f → (f ≡ Same → ⊥) → asks_unsigned f i ≡ is_unsigned_position kind i
+positions_asked (variadic o) w v divisor n i f is other = of_chain f i other n (operator_in_code (variadic_operator o)) is
+positions_asked sub w v divisor n i f is other = of_count f i other n 2 (Chain signs.Minus) is
+positions_asked (division d) w v divisor n i f is other =
     of_count f i other n 2 (division_form (is_signed_division d) (operator_in_code (division_operator d)) w divisor) is
-    ∙ division_place (is_signed_division d) (operator_in_code (division_operator d)) w divisor i
-places_asked (shift s) w v divisor n i f is other =
+    ∙ division_position (is_signed_division d) (operator_in_code (division_operator d)) w divisor i
+positions_asked (shift s) w v divisor n i f is other =
     of_count f i other n 2 (shift_form (is_signed_shift s) (operator_in_code (shift_operator s))) is
-    ∙ shift_place (is_signed_shift s) (operator_in_code (shift_operator s)) i
-places_asked (icmp p) w v divisor n i f is other = of_count f i other n 2 (comparison_form p) is ∙ compared f i other p
-places_asked parity w v divisor n i f is other = of_count f i other n 1 Parity is
-places_asked (extract low) w v divisor n i f is other = of_extract f i other n low w v is
-places_asked concat w v divisor n i f is other = of_some f i other n Braces is
-places_asked replicate w v divisor n i f is other = of_count f i other n 1 (Copies (w / v)) is
-places_asked mux w v divisor n i f is other = of_count f i other n 3 Choice is
-places_asked (constant z) w v divisor n i f is other = cc
-places_asked bitcast w v divisor n i f is other = of_count f i other n 1 Same is
-places_asked wire w v divisor n i f is other = of_count f i other n 1 Same is
-places_asked _ w v divisor n i f is other = cc
+    ∙ shift_position (is_signed_shift s) (operator_in_code (shift_operator s)) i
+positions_asked (icmp p) w v divisor n i f is other = of_count f i other n 2 (comparison_form p) is ∙ compared f i other p
+positions_asked parity w v divisor n i f is other = of_count f i other n 1 Parity is
+positions_asked (extract low) w v divisor n i f is other = of_extract f i other n low w v is
+positions_asked concat w v divisor n i f is other = of_some f i other n Braces is
+positions_asked replicate w v divisor n i f is other = of_count f i other n 1 (Copies (w / v)) is
+positions_asked mux w v divisor n i f is other = of_count f i other n 3 Choice is
+positions_asked (constant z) w v divisor n i f is other = cc
+positions_asked bitcast w v divisor n i f is other = of_count f i other n 1 Same is
+positions_asked wire w v divisor n i f is other = of_count f i other n 1 Same is
+positions_asked _ w v divisor n i f is other = cc

@@ -50,7 +50,7 @@ edge_slot-apart callees c i a b at there apart same = by_order (grind arith)
     by_order (inr (inl above)) = let le : edges_below callees c + length (callees_of callees c) ≤ edges_below callees a = edges_below-le callees c a above in let in_row : i < length (callees_of callees c) = at in omega arith
     by_order (inr (inr e)) = apart e (let first : edges_below callees a ≡ edges_below callees c = ap (edges_below callees) e in omega arith)
 
--- the map with another edge at one place
+-- the map with another edge at one position
 pub put_edge-here : (c i : ℕ) (e : Edge) (edge : ℕ → ℕ → Edge) → put_edge c i e edge c i ≡ e
 put_edge-here c i e edge = ap (λ row. row i) (put-here c (put i e (edge c)) edge) ∙ put-here i e (edge c)
 

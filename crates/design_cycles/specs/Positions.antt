@@ -1,10 +1,10 @@
--- Places in code: a module's number and the id of one of its operations.
+-- Positions in code: a module's number and the id of one of its operations.
 use Rattle.std.specs.Prelude.{◌≡◌, ℕ, ◌≤◌, List, [], Option, Some, None, slice_get}
 use Rattle.hw_model.specs.Types.{Name}
 use Rattle.ir_store.specs.declared.operation.OpId.{OpId}
 use Rattle.ir_store.specs.BodyOps.{ids_in}
 use Rattle.ir_store.specs.Designs.{StoredModule}
-use Rattle.design_cycles.specs.declared.place.OpPlace.{OpPlace}
+use Rattle.design_cycles.specs.declared.op_site.OpSite.{OpSite}
 
 -- the operation is the first of those with these ids of whose position it holds
 pub record IsFirstOp (P : ℕ → Type 0) (ids : List ℕ) (op : OpId) : Type 0 where
@@ -34,15 +34,15 @@ ids_of_module (Some m) = ids_in m.ops
 abbrev pub ids_at : List StoredModule → ℕ → List ℕ
 ids_at modules i = ids_of_module (slice_get modules i)
 
--- the operation is the first in text order of whose place it holds
-pub record IsFirst (modules : List StoredModule) (P : ℕ → ℕ → Type 0) (place : OpPlace) : Type 0 where
-  pub found : IsFirstOp (P place.module) (ids_at modules place.module) place.op
-  pub earlier : (i j : ℕ) → P i j → place.module ≤ i
+-- the operation is the first in text order of whose position it holds
+pub record IsFirst (modules : List StoredModule) (P : ℕ → ℕ → Type 0) (position : OpSite) : Type 0 where
+  pub found : IsFirstOp (P position.module) (ids_at modules position.module) position.op
+  pub earlier : (i j : ℕ) → P i j → position.module ≤ i
 
--- it holds of no place; or the operation is the first of whose place it holds
-abbrev pub Finds : List StoredModule → (ℕ → ℕ → Type 0) → Option OpPlace → Type 0
+-- it holds of no position; or the operation is the first of whose position it holds
+abbrev pub Finds : List StoredModule → (ℕ → ℕ → Type 0) → Option OpSite → Type 0
 Finds modules P None = (i j : ℕ) → P i j → ⊥
-Finds modules P (Some place) = IsFirst modules P place
+Finds modules P (Some position) = IsFirst modules P position
 
 -- it holds of a number, and of none below it
 pub record IsFirstNumber (P : ℕ → Type 0) (i : ℕ) : Type 0 where

@@ -1,4 +1,4 @@
--- The places of a design and of its tree: paths by numbers of instances, and paths by their names.
+-- The positions of a design and of its tree: paths by numbers of instances, and paths by their names.
 use Rattle.std.proofs.Common.{◌≡◌, ℕ, zero, suc, ◌⊎◌, Bool, true, false, List, [], ◌∷◌, length, take, slice_get, Option, Some, None, refl, sym, ◌∙◌, ap, ap₂, subst, inl, inr, arith, option_and_then, option_map}
 use Rattle.std.proofs.lemmas.List.{length-take}
 use Rattle.std.proofs.lemmas.Option.{slice_get_within}
@@ -29,16 +29,16 @@ use Rattle.export_verilog.proofs.items.Settings.{Setting, Called, called_by, cal
 -- ---- instances by number
 
 -- the position of an instance, by its number
-abbrev pub place_of : List Op → ℕ → ℕ
-place_of os u = length (before_instance u os)
+abbrev pub position_of : List Op → ℕ → ℕ
+position_of os u = length (before_instance u os)
 
-pub number_place : (os : List Op) (u : ℕ) (o : Op) → slice_get (instances os) u ≡ Some o
-    → (slice_get os (place_of os u) ≡ Some o) × (length (instances (take (place_of os u) os)) ≡ u)
-number_place [] u o is = cc
-number_place (y ∷ ys) u o is = go (sort_of y.kind) u is (λ v h. number_place ys v o h) where
+pub number_position : (os : List Op) (u : ℕ) (o : Op) → slice_get (instances os) u ≡ Some o
+    → (slice_get os (position_of os u) ≡ Some o) × (length (instances (take (position_of os u) os)) ≡ u)
+number_position [] u o is = cc
+number_position (y ∷ ys) u o is = go (sort_of y.kind) u is (λ v h. number_position ys v o h) where
   go : Sort y.kind → (u : ℕ) → slice_get (instances (y ∷ ys)) u ≡ Some o
-      → ((v : ℕ) → slice_get (instances ys) v ≡ Some o → (slice_get ys (place_of ys v) ≡ Some o) × (length (instances (take (place_of ys v) ys)) ≡ v))
-      → (slice_get (y ∷ ys) (place_of (y ∷ ys) u) ≡ Some o) × (length (instances (take (place_of (y ∷ ys) u) (y ∷ ys))) ≡ u)
+      → ((v : ℕ) → slice_get (instances ys) v ≡ Some o → (slice_get ys (position_of ys v) ≡ Some o) × (length (instances (take (position_of ys v) ys)) ≡ v))
+      → (slice_get (y ∷ ys) (position_of (y ∷ ys) u) ≡ Some o) × (length (instances (take (position_of (y ∷ ys) u) (y ∷ ys))) ≡ u)
   go (a_register f r n x) u is rest = let h = rest u (simp n at is) in (simp n h.0, simp n h.1)
   go (is_an_instance z r n x) zero is rest = let e : Some y ≡ Some o = simp n at is in (simp n e, simp n)
   go (is_an_instance z r n x) (suc u) is rest = let h = rest u (simp n at is) in (simp n h.0, simp n (ap suc h.1))
@@ -49,8 +49,8 @@ number_place (y ∷ ys) u o is = go (sort_of y.kind) u is (λ v h. number_place 
 abbrev pub number_of : List Op → ℕ → ℕ
 number_of os i = length (instances (take i os))
 
-pub place_number : (os : List Op) (i : ℕ) (o : Op) (k : Instance) → slice_get os i ≡ Some o → instance_in o.kind ≡ Some k → place_of os (number_of os i) ≡ i
-place_number os i o k there kind = ap length (before_position os i o k there kind)
+pub position_number : (os : List Op) (i : ℕ) (o : Op) (k : Instance) → slice_get os i ≡ Some o → instance_in o.kind ≡ Some k → position_of os (number_of os i) ≡ i
+position_number os i o k there kind = ap length (before_position os i o k there kind)
     ∙ (let e : length (take i os) ≡ i = omega (arith, length-take i os, slice_get_within os i o there) in e)
 
 -- ---- a thing of a name, or none
@@ -72,7 +72,7 @@ identifier_of_name m n (l ∷ ks) = go (same_name n (identifier_text m l)) refl 
 -- the name of instance u of a module
 abbrev pub step_name : Option Module → ℕ → Name
 step_name None u = []
-step_name (Some m) u = identifier_text m (instance_identifier (place_of m.body u))
+step_name (Some m) u = identifier_text m (instance_identifier (position_of m.body u))
 
 abbrev pub vpath_of : Design → Name → Path → VPath
 vpath_of d top [] = []
@@ -89,50 +89,50 @@ module _ (d : Design) (x : Setting d) (top : Name) where
   pub record Further (p : Path) (u : ℕ) (c : Module) : Type 0 where
     pub outer : Module
     pub here : module_at d top p ≡ Some outer
-    pub place : ℕ
+    pub position : ℕ
     pub op : Op
-    pub there : slice_get outer.body place ≡ Some op
-    pub emission : emission_of outer.ports outer.body place op ≡ as_instance
+    pub there : slice_get outer.body position ≡ Some op
+    pub emission : emission_of outer.ports outer.body position op ≡ as_instance
     pub called : Called d outer op
     pub inside : called.module_of ≡ c
-    pub is_place : place_of outer.body u ≡ place
-    pub is_number : number_of outer.body place ≡ u
+    pub is_position : position_of outer.body u ≡ position
+    pub is_number : number_of outer.body position ≡ u
 
   pub further : (u : ℕ) (p : Path) (c : Module) → module_at d top (u ∷ p) ≡ Some c → Further p u c
   further u p c is =
       let outer = and_then_some (module_at d top p) (λ (y : Module). option_and_then (callee d) (slice_get (instances y.body) u)) is in
       let inner = and_then_some (slice_get (instances outer.0.body) u) (callee d) outer.2 in
       let kind = and_then_some (instance_in inner.0.kind) (λ (i : Instance). find_module d i.symbol) inner.2 in
-      let place = number_place outer.0.body u inner.0 inner.1 in
-      go outer.0 outer.1 inner.0 kind.0 kind.1 kind.2 place.0 place.1 where
+      let position = number_position outer.0.body u inner.0 inner.1 in
+      go outer.0 outer.1 inner.0 kind.0 kind.1 kind.2 position.0 position.1 where
         go : (m : Module) → module_at d top p ≡ Some m → (o : Op) (k : Instance) → instance_in o.kind ≡ Some k → find_module d k.symbol ≡ Some c
-            → slice_get m.body (place_of m.body u) ≡ Some o → number_of m.body (place_of m.body u) ≡ u → Further p u c
+            → slice_get m.body (position_of m.body u) ≡ Some o → number_of m.body (position_of m.body u) ≡ u → Further p u c
         go m here o k kind found there number =
             let at = symbol_at_path p m here in
-            let called : Called d m o = called_by d x at.0 m at.1 (place_of m.body u) o there k kind in
+            let called : Called d m o = called_by d x at.0 m at.1 (position_of m.body u) o there k kind in
             let same : Some called.module_of ≡ Some c = sym (callee_is d m o called) ∙ ap (λ z. option_and_then (λ (i : Instance). find_module d i.symbol) z) kind ∙ found in
             record {
               outer = m;
               here = here;
-              place = place_of m.body u;
+              position = position_of m.body u;
               op = o;
               there = there;
               emission = by_sort (sort_of o.kind);
               called = called;
               inside = let e : called.module_of ≡ c = cc in e;
-              is_place = refl;
+              is_position = refl;
               is_number = number;
             } where
-              by_sort : Sort o.kind → emission_of m.ports m.body (place_of m.body u) o ≡ as_instance
-              by_sort (is_an_instance z r n y) = emission_of_instance m.ports m.body (place_of m.body u) o z r n
+              by_sort : Sort o.kind → emission_of m.ports m.body (position_of m.body u) o ≡ as_instance
+              by_sort (is_an_instance z r n y) = emission_of_instance m.ports m.body (position_of m.body u) o z r n
               by_sort (a_register f r n y) = absurd (let h : None ≡ Some k = sym n ∙ kind in cc)
               by_sort (an_output r n y) = absurd (let h : None ≡ Some k = sym n ∙ kind in cc)
               by_sort (a_made r n y) = absurd (let h : None ≡ Some k = sym n ∙ kind in cc)
 
   -- the name of the step
-  pub name_of_step : (u : ℕ) (p : Path) (c : Module) (f : Further p u c) → vpath_of d top (u ∷ p) ≡ identifier_text f.outer (instance_identifier f.place) ∷ vpath_of d top p
+  pub name_of_step : (u : ℕ) (p : Path) (c : Module) (f : Further p u c) → vpath_of d top (u ∷ p) ≡ identifier_text f.outer (instance_identifier f.position) ∷ vpath_of d top p
   name_of_step u p c f = ap (λ y. step_name y u ∷ vpath_of d top p) f.here
-      ∙ ap (λ i. identifier_text f.outer (instance_identifier i) ∷ vpath_of d top p) f.is_place
+      ∙ ap (λ i. identifier_text f.outer (instance_identifier i) ∷ vpath_of d top p) f.is_position
 
   instance_there : (m : Module) (are : AreNames m) (i : ℕ) (o : Op) (c : Called d m o) → slice_get m.body i ≡ Some o → emission_of m.ports m.body i o ≡ as_instance
       → find_instance (vitems d m) (identifier_text m (instance_identifier i)) ≡ Some (instance_of_kind d m i o c.kind)
@@ -142,15 +142,15 @@ module _ (d : Design) (x : Setting d) (top : Name) where
       ∙ ap (option_map (instance_of_kind d m i o)) c.is_kind
 
   -- what stands at the end of a path of the tree
-  pub vplace : (p : Path) (m : Module) → module_at d top p ≡ Some m → vmodule_at (tree_of d) (symbol_name d top) (vpath_of d top p) ≡ Some (vmodule d m)
-  vplace [] m here = vmodule_found d x.ok x.symbols top m here
-  vplace (u ∷ p) m here = step (further u p m here) (λ o h. vplace p o h) where
+  pub vposition : (p : Path) (m : Module) → module_at d top p ≡ Some m → vmodule_at (tree_of d) (symbol_name d top) (vpath_of d top p) ≡ Some (vmodule d m)
+  vposition [] m here = vmodule_found d x.ok x.symbols top m here
+  vposition (u ∷ p) m here = step (further u p m here) (λ o h. vposition p o h) where
     step : Further p u m → ((o : Module) → module_at d top p ≡ Some o → vmodule_at (tree_of d) (symbol_name d top) (vpath_of d top p) ≡ Some (vmodule d o))
         → vmodule_at (tree_of d) (symbol_name d top) (vpath_of d top (u ∷ p)) ≡ Some (vmodule d m)
     step f rest =
         ap (vmodule_at (tree_of d) (symbol_name d top)) (name_of_step u p m f)
-        ∙ ap (λ z. option_and_then (λ (v : VModule). option_and_then (λ (i : VInstance). find_vmodule (tree_of d) i.module_name) (find_instance v.items (identifier_text f.outer (instance_identifier f.place)))) z) (rest f.outer f.here)
-        ∙ ap (λ z. option_and_then (λ (i : VInstance). find_vmodule (tree_of d) i.module_name) z) (instance_there f.outer (names_at_path p f.outer f.here) f.place f.op f.called f.there f.emission)
+        ∙ ap (λ z. option_and_then (λ (v : VModule). option_and_then (λ (i : VInstance). find_vmodule (tree_of d) i.module_name) (find_instance v.items (identifier_text f.outer (instance_identifier f.position)))) z) (rest f.outer f.here)
+        ∙ ap (λ z. option_and_then (λ (i : VInstance). find_vmodule (tree_of d) i.module_name) z) (instance_there f.outer (names_at_path p f.outer f.here) f.position f.op f.called f.there f.emission)
         ∙ vmodule_found d x.ok x.symbols f.called.kind.symbol f.called.module_of f.called.there
         ∙ ap (λ y. Some (vmodule d y)) f.inside
 
@@ -161,7 +161,7 @@ module _ (d : Design) (x : Setting d) (top : Name) where
     ap (λ z. option_and_then (λ (y : Module). option_and_then (callee d) (slice_get (instances y.body) (number_of m.body i))) z) here
         ∙ ap (λ z. option_and_then (callee d) z) (instance_found m.body i o c.kind there c.is_kind) ∙ callee_is d m o c,
     ap (λ z. step_name z (number_of m.body i) ∷ vpath_of d top p) here
-        ∙ ap (λ z. identifier_text m (instance_identifier z) ∷ vpath_of d top p) (place_number m.body i o c.kind there c.is_kind),
+        ∙ ap (λ z. identifier_text m (instance_identifier z) ∷ vpath_of d top p) (position_number m.body i o c.kind there c.is_kind),
   )
 
   -- two paths of one name are one
@@ -173,19 +173,19 @@ module _ (d : Design) (x : Setting d) (top : Name) where
     go : Further p u m → Further r v n
         → ((a b : Module) → module_at d top p ≡ Some a → module_at d top r ≡ Some b → vpath_of d top p ≡ vpath_of d top r → p ≡ r) → u ∷ p ≡ v ∷ r
     go f g rest =
-        let both : identifier_text f.outer (instance_identifier f.place) ∷ vpath_of d top p ≡ identifier_text g.outer (instance_identifier g.place) ∷ vpath_of d top r =
+        let both : identifier_text f.outer (instance_identifier f.position) ∷ vpath_of d top p ≡ identifier_text g.outer (instance_identifier g.position) ∷ vpath_of d top r =
         sym (name_of_step u p m f) ∙ same ∙ name_of_step v r n g in
         let tails : vpath_of d top p ≡ vpath_of d top r = cc in
         let paths : p ≡ r = rest f.outer g.outer f.here g.here tails in
         let found : Some f.outer ≡ Some g.outer = sym f.here ∙ ap (module_at d top) paths ∙ g.here in
         let modules : f.outer ≡ g.outer = cc in
-        let heads : identifier_text f.outer (instance_identifier f.place) ≡ identifier_text g.outer (instance_identifier g.place) = cc in
-        let texts : identifier_text f.outer (instance_identifier f.place) ≡ identifier_text f.outer (instance_identifier g.place) = heads ∙ ap (λ y. identifier_text y (instance_identifier g.place)) (sym modules) in
-        let gin : In (instance_identifier g.place) (module_identifiers f.outer) = subst (λ y. In (instance_identifier g.place) (module_identifiers y)) (sym modules) (instance_in_identifiers g.outer g.place g.op g.there g.emission) in
-        let identifiers : instance_identifier f.place ≡ instance_identifier g.place =
-        texts_apart f.outer (names_at_path p f.outer f.here) (instance_identifier f.place) (instance_identifier g.place) (instance_in_identifiers f.outer f.place f.op f.there f.emission) gin texts in
-        let places : f.place ≡ g.place = cc in
-        let numbers : u ≡ v = sym f.is_number ∙ ap₂ (λ (y : Module) i. number_of y.body i) modules places ∙ g.is_number in
+        let heads : identifier_text f.outer (instance_identifier f.position) ≡ identifier_text g.outer (instance_identifier g.position) = cc in
+        let texts : identifier_text f.outer (instance_identifier f.position) ≡ identifier_text f.outer (instance_identifier g.position) = heads ∙ ap (λ y. identifier_text y (instance_identifier g.position)) (sym modules) in
+        let gin : In (instance_identifier g.position) (module_identifiers f.outer) = subst (λ y. In (instance_identifier g.position) (module_identifiers y)) (sym modules) (instance_in_identifiers g.outer g.position g.op g.there g.emission) in
+        let identifiers : instance_identifier f.position ≡ instance_identifier g.position =
+        texts_apart f.outer (names_at_path p f.outer f.here) (instance_identifier f.position) (instance_identifier g.position) (instance_in_identifiers f.outer f.position f.op f.there f.emission) gin texts in
+        let positions : f.position ≡ g.position = cc in
+        let numbers : u ≡ v = sym f.is_number ∙ ap₂ (λ (y : Module) i. number_of y.body i) modules positions ∙ g.is_number in
         ap₂ (λ a b. a ∷ b) numbers paths
 
   -- a path of the tree is that of a path of the design, or leads nowhere
@@ -201,7 +201,7 @@ module _ (d : Design) (x : Setting d) (top : Name) where
       go (no_path none) = no_path (ap (λ z. option_and_then (λ (v : VModule). option_and_then (λ (i : VInstance). find_vmodule (tree_of d) i.module_name) (find_instance v.items n)) z) none)
       go (a_path p m here same) = by_identifier (identifier_of_name m n (module_identifiers m)) where
         at : vmodule_at (tree_of d) (symbol_name d top) q ≡ Some (vmodule d m)
-        at = ap (vmodule_at (tree_of d) (symbol_name d top)) (sym same) ∙ vplace p m here
+        at = ap (vmodule_at (tree_of d) (symbol_name d top)) (sym same) ∙ vposition p m here
 
         nowhere : find_instance (vitems d m) n ≡ None → PathOf (n ∷ q)
         nowhere none = no_path (ap (λ z. option_and_then (λ (v : VModule). option_and_then (λ (i : VInstance). find_vmodule (tree_of d) i.module_name) (find_instance v.items n)) z) at

@@ -1,7 +1,0 @@
-use Rattle.std.proofs.Common.{◌≡◌, ◌+◌, map, drop}
-use Rattle.ir_store.specs.DictionaryViews.{entry_of}
-use Rattle.mlir_printer.specs.Attributes.{place_of_name}
-use Rattle.mlir_printer.proofs.dictionaries.place_of_name.Given as goal
-
-abbrev pub invariant-loop-i : goal.invariant-loop-i
-invariant-loop-i l = l.i + place_of_name (map entry_of (drop l.i l.entries)) ≡ place_of_name (map entry_of l.entries)
