@@ -1,5 +1,6 @@
 //! What words of `lec` say.
-use crate::lines::{ALL, invocation_of, none_differs};
+use crate::lines::{ALL, are_names, invocation_of, none_differs};
+use command_line::comparison::ProofFiles;
 use command_line::invocation::{Invocation, Work};
 use std::alloc::{AllocError, Global};
 use std::test::Fail;
@@ -11,15 +12,18 @@ struct Compared {
     left: &'static str,
     right: &'static str,
     limit: u64,
+    /// The names of the files of a proof, or none.
+    proof: &'static [&'static str],
 }
 
-const COMPARED: [Compared; 4] = [
+const COMPARED: [Compared; 7] = [
     Compared {
         line: "lec a.mlir --c1 p --c2 q",
         inputs: &["a.mlir"],
         left: "p",
         right: "q",
         limit: 1_000_000,
+        proof: &[],
     },
     Compared {
         line: "lec a.mlir b.mlir --c1=p --c2=p",
@@ -27,6 +31,7 @@ const COMPARED: [Compared; 4] = [
         left: "p",
         right: "p",
         limit: 1_000_000,
+        proof: &[],
     },
     Compared {
         line: "lec --c2 q --conflict-limit 18446744073709551615 - --c1 p a",
@@ -34,6 +39,7 @@ const COMPARED: [Compared; 4] = [
         left: "p",
         right: "q",
         limit: 18_446_744_073_709_551_615,
+        proof: &[],
     },
     Compared {
         line: "lec --conflict-limit=1 --c1 p --c2 q -- -o",
@@ -41,20 +47,43 @@ const COMPARED: [Compared; 4] = [
         left: "p",
         right: "q",
         limit: 1,
+        proof: &[],
+    },
+    Compared {
+        line: "lec a b --c1 p --c2 q --proof r",
+        inputs: &["a", "b"],
+        left: "p",
+        right: "q",
+        limit: 1_000_000,
+        proof: &["r.cnf", "r"],
+    },
+    Compared {
+        line: "lec --proof - a --c1 p --c2 q --conflict-limit 5",
+        inputs: &["a"],
+        left: "p",
+        right: "q",
+        limit: 5,
+        proof: &["-.cnf", "-"],
+    },
+    Compared {
+        line: "lec --proof=c/r.lrat a --c1 p --c2 q",
+        inputs: &["a"],
+        left: "p",
+        right: "q",
+        limit: 1_000_000,
+        proof: &["c/r.lrat.cnf", "c/r.lrat"],
     },
 ];
 
-// Whether names are these.
-fn are_names(names: &[String], wanted: &[&str]) -> bool {
-    if names.len() != wanted.len() {
-        return false;
-    }
-    for (name, other) in names.iter().zip(wanted) {
-        if name.as_str() != *other {
-            return false;
+// Whether the files of a proof have these names.
+fn are_files(files: &Option<ProofFiles>, wanted: &[&str]) -> bool {
+    match (files, wanted) {
+        (Some(files), [formula, proof]) => {
+            files.formula.as_str() == *formula && files.proof.as_str() == *proof
         }
+        (None, []) => true,
+        _ => false,
     }
-    true
 }
 
 // Whether an invocation compares modules as a row says.
@@ -62,8 +91,8 @@ fn compares(invocation: &Invocation, row: &Compared) -> bool {
     match &invocation.work {
         Work::Verdict(pair) => {
             (pair.left.as_str() == row.left && pair.right.as_str() == row.right)
-                && (pair.conflict_limit == row.limit
-                    && are_names(invocation.inputs.as_slice(), row.inputs))
+                && (pair.conflict_limit == row.limit && are_files(&pair.proof, row.proof))
+                && are_names(invocation.inputs.as_slice(), row.inputs)
         }
         _ => false,
     }

@@ -4,7 +4,7 @@ use crate::lines::{ALL, all_say};
 use command_line::usage::UsageKind;
 use std::test::Fail;
 
-const WORDS: [(&str, Said); 64] = [
+const WORDS: [(&str, Said); 81] = [
     ("", Wrong(UsageKind::Words)),
     ("opt", Command),
     ("opt a.mlir b.mlir", Wrong(UsageKind::Words)),
@@ -97,6 +97,29 @@ const WORDS: [(&str, Said); 64] = [
         Wrong(UsageKind::Words),
     ),
     ("lec a --c1 p --c2 q --workers 2", Wrong(UsageKind::Words)),
+    ("lec a b --c1 p --c2 q --proof r", Command),
+    ("lec a --c1 p --c2 q --proof -", Command),
+    ("lec --proof=r a --c1 p --c2 q", Command),
+    (
+        "lec a --c1 p --c2 q --proof r --proof r",
+        Wrong(UsageKind::Words),
+    ),
+    ("lec a --c1 p --c2 q --proof", Wrong(UsageKind::Words)),
+    (
+        "lec - - --c1 p --c2 q --proof r",
+        Wrong(UsageKind::StdinTwice),
+    ),
+    ("opt --proof r", Wrong(UsageKind::Words)),
+    ("check a b", Command),
+    ("check - b", Command),
+    ("check a -", Command),
+    ("check - -", Wrong(UsageKind::StdinTwice)),
+    ("check a", Wrong(UsageKind::Words)),
+    ("check", Wrong(UsageKind::Words)),
+    ("check a b c", Wrong(UsageKind::Words)),
+    ("check a b --workers 2", Wrong(UsageKind::Words)),
+    ("check a b -o c", Wrong(UsageKind::Words)),
+    ("check a b --proof r", Wrong(UsageKind::Words)),
 ];
 
 // How many workers the words of a line say.

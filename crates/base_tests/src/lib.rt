@@ -20,6 +20,8 @@ mod names;
 #[cfg(test)]
 mod pipelines;
 #[cfg(test)]
+mod proof_checks;
+#[cfg(test)]
 mod real_files;
 #[cfg(test)]
 mod real_sinks;

@@ -38,6 +38,19 @@ pub enum Said {
     Verilog { seed: u32, count: u32 },
 }
 
+/// Whether names are these.
+pub fn are_names(names: &[String], wanted: &[&str]) -> bool {
+    if names.len() != wanted.len() {
+        return false;
+    }
+    for (name, other) in names.iter().zip(wanted) {
+        if name.as_str() != *other {
+            return false;
+        }
+    }
+    true
+}
+
 /// The words of a line, which blanks part.
 pub fn words_of(alloc: Global, line: &str) -> Result<Vec<String>, AllocError> {
     let mut words = Vec::new(alloc);
@@ -53,7 +66,10 @@ fn is_on(work: &Work, passes: &[Pass]) -> bool {
         Work::Mlir(given) | Work::MlirPieces(given) | Work::Verilog(given) => {
             given.as_slice() == passes
         }
-        Work::GeneratedSummary(_) | Work::GeneratedVerilog(_) | Work::Verdict(_) => false,
+        Work::GeneratedSummary(_)
+        | Work::GeneratedVerilog(_)
+        | Work::Verdict(_)
+        | Work::ProofCheck => false,
     }
 }
 

@@ -12,7 +12,7 @@ struct Regular {
     wanted: &'static str,
 }
 
-const REGULAR: [Regular; 22] = [
+const REGULAR: [Regular; 23] = [
     Regular {
         line: "opt -o x.v",
         offered: &ALL,
@@ -62,6 +62,11 @@ const REGULAR: [Regular; 22] = [
         line: "opt -- -ab --passes",
         offered: &ALL,
         wanted: "opt -- -ab --passes",
+    },
+    Regular {
+        line: "lec a.mlir -c1 p -c2 q -proof r",
+        offered: &ALL,
+        wanted: "lec a.mlir --c1 p --c2 q --proof r",
     },
     // flags of passes become one word
     Regular {

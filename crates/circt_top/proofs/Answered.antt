@@ -1,5 +1,5 @@
 -- What is known of the told inputs from what was read of them: at most one byte more than a text may have.
-use Rattle.std.proofs.Common.{◌≡◌, ℕ, ◌-◌, ◌<◌, ◌≤◌, inl, inr, min, Bool, true, false, cond, nat_lt, List, [], ◌∷◌, length, take, Some, None, Result, Ok, Err, refl, sym, ◌∙◌, ap, subst, arith}
+use Rattle.std.proofs.Common.{◌≡◌, ℕ, ◌-◌, ◌<◌, ◌≤◌, inl, inr, min, Bool, true, false, cond, nat_lt, List, [], ◌∷◌, length, take, Option, Some, None, Result, Ok, Err, refl, sym, ◌∙◌, ap, subst, arith, IsTrue}
 use Rattle.std.proofs.Common.{length-take, take_all, option_map, lt-ltb, ltb-true, ltb-false}
 use Rattle.std.proofs.lemmas.List.{length-map}
 use Rattle.wiring.specs.Wiring.{In}
@@ -11,20 +11,28 @@ use Rattle.diag.specs.declared.refusal.OpName.TheVariants as op
 use Rattle.diag.specs.declared.cause.Cause.TheVariants.{TooLong}
 use Rattle.diag.specs.declared.refusal.Refusal.{Refusal}
 use Rattle.command_line.specs.Line.{Command, Work}
-use Rattle.command_line.specs.Line.Work.{mlir, mlir_pieces, verilog, generated_summary, generated_verilog, comparison}
+use Rattle.command_line.specs.Line.Work.{mlir, mlir_pieces, verilog, generated_summary, generated_verilog, comparison, proof_check}
 use Rattle.mlir_syntax.specs.Stream.{stream_of, refusal}
 use Rattle.mlir_operations.specs.ModuleText.{file_text}
 use Rattle.mlir_reader.specs.Reading.{text_limit, read, design_read}
 use Rattle.pass_pipeline.specs.declared.pass.Pass.{Pass}
 use Rattle.bits_core.specs.Word.{Word}
+use Rattle.resolution_proof.specs.Formula.{Formula}
 use Rattle.resolution_proof.specs.declared.log.Step.{Step}
+use Rattle.lrat_text.specs.Dimacs.{dimacs, as_bad, formula_of}
+use Rattle.lrat_text.specs.ProofLine.{proof_lines}
+use Rattle.lrat_text.specs.Checking.{start, first_fault, proof_fault}
+use Rattle.lrat_text.specs.Verified.{is_verified}
+use Rattle.lrat_text.proofs.Verifying.{none_verified, verified_none}
 use Rattle.circt_top.specs.Accepting.{Accepted, IsRefused, IsRefusedIn, first_input, unread, unaccepted}
 use Rattle.circt_top.specs.Reprint.{IsReprint}
 use Rattle.circt_top.specs.PieceReprint.{IsReprintOfPieces, IsRefusedInPieces}
 use Rattle.circt_top.specs.Translation.{IsTranslation}
 use Rattle.circt_top.specs.Comparing.{last_input, last_number, AreTaken, in_pair, IsRefusedPair, IsSame, IsDifference, IsGivenUp}
 use Rattle.circt_top.specs.Comparing.IsRefusedPair.{first as of_first, last as of_last, pair as of_pair}
-use Rattle.circt_top.specs.Outcome.{Verdict, Answer, IsAnswer}
+use Rattle.circt_top.specs.Checks.{second_input, IsRefusedProof, IsVerifiedProof}
+use Rattle.circt_top.specs.Checks.IsRefusedProof.{formula as of_formula, proof as of_proof}
+use Rattle.circt_top.specs.Outcome.{Verdict, Texts, Answer, IsText, IsRefusedBy, IsFinding, IsGiven, IsOutput, IsAnswer}
 use Rattle.circt_top.specs.Outcome.Verdict.{given, different, unknown}
 use Rattle.circt_top.specs.Outcome.Answer.{prints, refuses}
 use Rattle.circt_top.specs.Inputs.{Told, read_limit, told_at, AreContents, IsMissing, IsOneMissing, AreReads, prefixes}
@@ -127,6 +135,36 @@ refused_pieces_whole : (bytes source : List ℕ) (r : Refusal) → source ≡ ta
 refused_pieces_whole bytes source r prefix (inl is) = inl (long_read bytes source prefix is.0, is.1)
 refused_pieces_whole bytes source r prefix (inr is) = subst (λ s. IsRefusedInPieces s r) (whole_read bytes source prefix is.0) (inr is)
 
+-- ---- checks
+
+second_prefix : (contents : List (List ℕ)) → second_input (prefixes contents) ≡ take read_limit (second_input contents)
+second_prefix [] = refl
+second_prefix (bytes ∷ []) = refl
+second_prefix (bytes ∷ more ∷ contents) = refl
+
+-- whatever begins by a question for the size alone says the same of a prefix
+by_size : {A : Type 0} (long : A) (of : List ℕ → A) (bytes source : List ℕ) → source ≡ take read_limit bytes
+    → cond (nat_lt text_limit (length source)) long (of source) ≡ cond (nat_lt text_limit (length bytes)) long (of bytes)
+by_size long of bytes source prefix = go (nat_lt text_limit (length source)) refl where
+  go : (b : Bool) → nat_lt text_limit (length source) ≡ b
+      → cond (nat_lt text_limit (length source)) long (of source) ≡ cond (nat_lt text_limit (length bytes)) long (of bytes)
+  go true e =
+      let also : nat_lt text_limit (length bytes) ≡ true = lt-ltb text_limit (length bytes) (long_read bytes source prefix (ltb-true text_limit (length source) e)) in
+      ap (λ b. cond b long (of source)) e ∙ sym (ap (λ b. cond b long (of bytes)) also)
+  go false e = ap (λ s. cond (nat_lt text_limit (length s)) long (of s)) (whole_read bytes source prefix (ltb-false text_limit (length source) e))
+
+formula_whole : (bytes source : List ℕ) → source ≡ take read_limit bytes → formula_of source ≡ formula_of bytes
+unfolding formula_of
+formula_whole bytes source prefix = by_size (Err (1, TooLong)) (λ b. as_bad (dimacs b)) bytes source prefix
+
+fault_whole : (f : Formula) (bytes source : List ℕ) → source ≡ take read_limit bytes → proof_fault f source ≡ proof_fault f bytes
+unfolding proof_fault
+fault_whole f bytes source prefix = by_size (Some (1, TooLong)) (λ b. first_fault f.variables (start f) 1 (proof_lines b)) bytes source prefix
+
+-- a proof that is verified is no longer than a text may be
+verified_whole : (f : Formula) (bytes source : List ℕ) → source ≡ take read_limit bytes → IsTrue (is_verified f source) → IsTrue (is_verified f bytes)
+verified_whole f bytes source prefix h = none_verified f bytes (sym (fault_whole f bytes source prefix) ∙ verified_none f source h)
+
 -- ---- comparisons
 
 first_prefix : (contents : List (List ℕ)) → first_input (prefixes contents) ≡ take read_limit (first_input contents)
@@ -167,9 +205,16 @@ module _ (contents sources : List (List ℕ)) (are : sources ≡ prefixes conten
   refused_pair_whole left right r (of_pair x y d e taken is file) =
       of_pair x y d e (taken_whole d e taken) is (file ∙ ap (λ n. in_pair n y) as_many)
 
-  same_whole : (left right : Name) (text : List ℕ) → IsSame left right sources text → IsSame left right contents text
-  same_whole left right text is =
-      record { one = is.one; two = is.two; taken = taken_whole is.one is.two is.taken; log = is.log; agree = is.agree; is = is.is }
+  same_whole : (left right : Name) (proof : Option Name) (files : List (Name × List ℕ)) (text : List ℕ) → IsSame left right proof sources files text → IsSame left right proof contents files text
+  same_whole left right proof files text is = record {
+    one = is.one;
+    two = is.two;
+    taken = taken_whole is.one is.two is.taken;
+    log = is.log;
+    agree = is.agree;
+    proves = is.proves;
+    is = is.is;
+  }
 
   difference_whole : (left right : Name) (values : List Word) (text : List ℕ) → IsDifference left right sources values text → IsDifference left right contents values text
   difference_whole left right values text is = record {
@@ -187,33 +232,82 @@ module _ (contents sources : List (List ℕ)) (are : sources ≡ prefixes conten
   given_up_whole left right limit log text is =
       record { one = is.one; two = is.two; taken = taken_whole is.one is.two is.taken; undecided = is.undecided; is = is.is }
 
+  -- ---- checks
+
+  formula_read : formula_of (first_input sources) ≡ formula_of (first_input contents)
+  formula_read = formula_whole (first_input contents) (first_input sources) inputs_prefix
+
+  proof_prefix : second_input sources ≡ take read_limit (second_input contents)
+  proof_prefix = ap second_input are ∙ second_prefix contents
+
+  verified_proof_whole : (text : List ℕ) → IsVerifiedProof sources text → IsVerifiedProof contents text
+  verified_proof_whole text is = record {
+    can = record {
+      read = is.can.read;
+      says = sym formula_read ∙ is.can.says;
+      verified = verified_whole is.can.read (second_input contents) (second_input sources) proof_prefix is.can.verified;
+    };
+    unsatisfiable = is.unsatisfiable;
+    is = is.is;
+  }
+
+  refused_proof_whole : (r : Refusal) → IsRefusedProof sources r → IsRefusedProof contents r
+  refused_proof_whole r (of_formula line cause is) = of_formula line cause (sym formula_read ∙ is)
+  refused_proof_whole r (of_proof f line cause says is) =
+      of_proof f line cause (sym formula_read ∙ says) (sym (fault_whole f (second_input contents) (second_input sources) proof_prefix) ∙ is)
+
   -- ---- answers
+
+  -- what is made of prefixes is made of the whole
+  text_whole : (work : Work) (text : List ℕ) → IsText work sources text → IsText work contents text
+  text_whole (mlir passes) text is = reprint_whole passes (first_input contents) (first_input sources) text first_read is
+  text_whole (mlir_pieces passes) text is = pieces_whole passes (first_input contents) (first_input sources) text inputs_prefix is
+  text_whole (verilog passes) text is = translation_whole passes (first_input contents) (first_input sources) text first_read is
+  text_whole (generated_summary seed count) text is = is
+  text_whole (generated_verilog seed count) text is = is
+  text_whole (comparison left right limit proof) text is = absurd is
+  text_whole proof_check text is = verified_proof_whole text is
+
+  refusal_whole : (work : Work) (r : Refusal) → IsRefusedBy work sources r → IsRefusedBy work contents r
+  refusal_whole (mlir passes) r is = refused_in_again 0 (first_input contents) (first_input sources) r first_read is
+  refusal_whole (mlir_pieces passes) r is = refused_pieces_whole (first_input contents) (first_input sources) r inputs_prefix is
+  refusal_whole (verilog passes) r is = refused_in_again 0 (first_input contents) (first_input sources) r first_read is
+  refusal_whole (generated_summary seed count) r is = absurd is
+  refusal_whole (generated_verilog seed count) r is = absurd is
+  refusal_whole (comparison left right limit proof) r is = refused_pair_whole left right r is
+  refusal_whole proof_check r is = refused_proof_whole r is
+
+  finding_whole : (left right : Name) (limit : ℕ) (proof : Option Name) (verdict : Verdict) (t : Texts) → IsFinding left right limit proof sources verdict t
+      → IsFinding left right limit proof contents verdict t
+  finding_whole left right limit proof given t is = same_whole left right proof t.files t.text is
+  finding_whole left right limit proof (different values) t is = (is.0, difference_whole left right values t.text is.1)
+  finding_whole left right limit proof (unknown log) t is = (is.0, given_up_whole left right limit log t.text is.1)
+
+  given_whole : (work : Work) (verdict : Verdict) (t : Texts) → IsGiven work sources verdict t → IsGiven work contents verdict t
+  given_whole work given t is = (is.0, text_whole work t.text is.1)
+  given_whole work (different values) t is = absurd is
+  given_whole work (unknown log) t is = absurd is
+
+  output_whole : (work : Work) (verdict : Verdict) (t : Texts) → IsOutput work sources verdict t → IsOutput work contents verdict t
+  output_whole (comparison left right limit proof) verdict t is = finding_whole left right limit proof verdict t is
+  output_whole (mlir passes) verdict t is = given_whole (mlir passes) verdict t is
+  output_whole (mlir_pieces passes) verdict t is = given_whole (mlir_pieces passes) verdict t is
+  output_whole (verilog passes) verdict t is = given_whole (verilog passes) verdict t is
+  output_whole (generated_summary seed count) verdict t is = given_whole (generated_summary seed count) verdict t is
+  output_whole (generated_verilog seed count) verdict t is = given_whole (generated_verilog seed count) verdict t is
+  output_whole proof_check verdict t is = given_whole proof_check verdict t is
 
   -- what is answered for prefixes is answered for the whole
   answer_whole : (work : Work) (x : Answer) → IsAnswer work sources x → IsAnswer work contents x
-  answer_whole (mlir passes) (prints given text) is = reprint_whole passes (first_input contents) (first_input sources) text first_read is
-  answer_whole (mlir passes) (refuses r) is = refused_in_again 0 (first_input contents) (first_input sources) r first_read is
-  answer_whole (mlir_pieces passes) (prints given text) is = pieces_whole passes (first_input contents) (first_input sources) text inputs_prefix is
-  answer_whole (mlir_pieces passes) (refuses r) is = refused_pieces_whole (first_input contents) (first_input sources) r inputs_prefix is
-  answer_whole (verilog passes) (prints given text) is = translation_whole passes (first_input contents) (first_input sources) text first_read is
-  answer_whole (verilog passes) (refuses r) is = refused_in_again 0 (first_input contents) (first_input sources) r first_read is
-  answer_whole (generated_summary seed count) (prints given text) is = is
-  answer_whole (generated_summary seed count) (refuses r) is = absurd is
-  answer_whole (generated_verilog seed count) (prints given text) is = is
-  answer_whole (generated_verilog seed count) (refuses r) is = absurd is
-  answer_whole (comparison left right limit) (prints given text) is = same_whole left right text is
-  answer_whole (comparison left right limit) (prints (different values) text) is = difference_whole left right values text is
-  answer_whole (comparison left right limit) (prints (unknown log) text) is = given_up_whole left right limit log text is
-  answer_whole (comparison left right limit) (refuses r) is = refused_pair_whole left right r is
-  answer_whole _ (prints (different values) text) is = absurd is
-  answer_whole _ (prints (unknown log) text) is = absurd is
+  answer_whole work (prints verdict t) is = output_whole work verdict t is
+  answer_whole work (refuses r) is = refusal_whole work r is
 
 -- what is refused of what was read is refused of the told files
 pub refused_whole : (c : Command) (told : Told) (sources : List (List ℕ)) (r : Refusal) → AreReads told c.inputs sources → IsAnswer c.work sources (refuses r) → IsRefusalOf c told r
 refused_whole c told sources r read is = λ contents h. answer_whole contents sources (prefixes_read told c.inputs sources contents read h) c.work (refuses r) is
 
 -- what is made of what was read is made of the told files
-pub made_whole : (c : Command) (told : Told) (sources : List (List ℕ)) (verdict : Verdict) (text : List ℕ) → AreReads told c.inputs sources → IsAnswer c.work sources (prints verdict text)
-    → IsMadeOf c told verdict text
-made_whole c told sources verdict text read is =
-    λ contents h. answer_whole contents sources (prefixes_read told c.inputs sources contents read h) c.work (prints verdict text) is
+pub made_whole : (c : Command) (told : Told) (sources : List (List ℕ)) (verdict : Verdict) (t : Texts) → AreReads told c.inputs sources → IsAnswer c.work sources (prints verdict t)
+    → IsMadeOf c told verdict t
+made_whole c told sources verdict t read is =
+    λ contents h. answer_whole contents sources (prefixes_read told c.inputs sources contents read h) c.work (prints verdict t) is

@@ -1,9 +1,11 @@
 -- A text is answered exactly where it is not refused.
-use Rattle.std.proofs.Common.{◌≡◌, ℕ, inl, inr, List, [], ◌∷◌, arith, Ok, Err, sym, ◌∙◌, ap, subst, false, true, is_some}
+use Rattle.std.proofs.Common.{◌≡◌, ℕ, ◌⊎◌, inl, inr, List, [], ◌∷◌, arith, Option, Some, None, Ok, Err, refl, sym, ◌∙◌, ap, subst, false, true, is_some}
 use Rattle.diag.specs.declared.refusal.Refusal.{Refusal}
 use Rattle.hw_model.specs.Design.{Design}
-use Rattle.command_line.specs.Line.{Work}
-use Rattle.command_line.specs.Line.Work.{mlir, mlir_pieces, verilog, generated_summary, generated_verilog, comparison}
+use Rattle.resolution_proof.specs.Formula.{Formula}
+use Rattle.resolution_proof.specs.declared.log.Step.{Step}
+use Rattle.command_line.specs.Line.{Work, proof_files, files_before}
+use Rattle.command_line.specs.Line.Work.{mlir, mlir_pieces, verilog, generated_summary, generated_verilog, comparison, proof_check}
 use Rattle.mlir_reader.specs.Reading.{read}
 use Rattle.op_verifier.specs.Faults.{first_fault}
 use Rattle.op_verifier.specs.Verdict.{IsAccepted, IsRefusal, unfit, recursive, too_large, cyclic}
@@ -16,9 +18,11 @@ use Rattle.lec_tool.specs.Comparable.{AreComparable}
 use Rattle.lec_tool.specs.Comparisons.{IsComparisonRefusal}
 use Rattle.lec_tool.specs.Verdicts.{IsAffordable}
 use Rattle.lec_tool.proofs.Unrefused.{compared_unrefused}
-use Rattle.circt_top.specs.Comparing.{last_input, last_number, AreTaken, IsRefusedPair, CanBeCompared}
+use Rattle.circt_top.specs.Comparing.{last_input, last_number, AreTaken, AreProofFiles, IsRefusedPair, CanBeCompared}
 use Rattle.circt_top.specs.Comparing.IsRefusedPair.{first as of_first, last as of_last, pair as of_pair}
-use Rattle.circt_top.specs.Outcome.{Verdict, IsAnswer, IsAnswered}
+use Rattle.circt_top.specs.Stops.{names_in}
+use Rattle.circt_top.proofs.Checks.{verified_unrefused}
+use Rattle.circt_top.specs.Outcome.{Verdict, Texts, alone, IsText, IsGiven, IsAnswer, IsAnswered}
 use Rattle.circt_top.specs.Outcome.Verdict.{given, different, unknown}
 use Rattle.circt_top.specs.Outcome.Answer.{prints, refuses}
 
@@ -78,19 +82,70 @@ answered_unrefused (mlir_pieces passes) contents r a is = pieces_unrefused (firs
 answered_unrefused (verilog passes) contents r a is = unrefused_in 0 (first_input contents) a.0 r a.1 is
 answered_unrefused (generated_summary seed count) contents r a is = is
 answered_unrefused (generated_verilog seed count) contents r a is = is
-answered_unrefused (comparison left right limit) contents r a is = pair_unrefused left right contents r a is
+answered_unrefused (comparison left right limit proof) contents r a is = pair_unrefused left right contents r a is
+answered_unrefused proof_check contents r a is = verified_unrefused contents r a is
+
+-- what a text is made of is answered
+text_answered : (work : Work) (contents : List (List ℕ)) (text : List ℕ) → IsText work contents text → IsAnswered work contents
+text_answered (mlir passes) contents text is = (is.design, is.accepted)
+text_answered (mlir_pieces passes) contents text is =
+    record { short = is.short; each = printed_accepted passes (pieces_of (first_input contents)) is.printed.texts is.printed.each }
+text_answered (verilog passes) contents text is = (is.design, is.accepted)
+text_answered (generated_summary seed count) contents text is = tt
+text_answered (generated_verilog seed count) contents text is = tt
+text_answered (comparison left right limit proof) contents text is = absurd is
+text_answered proof_check contents text is = is.can
+
+given_answered : (work : Work) (contents : List (List ℕ)) (verdict : Verdict) (t : Texts) → IsGiven work contents verdict t → IsAnswered work contents
+given_answered work contents given t is = text_answered work contents t.text is.1
+given_answered work contents (different values) t is = absurd is
+given_answered work contents (unknown log) t is = absurd is
 
 -- what gives a text is answered
-pub made_answered : (work : Work) (contents : List (List ℕ)) (verdict : Verdict) (text : List ℕ) → IsAnswer work contents (prints verdict text) → IsAnswered work contents
-made_answered (mlir passes) contents given text is = (is.design, is.accepted)
-made_answered (mlir_pieces passes) contents given text is =
-    record { short = is.short; each = printed_accepted passes (pieces_of (first_input contents)) is.printed.texts is.printed.each }
-made_answered (verilog passes) contents given text is = (is.design, is.accepted)
-made_answered (generated_summary seed count) contents given text is = tt
-made_answered (generated_verilog seed count) contents given text is = tt
-made_answered (comparison left right limit) contents given text is = can_be left right contents is.one is.two is.taken is.agree.comparable is.agree.affordable
-made_answered (comparison left right limit) contents (different values) text is = can_be left right contents is.one is.two is.taken is.differ.comparable is.differ.affordable
-made_answered (comparison left right limit) contents (unknown log) text is =
-    can_be left right contents is.one is.two is.taken is.undecided.comparable is.undecided.affordable
-made_answered _ contents (different values) text is = absurd is
-made_answered _ contents (unknown log) text is = absurd is
+pub made_answered : (work : Work) (contents : List (List ℕ)) (verdict : Verdict) (t : Texts) → IsAnswer work contents (prints verdict t) → IsAnswered work contents
+made_answered (mlir passes) contents verdict t is = given_answered (mlir passes) contents verdict t is
+made_answered (mlir_pieces passes) contents verdict t is = given_answered (mlir_pieces passes) contents verdict t is
+made_answered (verilog passes) contents verdict t is = given_answered (verilog passes) contents verdict t is
+made_answered (generated_summary seed count) contents verdict t is = tt
+made_answered (generated_verilog seed count) contents verdict t is = tt
+made_answered proof_check contents verdict t is = given_answered proof_check contents verdict t is
+made_answered (comparison left right limit proof) contents given t is = can_be left right contents is.one is.two is.taken is.agree.comparable is.agree.affordable
+made_answered (comparison left right limit proof) contents (different values) t is =
+    let d = is.1 in can_be left right contents d.one d.two d.taken d.differ.comparable d.differ.affordable
+made_answered (comparison left right limit proof) contents (unknown log) t is =
+    let u = is.1 in can_be left right contents u.one u.two u.taken u.undecided.comparable u.undecided.affordable
+
+-- a text alone is an answer
+pub text_answers : (work : Work) (contents : List (List ℕ)) (text : List ℕ) → IsText work contents text → IsAnswer work contents (prints given (alone text))
+text_answers (mlir passes) contents text is = (refl, is)
+text_answers (mlir_pieces passes) contents text is = (refl, is)
+text_answers (verilog passes) contents text is = (refl, is)
+text_answers (generated_summary seed count) contents text is = (refl, is)
+text_answers (generated_verilog seed count) contents text is = (refl, is)
+text_answers (comparison left right limit proof) contents text is = absurd is
+text_answers proof_check contents text is = (refl, is)
+
+-- the files that go out are those that the work names, or none
+given_files : (work : Work) (contents : List (List ℕ)) (verdict : Verdict) (t : Texts) → IsGiven work contents verdict t → t.files ≡ []
+given_files work contents given t is = is.0
+given_files work contents (different values) t is = absurd is
+given_files work contents (unknown log) t is = absurd is
+
+none_named : (fs : List (Name × List ℕ)) (names : List Name) → fs ≡ [] → (names_in fs ≡ []) ⊎ (names_in fs ≡ names)
+none_named fs names none = inl (ap names_in none)
+
+proof_named : (proof : Option Name) (f : Formula) (log : List Step) (fs : List (Name × List ℕ)) → AreProofFiles proof f log fs → (names_in fs ≡ []) ⊎ (names_in fs ≡ proof_files proof)
+proof_named None f log fs are = inl (ap names_in are)
+proof_named (Some name) f log fs are = inr (ap names_in are.0)
+
+pub files_named : (work : Work) (contents : List (List ℕ)) (verdict : Verdict) (t : Texts) → IsAnswer work contents (prints verdict t)
+    → (names_in t.files ≡ []) ⊎ (names_in t.files ≡ files_before work)
+files_named (mlir passes) contents verdict t is = none_named t.files [] (given_files (mlir passes) contents verdict t is)
+files_named (mlir_pieces passes) contents verdict t is = none_named t.files [] (given_files (mlir_pieces passes) contents verdict t is)
+files_named (verilog passes) contents verdict t is = none_named t.files [] (given_files (verilog passes) contents verdict t is)
+files_named (generated_summary seed count) contents verdict t is = none_named t.files [] (given_files (generated_summary seed count) contents verdict t is)
+files_named (generated_verilog seed count) contents verdict t is = none_named t.files [] (given_files (generated_verilog seed count) contents verdict t is)
+files_named proof_check contents verdict t is = none_named t.files [] (given_files proof_check contents verdict t is)
+files_named (comparison left right limit proof) contents given t is = proof_named proof is.agree.formula is.log t.files is.proves
+files_named (comparison left right limit proof) contents (different values) t is = none_named t.files (proof_files proof) is.0
+files_named (comparison left right limit proof) contents (unknown log) t is = none_named t.files (proof_files proof) is.0

@@ -1,7 +1,16 @@
 -- What is made of the inputs of a comparison.
-use Rattle.std.proofs.Common.{◌≡◌, ℕ, ◌<◌, ◌≤◌, ◌-◌, suc, get_or, ◌⊎◌, inl, inr, List, [], ◌∷◌, ◌++◌, length, Result, Ok, Err, refl, sym, subst, ◌∙◌, ap, arith}
+use Rattle.std.proofs.Common.{◌≡◌, ℕ, ◌<◌, ◌≤◌, ◌-◌, suc, get_or, ◌⊎◌, inl, inr, List, [], ◌∷◌, ◌++◌, length, Option, Some, None, Result, Ok, Err, codes, refl, sym, subst, ◌∙◌, ap, arith}
 use Rattle.std.proofs.lemmas.List.{append-nil}
 use Rattle.bits_core.specs.Word.{Word}
+use Rattle.resolution_proof.specs.Formula.{Formula}
+use Rattle.resolution_proof.specs.declared.log.Step.{Step}
+use Rattle.lrat_text.specs.Written.{dimacs_text, lrat_text}
+use Rattle.lrat_text.specs.Verified.{Verified as VerifiedTexts}
+use Rattle.resolution_proof.specs.Proof.{Refutes}
+use Rattle.lec_tool.specs.Verdicts.{DoAgree}
+use Rattle.lec_tool.specs.Comparisons.{IsRefusedComparison}
+use Rattle.miter_blast.specs.declared.fail.MiterFail.{MiterFail}
+use Rattle.miter_blast.specs.declared.fail.MiterFail.TheVariants as miter
 use Rattle.ir_store.specs.Designs.{design_of}
 use Rattle.op_verifier.specs.declared.accepted.Verified.{Verified}
 use Rattle.hw_model.specs.Types.{Name}
@@ -10,10 +19,10 @@ use Rattle.command_line.specs.Line.{Work}
 use Rattle.command_line.specs.Line.Work.{comparison}
 use Rattle.lec_tool.proofs.Named.{one_each}
 use Rattle.circt_top.specs.Accepting.{Accepted, first_input}
-use Rattle.circt_top.specs.Comparing.{last_input, last_number, AreTaken, in_pair, value_lines}
+use Rattle.circt_top.specs.Comparing.{last_input, last_number, AreTaken, in_pair, value_lines, AreProofFiles}
 use Rattle.circt_top.specs.Comparing.IsRefusedPair.{first as of_first, last as of_last, pair as of_pair}
-use Rattle.circt_top.specs.Conclusions.{IsFound, IsEither}
-use Rattle.circt_top.specs.Outcome.{IsAnswer, verdict_of, Gives, GivesText}
+use Rattle.circt_top.specs.Conclusions.{IsFound, IsEither, comparison_failure}
+use Rattle.circt_top.specs.Outcome.{IsAnswer, verdict_of, files_of, Gives, GivesText}
 use Rattle.circt_top.specs.Outcome.Answer.{prints}
 use Rattle.circt_top.specs.OutcomeParts.{IsTaken, fail_in_file}
 use Rattle.circt_top.specs.declared.made.Made.{Made}
@@ -57,38 +66,69 @@ pub no_text : (work : Work) (contents : List (List ℕ)) (fail : OutcomeFail) �
 no_text work contents (Refused r) is = is
 no_text work contents NoMemory is = tt
 
-module _ (left right : Name) (limit : ℕ) (contents : List (List ℕ)) where
+module _ (left right : Name) (limit : ℕ) (proof : Option Name) (contents : List (List ℕ)) where
   -- what is refused of the first input, and of the last one
-  pub first_refused : (fail : OutcomeFail) → IsTaken (first_input contents) (Err fail) → Gives (comparison left right limit) contents (Err (fail_in_file 0 fail))
+  pub first_refused : (fail : OutcomeFail) → IsTaken (first_input contents) (Err fail) → Gives (comparison left right limit proof) contents (Err (fail_in_file 0 fail))
   first_refused (Refused r) is = of_first _ (record { refusal = r; refused = is; numbered = refl })
   first_refused NoMemory is = tt
 
   pub last_refused : (d : Design) (fail : OutcomeFail) → Accepted (first_input contents) d → IsTaken (last_input contents) (Err fail)
-      → Gives (comparison left right limit) contents (Err (fail_in_file (last_number contents) fail))
+      → Gives (comparison left right limit proof) contents (Err (fail_in_file (last_number contents) fail))
   last_refused d (Refused r) taken is = of_last _ d taken (record { refusal = r; refused = is; numbered = refl })
   last_refused d NoMemory taken is = tt
 
   pub first_fails : (bytes : List ℕ) (result : Result Verified OutcomeFail) (fail failed : OutcomeFail) → bytes ≡ first_input contents → IsTaken bytes result → result ≡ Err fail
-      → failed ≡ fail_in_file 0 fail → Gives (comparison left right limit) contents (Err failed)
+      → failed ≡ fail_in_file 0 fail → Gives (comparison left right limit proof) contents (Err failed)
   first_fails bytes result fail failed is taken err in_file =
-      subst (λ f. Gives (comparison left right limit) contents (Err f)) (sym in_file) (first_refused fail (untaken_of bytes result fail is taken err))
+      subst (λ f. Gives (comparison left right limit proof) contents (Err f)) (sym in_file) (first_refused fail (untaken_of bytes result fail is taken err))
 
   pub last_fails : (d : Design) → Accepted (first_input contents) d → (bytes : List ℕ) (result : Result Verified OutcomeFail) (fail : OutcomeFail) (number : ℕ) (failed : OutcomeFail)
       → bytes ≡ last_input contents → IsTaken bytes result → result ≡ Err fail → number ≡ last_number contents → failed ≡ fail_in_file number fail
-      → Gives (comparison left right limit) contents (Err failed)
+      → Gives (comparison left right limit proof) contents (Err failed)
   last_fails d accepted bytes result fail number failed is taken err numbered in_file =
-      subst (λ f. Gives (comparison left right limit) contents (Err f)) (sym (in_file ∙ ap (λ n. fail_in_file n fail) numbered))
+      subst (λ f. Gives (comparison left right limit proof) contents (Err f)) (sym (in_file ∙ ap (λ n. fail_in_file n fail) numbered))
       (last_refused d fail accepted (untaken_of bytes result fail is taken err))
 
   module _ (d e : Design) (taken : AreTaken contents d e) where
-    found : (finding : Finding) (text : List ℕ) → IsFound left right limit d e finding text → IsAnswer (comparison left right limit) contents (prints (verdict_of finding) text)
-    found Given text is = record { one = d; two = e; taken = taken; log = is.0.0; agree = is.0.1; is = is.1 }
-    found (Different input) text is = record { one = d; two = e; taken = taken; differ = is.0; names = is.1.0; are_names = is.1.1; as_many = one_each d left e right input is.1.0 is.0 is.1.1; is = is.1.2 }
-    found (Unknown log) text is = record { one = d; two = e; taken = taken; undecided = is.0; is = is.1 }
+    found : (finding : Finding) (files : List (Name × List ℕ)) (text : List ℕ) → IsFound left right limit proof d e finding files text
+        → IsAnswer (comparison left right limit proof) contents (prints (verdict_of finding) (record { files = files; text = text }))
+    found Given files text is = let same = is.0 in
+        record { one = d; two = e; taken = taken; log = same.0; agree = same.1; proves = same.2; is = is.1 }
+    found (Different input) files text is = let x = is.1 in (
+      is.0,
+      record { one = d; two = e; taken = taken; differ = x.0; names = x.1.0; are_names = x.1.1; as_many = one_each d left e right input x.1.0 x.0 x.1.1; is = x.1.2 },
+    )
+    found (Unknown log) files text is = let x = is.1 in (is.0, record { one = d; two = e; taken = taken; undecided = x.0; is = x.1 })
 
     -- what is concluded of the modules of the two designs is the answer
-    pub concluded : (number : ℕ) (result : Result Made OutcomeFail) → number ≡ last_number contents → IsEither left right limit d e number result
-        → Gives (comparison left right limit) contents result
-    concluded number (Ok made) is either = found made.finding made.text either
+    pub concluded : (number : ℕ) (result : Result Made OutcomeFail) → number ≡ last_number contents → IsEither left right limit proof d e number result
+        → Gives (comparison left right limit proof) contents result
+    concluded number (Ok made) is either = found made.finding (files_of made.proof) made.text either
     concluded number (Err (Refused r)) is either = of_pair r either.0 d e taken either.1 (either.2 ∙ ap (λ n. in_pair n either.0) is)
     concluded number (Err NoMemory) is either = tt
+
+-- why modules are not compared
+pub uncompared : (left right : Name) (limit : ℕ) (proof : Option Name) (d e : Design) (number : ℕ) (fail : MiterFail) → IsRefusedComparison d left e right fail
+    → IsEither left right limit proof d e number (Err (comparison_failure number fail))
+uncompared left right limit proof d e number (miter.Refused r) refused = (r, refused, refl)
+uncompared left right limit proof d e number miter.NoMemory refused = tt
+
+-- where nothing asks for a proof, none goes out
+pub no_files : (f : Formula) (log : List Step) → AreProofFiles None f log []
+no_files f log = refl
+
+-- the formula and the log as the texts of the files
+pub proof_files_of : (name formula_name : Name) (f : Formula) (log : List Step) (formula proof : List ℕ) → formula_name ≡ name ++ codes ".cnf" → formula ≡ dimacs_text f → proof ≡ lrat_text f log
+    → VerifiedTexts (dimacs_text f) proof → AreProofFiles (Some name) f log ((formula_name, formula) ∷ (name, proof) ∷ [])
+proof_files_of name formula_name f log formula proof named is written verified =
+    (rw (named, is, written) refl, subst (λ p. VerifiedTexts (dimacs_text f) p) written verified)
+
+module _ (d : Design) (left : Name) (e : Design) (right : Name) (log : List Step) (formula : Formula) (decision : (agree : DoAgree d left e right log) × (agree.formula ≡ formula)) where
+  -- the log refutes the formula of the verdict
+  pub refuted : (f : Formula) → f ≡ formula → Refutes f log
+  refuted f is = let agree = decision.0 in subst (λ g. Refutes g log) (decision.1 ∙ sym is) agree.refutes
+
+  -- modules that are the same, with the files that prove it
+  pub same_found : (limit : ℕ) (proof : Option Name) (f : Formula) (files : List (Name × List ℕ)) (text : List ℕ) → f ≡ formula → AreProofFiles proof f log files → text ≡ codes "c1 == c2\n"
+      → IsFound left right limit proof d e Given files text
+  same_found limit proof f files text is are written = ((log, decision.0, subst (λ g. AreProofFiles proof g log files) (is ∙ sym decision.1) are), written)

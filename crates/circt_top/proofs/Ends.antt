@@ -2,7 +2,7 @@
 use Rattle.diag.specs.declared.refusal.Refusal.{Refusal}
 use Rattle.circt_top.specs.Outcome.{Verdict}
 use Rattle.circt_top.specs.Inputs.{unread_end}
-use Rattle.circt_top.specs.Ends.{End, OnAnswered, OnRefused, OnReadFault, OnWriteFault, IsReadFaultOrNoMemory}
+use Rattle.circt_top.specs.Ends.{End, OnAnswered, OnRefused, OnReadFault, OnWriteFault, Unwritten, IsReadFaultOrNoMemory}
 use Rattle.circt_top.specs.Ends.End.{usage, answered, refused, read_fault, write_fault, no_memory}
 use Rattle.circt_top.specs.declared.inputs.Unread.{Unread}
 use Rattle.circt_top.specs.declared.inputs.Unread.TheVariants.{Fault, NoMemory}
@@ -38,6 +38,14 @@ write_fault_on P Q (refused r) f x = tt
 write_fault_on P Q read_fault f x = tt
 write_fault_on P Q write_fault f x = f x
 write_fault_on P Q no_memory f x = tt
+
+pub unwritten_on : (P P2 Q Q2 : Type 0) (end : End) → (P → P2) → (Q → Q2) → Unwritten end P Q → Unwritten end P2 Q2
+unwritten_on P P2 Q Q2 (usage kind) f g x = f x
+unwritten_on P P2 Q Q2 (answered verdict) f g x = tt
+unwritten_on P P2 Q Q2 (refused r) f g x = f x
+unwritten_on P P2 Q Q2 read_fault f g x = f x
+unwritten_on P P2 Q Q2 write_fault f g x = tt
+unwritten_on P P2 Q Q2 no_memory f g x = g x
 
 -- nothing is refused where an input was not read
 pub unread_refuses : (P : Refusal → Type 0) (unread : Unread) → OnRefused (unread_end unread) P

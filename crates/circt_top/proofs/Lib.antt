@@ -5,6 +5,9 @@ pub mod Completed
 mod Reported
 mod Ends
 mod Subjects
+pub mod Stops
+mod Checks
+mod Starving
 pub mod Answers
 pub mod Within
 mod Partners

@@ -8,10 +8,10 @@ use Rattle.io_edge.specs.declared.file_access.FileFail.TheVariants as fail
 use Rattle.command_line.specs.Line.{Command}
 use Rattle.circt_top.specs.Words.{line}
 use Rattle.circt_top.specs.Inputs.{Told, read_limit, HasRead, OnFault, unread_end}
-use Rattle.circt_top.specs.ReadOrder.{StopsAt, StopsFor, Misses, IsFirstUnread, WritesOnce, WritesAt, ReadsAt, ReadsFor}
+use Rattle.circt_top.specs.ReadOrder.{StopsAt, StopsFor, Misses, IsFirstUnread, WritesAt, ReadsAt, ReadsFor}
 use Rattle.circt_top.specs.Ends.{End, IsStop}
 use Rattle.circt_top.specs.Ends.End.{usage, answered, refused, read_fault, write_fault, no_memory}
-use Rattle.circt_top.specs.Answer.{Delivers, DeliversPrefix, Subject, IsSubject}
+use Rattle.circt_top.specs.Answer.{Subject, IsSubject}
 use Rattle.circt_top.specs.declared.inputs.Unread.{Unread}
 use Rattle.circt_top.specs.declared.inputs.Unread.TheVariants.{Fault, NoMemory}
 use Rattle.circt_top.proofs.Read.{read_more}
@@ -44,22 +44,12 @@ module _ {F : Type 0} (reads : F → Name → ℕ → Result (List ℕ) FileFail
         shifted (n ∷ ns) = ap (λ ms. n ∷ ms) (shifted ns)
 
 -- the line on inputs that were not read names the one that could not be
-pub unread_named : {F : Type 0} (reads : F → Name → ℕ → Result (List ℕ) FileFail → F → Type 0) (files : F → Told) (read_faults : F → Name → ℕ) (told : Told) (unread : Unread) (c : Command) (before after : F) (s : Subject)
+pub unread_named : {F : Type 0} (reads : F → Name → ℕ → Result (List ℕ) FileFail → F → Type 0) (files : F → Told) (read_faults : F → Name → ℕ) (IsUnwritten : Command → Option Name → Type 0) (told : Told) (unread : Unread) (c : Command) (before after : F) (s : Subject)
     → StopsFor reads files unread before c.inputs after → OnFault unread (λ name. In name c.inputs × HasRisen (read_faults before name) (read_faults after name)) → OnFault unread (λ name. s.input ≡ name)
-    → IsSubject (IsFirstUnread reads files read_faults before after) told (unread_end unread) c s
-unread_named reads files read_faults told (Fault name) c before after s stops fault named =
+    → IsSubject (IsFirstUnread reads files read_faults before after) IsUnwritten told (unread_end unread) c s
+unread_named reads files read_faults IsUnwritten told (Fault name) c before after s stops fault named =
     subst (λ n. In n c.inputs × IsFirstUnread reads files read_faults before after c.inputs n) (sym named) (fault.0, (fault.1, stops))
-unread_named reads files read_faults told NoMemory c before after s stops fault named = tt
-
--- what went out was written once, or not to a file
-module _ {F O : Type 0} (writes : F → Name → List ℕ → Result (Unit {0}) FileFail → F → Type 0) (files : F → Told) (puts : O → List ℕ → Bool → O → Type 0) (told : O → Option (List ℕ)) where
-  pub delivered_once : (output : Option Name) (before after : F) (old new : O) (text : List ℕ) → Delivers writes files puts told output before after old new text → WritesOnce writes output (Ok tt) before after
-  delivered_once None before after old new text h = h.2
-  delivered_once (Some name) before after old new text h = (text, h.0)
-
-  pub failed_once : (output : Option Name) (before after : F) (old new : O) (text : List ℕ) → DeliversPrefix writes files puts told output before after old new text → WritesOnce writes output (Err fail.Failed) before after
-  failed_once None before after old new text h = h.2
-  failed_once (Some name) before after old new text h = (text, h.0)
+unread_named reads files read_faults IsUnwritten told NoMemory c before after s stops fault named = tt
 
 module _ {F : Type 0} (reads : F → Name → ℕ → Result (List ℕ) FileFail → F → Type 0) (files : F → Told) (writes : F → Name → List ℕ → Result (Unit {0}) FileFail → F → Type 0) where
   -- an end at which an input was not read
@@ -68,7 +58,7 @@ module _ {F : Type 0} (reads : F → Name → ℕ → Result (List ℕ) FileFail
   unread_reads NoMemory c before after stops = inl stops
 
   -- an end of the work on inputs that were read
-  pub worked_reads : (end : End) (c : Command) (before opened after : F) (sources : List (List ℕ)) → HasRead reads files before c.inputs sources opened → WritesAt writes end c.output opened after
+  pub worked_reads : (end : End) (c : Command) (before opened after : F) (sources : List (List ℕ)) → HasRead reads files before c.inputs sources opened → WritesAt writes end c opened after
       → ReadsAt reads files writes end c before after
   worked_reads (usage kind) c before opened after sources read written = absurd written
   worked_reads (answered verdict) c before opened after sources read written = (opened, sources, read, written)

@@ -1,12 +1,15 @@
 -- The comparison of a module of the first input with a module of the last one (CIRCT: `circt-lec`).
-use Rattle.std.specs.Prelude.{◌≡◌, ◌==◌, ◌-◌, ℕ, false, cond, List, [], ◌∷◌, ◌++◌, length, codes}
+use Rattle.std.specs.Prelude.{◌≡◌, ◌==◌, ◌-◌, ℕ, false, cond, List, [], ◌∷◌, ◌++◌, length, Option, Some, None, codes}
 use Rattle.bits_core.specs.Word.{Word, number}
+use Rattle.resolution_proof.specs.Formula.{Formula}
 use Rattle.resolution_proof.specs.declared.log.Step.{Step}
 use Rattle.diag.specs.declared.refusal.Refusal.{Refusal}
 use Rattle.hw_model.specs.Types.{Name}
 use Rattle.hw_model.specs.Design.{Design}
 use Rattle.verilog_model.specs.Digits.{literal_of}
 use Rattle.verilog_model.specs.Text.{expr_text}
+use Rattle.lrat_text.specs.Written.{dimacs_text, lrat_text}
+use Rattle.lrat_text.specs.Verified.{Verified}
 use Rattle.lec_tool.specs.Comparisons.{IsComparisonRefusal}
 use Rattle.lec_tool.specs.Verdicts.{DoAgree, DoDiffer, IsUndecided}
 use Rattle.lec_tool.specs.LeafNames.{AreLeafNames}
@@ -63,13 +66,21 @@ difference_text names values = codes "c1 != c2\n" ++ value_lines names values
 
 -- ---- answers
 
+-- the files that go out where modules are the same: none; or, with the file of a proof, the formula of the comparison in one of that name
+-- and `.cnf`, and then the log that refutes it in the file itself: a verified proof over that formula
+abbrev pub AreProofFiles : Option Name → Formula → List Step → List (Name × List ℕ) → Type 0
+AreProofFiles None formula log files = files ≡ []
+AreProofFiles (Some name) formula log files =
+    (files ≡ (name ++ codes ".cnf", dimacs_text formula) ∷ (name, lrat_text formula log) ∷ []) × Verified (dimacs_text formula) (lrat_text formula log)
+
 -- the modules agree, and the text says so
-pub record IsSame (left right : Name) (contents : List (List ℕ)) (text : List ℕ) : Type 0 where
+pub record IsSame (left right : Name) (proof : Option Name) (contents : List (List ℕ)) (files : List (Name × List ℕ)) (text : List ℕ) : Type 0 where
   pub one : Design
   pub two : Design
   pub taken : AreTaken contents one two
   pub log : List Step
   pub agree : DoAgree one left two right log
+  pub proves : AreProofFiles proof agree.formula log files
   pub is : text ≡ codes "c1 == c2\n"
 
 -- the modules differ where they are given these words, and the text says so, leaf by leaf of the first one: as many names as words, each

@@ -51,11 +51,12 @@ abbrev pub OnOutOfMemory : End → Type 0 → Type 0
 OnOutOfMemory no_memory P = P
 OnOutOfMemory _ P = Unit {0}
 
--- a fact for the ends before anything is written
-abbrev pub Unwritten : End → Type 0 → Type 0
-Unwritten (answered verdict) P = Unit {0}
-Unwritten write_fault P = Unit {0}
-Unwritten _ P = P
+-- a fact for the ends before anything is written, and one for the end out of memory
+abbrev pub Unwritten : End → Type 0 → Type 0 → Type 0
+Unwritten (answered verdict) P Q = Unit {0}
+Unwritten write_fault P Q = Unit {0}
+Unwritten no_memory P Q = Q
+Unwritten _ P Q = P
 
 -- ---- which end it is
 

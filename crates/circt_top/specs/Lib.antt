@@ -7,9 +7,11 @@ pub mod Translation
 pub mod Partners
 pub mod Words
 pub mod Comparing
+pub mod Checks
 pub mod Conclusions
 pub mod Outcome
 pub mod Delivery
+pub mod Stops
 pub mod Accepting
 pub mod Reprint
 pub mod SourceBehaviour

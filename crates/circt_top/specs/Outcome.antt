@@ -1,16 +1,20 @@
 -- What is made of the texts of the inputs.
-use Rattle.std.specs.Prelude.{ℕ, List, Result, Ok, Err}
+use Rattle.std.specs.Prelude.{◌≡◌, ℕ, List, [], ◌∷◌, Option, None, Some, Result, Ok, Err}
 use Rattle.bits_core.specs.Word.{Word}
+use Rattle.hw_model.specs.Types.{Name}
 use Rattle.resolution_proof.specs.declared.log.Step.{Step}
 use Rattle.diag.specs.declared.refusal.Refusal.{Refusal}
 use Rattle.command_line.specs.Line.{Work}
-use Rattle.command_line.specs.Line.Work.{mlir, mlir_pieces, verilog, generated_summary, generated_verilog, comparison}
+use Rattle.command_line.specs.Line.Work.{mlir, mlir_pieces, verilog, generated_summary, generated_verilog, comparison, proof_check}
 use Rattle.circt_top.specs.Accepting.{IsAcceptedText, IsRefusedIn, first_input}
 use Rattle.circt_top.specs.Reprint.{IsReprint}
 use Rattle.circt_top.specs.PieceReprint.{IsReprintOfPieces, IsRefusedInPieces, IsAcceptedInPieces}
 use Rattle.circt_top.specs.Translation.{IsTranslation}
 use Rattle.circt_top.specs.Generation.{IsGenerated, IsSummary}
 use Rattle.circt_top.specs.Comparing.{IsSame, IsDifference, IsGivenUp, IsRefusedPair, CanBeCompared}
+use Rattle.circt_top.specs.Checks.{IsVerifiedProof, IsRefusedProof, CanBeVerified}
+use Rattle.circt_top.specs.declared.made.FileText.{FileText}
+use Rattle.circt_top.specs.declared.made.ProofTexts.{ProofTexts}
 use Rattle.circt_top.specs.declared.made.Made.{Made}
 use Rattle.circt_top.specs.declared.made.Finding.{Finding}
 use Rattle.circt_top.specs.declared.made.Finding.TheVariants.{Given, Different, Unknown}
@@ -24,38 +28,71 @@ pub data Verdict : Type 0 where
   different : List Word → Verdict
   unknown : List Step → Verdict
 
--- an answer: a text with a verdict, or a refusal of an input, which has the input's number
+-- what goes out: files, each a name and the text that it is given, in order, and then a text
+pub record Texts : Type 0 where
+  pub files : List (Name × List ℕ)
+  pub text : List ℕ
+
+-- a text alone
+abbrev pub alone : List ℕ → Texts
+alone text = record { files = []; text = text }
+
+-- an answer: what goes out, with a verdict, or a refusal of an input, which has the input's number
 pub data Answer : Type 0 where
-  prints : Verdict → List ℕ → Answer
+  prints : Verdict → Texts → Answer
   refuses : Refusal → Answer
+
+-- a work makes this text of inputs of these contents, and nothing else
+abbrev pub IsText : Work → List (List ℕ) → List ℕ → Type 0
+IsText (mlir passes) contents text = IsReprint passes (first_input contents) text
+IsText (mlir_pieces passes) contents text = IsReprintOfPieces passes (first_input contents) text
+IsText (verilog passes) contents text = IsTranslation passes (first_input contents) text
+IsText (generated_summary seed count) contents text = IsSummary seed count text
+IsText (generated_verilog seed count) contents text = IsGenerated seed count text
+IsText (comparison left right limit proof) contents text = ⊥
+IsText proof_check contents text = IsVerifiedProof contents text
+
+-- a work refuses inputs of these contents so
+abbrev pub IsRefusedBy : Work → List (List ℕ) → Refusal → Type 0
+IsRefusedBy (mlir passes) contents r = IsRefusedIn 0 (first_input contents) r
+IsRefusedBy (mlir_pieces passes) contents r = IsRefusedInPieces (first_input contents) r
+IsRefusedBy (verilog passes) contents r = IsRefusedIn 0 (first_input contents) r
+IsRefusedBy (generated_summary seed count) contents r = ⊥
+IsRefusedBy (generated_verilog seed count) contents r = ⊥
+IsRefusedBy (comparison left right limit proof) contents r = IsRefusedPair left right contents r
+IsRefusedBy proof_check contents r = IsRefusedProof contents r
+
+-- what a comparison finds, with what goes out: with the file of a proof, that modules are the same goes out with a formula and a proof
+abbrev pub IsFinding : Name → Name → ℕ → Option Name → List (List ℕ) → Verdict → Texts → Type 0
+IsFinding left right limit proof contents given t = IsSame left right proof contents t.files t.text
+IsFinding left right limit proof contents (different values) t = (t.files ≡ []) × IsDifference left right contents values t.text
+IsFinding left right limit proof contents (unknown log) t = (t.files ≡ []) × IsGivenUp left right limit contents log t.text
+
+-- what else is printed has no verdict but that it is given, and is a text alone
+abbrev pub IsGiven : Work → List (List ℕ) → Verdict → Texts → Type 0
+IsGiven work contents given t = (t.files ≡ []) × IsText work contents t.text
+IsGiven work contents (different values) t = ⊥
+IsGiven work contents (unknown log) t = ⊥
+
+abbrev pub IsOutput : Work → List (List ℕ) → Verdict → Texts → Type 0
+IsOutput (comparison left right limit proof) contents verdict t = IsFinding left right limit proof contents verdict t
+IsOutput work contents verdict t = IsGiven work contents verdict t
 
 -- a work answers inputs of these contents so
 abbrev pub IsAnswer : Work → List (List ℕ) → Answer → Type 0
-IsAnswer (mlir passes) contents (prints given text) = IsReprint passes (first_input contents) text
-IsAnswer (mlir passes) contents (refuses r) = IsRefusedIn 0 (first_input contents) r
-IsAnswer (mlir_pieces passes) contents (prints given text) = IsReprintOfPieces passes (first_input contents) text
-IsAnswer (mlir_pieces passes) contents (refuses r) = IsRefusedInPieces (first_input contents) r
-IsAnswer (verilog passes) contents (prints given text) = IsTranslation passes (first_input contents) text
-IsAnswer (verilog passes) contents (refuses r) = IsRefusedIn 0 (first_input contents) r
-IsAnswer (generated_summary seed count) contents (prints given text) = IsSummary seed count text
-IsAnswer (generated_summary seed count) contents (refuses r) = ⊥
-IsAnswer (generated_verilog seed count) contents (prints given text) = IsGenerated seed count text
-IsAnswer (generated_verilog seed count) contents (refuses r) = ⊥
-IsAnswer (comparison left right limit) contents (prints given text) = IsSame left right contents text
-IsAnswer (comparison left right limit) contents (prints (different values) text) = IsDifference left right contents values text
-IsAnswer (comparison left right limit) contents (prints (unknown log) text) = IsGivenUp left right limit contents log text
-IsAnswer (comparison left right limit) contents (refuses r) = IsRefusedPair left right contents r
-IsAnswer _ contents (prints (different values) text) = ⊥
-IsAnswer _ contents (prints (unknown log) text) = ⊥
+IsAnswer work contents (prints verdict t) = IsOutput work contents verdict t
+IsAnswer work contents (refuses r) = IsRefusedBy work contents r
 
--- the contents are accepted, as what the work takes; a generated design takes none; modules that are compared are there, and can be compared
+-- the contents are accepted, as what the work takes; a generated design takes none; modules that are compared are
+-- there, and can be compared; a proof is one over the formula
 abbrev pub IsAnswered : Work → List (List ℕ) → Type 0
 IsAnswered (mlir passes) contents = IsAcceptedText (first_input contents)
 IsAnswered (mlir_pieces passes) contents = IsAcceptedInPieces (first_input contents)
 IsAnswered (verilog passes) contents = IsAcceptedText (first_input contents)
 IsAnswered (generated_summary seed count) contents = Unit {0}
 IsAnswered (generated_verilog seed count) contents = Unit {0}
-IsAnswered (comparison left right limit) contents = CanBeCompared left right contents
+IsAnswered (comparison left right limit proof) contents = CanBeCompared left right contents
+IsAnswered proof_check contents = CanBeVerified contents
 
 -- what code finds
 abbrev pub verdict_of : Finding → Verdict
@@ -63,14 +100,25 @@ verdict_of Given = given
 verdict_of (Different input) = different input
 verdict_of (Unknown log) = unknown log
 
+-- the files that come with a text in code
+abbrev pub file_of : FileText → Name × List ℕ
+file_of f = (f.name.now, f.text)
+
+abbrev pub files_of : Option ProofTexts → List (Name × List ℕ)
+files_of None = []
+files_of (Some p) = file_of p.formula ∷ file_of p.proof ∷ []
+
+abbrev pub texts_of : Made → Texts
+texts_of made = record { files = files_of made.proof; text = made.text }
+
 -- what is given is the answer, or out of memory
 abbrev pub Gives : Work → List (List ℕ) → Result Made OutcomeFail → Type 0
-Gives work contents (Ok made) = IsAnswer work contents (prints (verdict_of made.finding) made.text)
+Gives work contents (Ok made) = IsAnswer work contents (prints (verdict_of made.finding) (texts_of made))
 Gives work contents (Err (Refused r)) = IsAnswer work contents (refuses r)
 Gives work contents (Err NoMemory) = Unit {0}
 
 -- the same of a text alone
 abbrev pub GivesText : Work → List (List ℕ) → Result (List ℕ) OutcomeFail → Type 0
-GivesText work contents (Ok text) = IsAnswer work contents (prints given text)
-GivesText work contents (Err (Refused r)) = IsAnswer work contents (refuses r)
+GivesText work contents (Ok text) = IsText work contents text
+GivesText work contents (Err (Refused r)) = IsRefusedBy work contents r
 GivesText work contents (Err NoMemory) = Unit {0}

@@ -28,7 +28,7 @@ pub record ArePrinted (passes : List Pass) (ps : List Piece) (text : List ℕ) :
 pub record IsReprintOfPieces (passes : List Pass) (bytes text : List ℕ) : Type 0 where
   pub short : length bytes ≤ text_limit
   pub printed : ArePrinted passes (pieces_of bytes) text
-  -- and the text, cut at its separators, is those of the pieces again
+  -- the pieces of the text, cut at its separators, are the texts of the pieces of the input
   pub cut_again : map (λ (p : Piece). p.bytes) (pieces_of text) ≡ printed.texts
 
 -- the piece is refused so, by the lines and bytes of the whole text

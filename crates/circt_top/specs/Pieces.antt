@@ -75,6 +75,7 @@ location_in_whole p location = record { line = min (location.line + line_count p
 abbrev pub op_in_whole : Piece → OpName → OpName
 op_in_whole p (op.Listed listed) = op.Listed listed
 op_in_whole p op.File = op.File
+op_in_whole p op.Check = op.Check
 op_in_whole p (op.Other at len) = op.Other (min (at + length p.before) (2 ^ 64 - 1)) len
 
 -- a refusal of a piece, as one of the whole text

@@ -1,10 +1,10 @@
 -- What is read of the inputs until each end of a run, and what is written then: nothing is read twice, and no other file.
-use Rattle.std.specs.Prelude.{◌≡◌, ℕ, List, ◌∷◌, ◌++◌, Option, Some, None, Result, Ok, Err, ◌⊎◌}
+use Rattle.std.specs.Prelude.{◌≡◌, ℕ, List, [], ◌∷◌, ◌++◌, Option, Some, None, Result, Ok, Err, ◌⊎◌}
 use Rattle.hw_model.specs.Types.{Name}
 use Rattle.io_edge.specs.declared.file_access.FileFail.{FileFail}
 use Rattle.io_edge.specs.declared.file_access.FileFail.TheVariants as fail
 use Rattle.io_edge.specs.Faults.{HasRisen}
-use Rattle.command_line.specs.Line.{Command}
+use Rattle.command_line.specs.Line.{Command, files_before}
 use Rattle.command_line.specs.declared.usage.UsageKind.{UsageKind}
 use Rattle.circt_top.specs.Words.{line, ForCommand}
 use Rattle.circt_top.specs.Inputs.{Told, read_limit, HasRead, ReadsThen}
@@ -57,14 +57,34 @@ module _ {F : Type 0} (writes : F → Name → List ℕ → Result (Unit {0}) Fi
   WritesOnce None answer before after = after ≡ before
   WritesOnce (Some name) answer before after = (text : List ℕ) × writes before name text answer after
 
+  -- each of these files was written once, in order
+  abbrev pub WritesEach : List Name → F → F → Type 0
+  WritesEach [] before after = after ≡ before
+  WritesEach (name ∷ names) before after = (text : List ℕ) × (between : F) × writes before name text (Ok tt) between × WritesEach names between after
+
+  -- the files before one were each written once, in order, and the write of that one, or of the output, the last, answered so
+  abbrev pub FailsAt : FileFail → List Name → Option Name → Option Name → F → F → Type 0
+  FailsAt failure [] output target before after = (target ≡ output) × WritesOnce output (Err failure) before after
+  FailsAt failure (name ∷ names) output target before after =
+      ((target ≡ Some name) × ((text : List ℕ) × writes before name text (Err failure) after))
+      ⊎ ((text : List ℕ) × (between : F) × writes before name text (Ok tt) between × FailsAt failure names output target between after)
+
+  -- the files that are written before the output: all that a command's work names, or none
+  abbrev pub AreFilesOf : Command → List Name → Type 0
+  AreFilesOf c names = (names ≡ []) ⊎ (names ≡ files_before c.work)
+
+  -- a file of a command, or its output, was the first that was not written
+  abbrev pub IsFirstUnwritten : FileFail → Command → F → F → Option Name → Type 0
+  IsFirstUnwritten failure c before after target = (names : List Name) × AreFilesOf c names × FailsAt failure names c.output target before after
+
   -- what is written at an end, once all inputs are read
-  abbrev pub WritesAt : End → Option Name → F → F → Type 0
-  WritesAt (usage kind) output before after = ⊥
-  WritesAt (answered verdict) output before after = WritesOnce output (Ok tt) before after
-  WritesAt (refused r) output before after = after ≡ before
-  WritesAt read_fault output before after = ⊥
-  WritesAt write_fault output before after = WritesOnce output (Err fail.Failed) before after
-  WritesAt no_memory output before after = (after ≡ before) ⊎ WritesOnce output (Err fail.NoMemory) before after
+  abbrev pub WritesAt : End → Command → F → F → Type 0
+  WritesAt (usage kind) c before after = ⊥
+  WritesAt (answered verdict) c before after = (names : List Name) × AreFilesOf c names × ((between : F) × WritesEach names before between × WritesOnce c.output (Ok tt) between after)
+  WritesAt (refused r) c before after = after ≡ before
+  WritesAt read_fault c before after = ⊥
+  WritesAt write_fault c before after = (target : Option Name) × IsFirstUnwritten fail.Failed c before after target
+  WritesAt no_memory c before after = (after ≡ before) ⊎ ((target : Option Name) × IsFirstUnwritten fail.NoMemory c before after target)
 
 -- ---- ends
 
@@ -73,12 +93,16 @@ module _ {F : Type 0} (reads : F → Name → ℕ → Result (List ℕ) FileFail
   -- memory, the first few or all; else all
   abbrev pub ReadsAt : End → Command → F → F → Type 0
   ReadsAt (usage kind) c before after = after ≡ before
-  ReadsAt (answered verdict) c before after = ReadsThen reads files before c.inputs (λ opened sources. WritesAt writes (answered verdict) c.output opened after)
-  ReadsAt (refused r) c before after = ReadsThen reads files before c.inputs (λ opened sources. WritesAt writes (refused r) c.output opened after)
+  ReadsAt (answered verdict) c before after = ReadsThen reads files before c.inputs (λ opened sources. WritesAt writes (answered verdict) c opened after)
+  ReadsAt (refused r) c before after = ReadsThen reads files before c.inputs (λ opened sources. WritesAt writes (refused r) c opened after)
   ReadsAt read_fault c before after = (name : Name) × StopsAt reads files before c.inputs name fail.Failed after
-  ReadsAt write_fault c before after = ReadsThen reads files before c.inputs (λ opened sources. WritesAt writes write_fault c.output opened after)
+  ReadsAt write_fault c before after = ReadsThen reads files before c.inputs (λ opened sources. WritesAt writes write_fault c opened after)
   ReadsAt no_memory c before after =
-      StopsFor reads files NoMemory before c.inputs after ⊎ ReadsThen reads files before c.inputs (λ opened sources. WritesAt writes no_memory c.output opened after)
+      StopsFor reads files NoMemory before c.inputs after ⊎ ReadsThen reads files before c.inputs (λ opened sources. WritesAt writes no_memory c opened after)
+
+  -- what could not be written, once all inputs were read
+  abbrev pub IsUnwrittenFrom : F → F → Command → Option Name → Type 0
+  IsUnwrittenFrom before after c target = ReadsThen reads files before c.inputs (λ opened sources. IsFirstUnwritten writes fail.Failed c opened after target)
 
   -- what is read and then written at an end for words: nothing where they are no command
   pub record ReadsFor (words : List Name) (end : End) (before after : F) : Type 0 where

@@ -34,5 +34,5 @@ pub record IsReprint (passes : List Pass) (bytes text : List ℕ) : Type 0 where
   pub said_again : IsSaidAgain made text
   -- each public module of the input has its partner in what the text says
   pub partners_again : HasPartners passes design said_again.again
-  -- and it is laid out so
+  -- the text is laid out as `ir_text` says
   pub laid_out : text ≡ ir_text made

@@ -19,7 +19,7 @@ pub record Summary : Type 0 where
 abbrev pub summary_line : List ℕ → ℕ → List ℕ
 summary_line name number = name ++ (codes " " ++ (decimal number ++ codes "\n"))
 
--- its five lines
+-- the five lines of a summary
 unfoldable pub summary_text : Summary → List ℕ
 summary_text s =
     summary_line (codes "modules") s.counts.modules
@@ -28,7 +28,7 @@ summary_text s =
     ++ (summary_line (codes "registers") s.registers
     ++ summary_line (codes "verilog bytes") s.verilog_bytes)))
 
--- those of a design
+-- how many modules, operations and public modules a design has
 abbrev pub counts_of : Design → Counts
 counts_of d = record { modules = length d; operations = operation_count d; public_modules = public_count d }
 

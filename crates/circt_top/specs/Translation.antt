@@ -23,7 +23,7 @@ pub record IsTranslated (passes : List Pass) (design : Design) (text : List ℕ)
   pub result : IsResult (exported_passes passes) design made
   pub partners : HasPartners (exported_passes passes) design made
   pub behaves : BehavesAs text made
-  -- and it is laid out so
+  -- the text is laid out as `verilog_text` says
   pub laid_out : text ≡ verilog_text made
 
 -- the text is the Verilog of what passes make of the design, and this is what they make

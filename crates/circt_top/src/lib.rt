@@ -4,6 +4,7 @@
 #![tactic(auto)]
 
 mod accepting;
+mod checking;
 mod comparing;
 mod delivery;
 mod generation;

@@ -22,13 +22,33 @@ pub enum Finding {
     Unknown(Log),
 }
 
-/// A text, and what it says.
+/// A text for the file of a name.
 #[derive(Drop)]
-pub struct Made {
+pub(crate) struct FileText<'a> {
+    /// The name.
+    pub(crate) name: &'a str,
     /// The text.
-    pub text: Text,
+    pub(crate) text: Text,
+}
+
+/// What lets others check that modules are the same.
+#[derive(Drop)]
+pub(crate) struct ProofTexts<'a> {
+    /// The formula that says that they differ, in the DIMACS CNF format.
+    pub(crate) formula: FileText<'a>,
+    /// The proof that nothing satisfies it, in the LRAT format.
+    pub(crate) proof: FileText<'a>,
+}
+
+/// A text, with what it says, and the files that go out before it.
+#[derive(Drop)]
+pub(crate) struct Made<'a> {
+    /// The files, if there are any.
+    pub(crate) proof: Option<ProofTexts<'a>>,
+    /// The text.
+    pub(crate) text: Text,
     /// What it says.
-    pub finding: Finding,
+    pub(crate) finding: Finding,
 }
 
 /// Why no text was made.

@@ -14,6 +14,7 @@ ghost use Rattle.diag.specs.declared.cause.Cause.TheVariants.{TooLong};
 ghost use Rattle.mlir_syntax.specs.Stream.{refusal};
 
 use crate::accepting::accept;
+use crate::checking::check_proof;
 use crate::comparing::compare;
 use crate::generation::{generate_verilog, summarise};
 use crate::made::{Finding, Made, OutcomeFail, first_input};
@@ -36,12 +37,12 @@ use std::alloc::AllocError;
 use std::thread::Threads;
 
 /// What a work makes of the texts of its inputs: the text that it prints with what that says, or what is refused.
-pub(crate) fn outcome<R: Threads + Sync, G: Gate + Sync>(
+pub(crate) fn outcome<'a, R: Threads + Sync, G: Gate + Sync>(
     means: &Means<'_, R, G>,
-    work: &Work,
+    work: &'a Work,
     sources: &[Text],
-) -> Result<Made, OutcomeFail>
-    ensures { Gives (work_of work.now) sources.now result }
+) -> Result<Made<'a>, OutcomeFail>
+    ensures { Gives (work_of work.entry.now) sources.now result }
 {
     let source = first_input(sources);
     match work {
@@ -51,15 +52,17 @@ pub(crate) fn outcome<R: Threads + Sync, G: Gate + Sync>(
         Work::GeneratedSummary(recipe) => without_finding(summarise(means, *recipe)),
         Work::GeneratedVerilog(recipe) => without_finding(generate_verilog(means, *recipe)),
         Work::Verdict(pair) => compare(means.alloc, pair, sources),
+        Work::ProofCheck => without_finding(check_proof(means.alloc, sources)),
     }
 }
 
 /// A text alone, as what is made.
-fn without_finding(text: Result<Text, OutcomeFail>) -> Result<Made, OutcomeFail>
+fn without_finding<'a>(text: Result<Text, OutcomeFail>) -> Result<Made<'a>, OutcomeFail>
     ensures { (work : _) (contents : List (List ℕ)) → GivesText work contents text → Gives work contents result }
 {
     match text {
         Ok(text) => Ok(Made {
+            proof: None,
             text,
             finding: Finding::Given,
         }),

@@ -120,7 +120,7 @@ const ROWS: [Row; 23] = [
         out: "module {\n}\n// -----\nmodule {\n}\n// -----\nmodule {\n}\n",
         err: "",
     },
-    // places count the lines of the whole file
+    // positions count the lines of the whole file
     Row {
         words: FLAG,
         input: "hw.module @A() {}\n// -----\n\n  foo\n",

@@ -200,8 +200,8 @@ pub fn run_long(
     let alloc = rt.alloc();
     let words = words_of(alloc, line)?;
     let mut files = files_of(alloc, input, Failing::No)?;
-    let places = Vec::from_slice(alloc, failing)?;
-    let mut out = MemorySink::new(alloc, LONG)?.failing_at(places);
+    let positions = Vec::from_slice(alloc, failing)?;
+    let mut out = MemorySink::new(alloc, LONG)?.failing_at(positions);
     let mut err = sink_of(alloc, false)?;
     let words = words.as_slice();
     let status = run_circt(rt, alloc, words, &mut files, &mut out, &mut err, &Open);

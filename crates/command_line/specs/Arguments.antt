@@ -4,12 +4,12 @@ use Rattle.clap.specs.Words.{App, Rule, Text, new_app, new_rule, with_rule, with
 use Rattle.clap.specs.declared.builder.ArgAction.TheVariants.{SetTrue}
 use Rattle.command_line.specs.declared.arguments.Argument.{Argument}
 use Rattle.command_line.specs.declared.arguments.Form.{Form}
-use Rattle.command_line.specs.declared.arguments.Form.TheVariants.{Location, Letter, Named, Flag}
+use Rattle.command_line.specs.declared.arguments.Form.TheVariants.{Positional, Letter, Named, Flag}
 use Rattle.command_line.specs.declared.commands.Subcommand.{Subcommand}
 
 -- an argument of this name that stands so among the words, asked for or not
 abbrev pub rule_by : Text → Bool → Form → Rule
-rule_by id wanted Location = record (new_rule id) { required = wanted }
+rule_by id wanted Positional = record (new_rule id) { required = wanted }
 rule_by id wanted (Letter letter) = record (new_rule id) { short = Some letter; required = wanted }
 rule_by id wanted Named = record (new_rule id) { long = Some id; required = wanted }
 rule_by id wanted Flag = record (new_rule id) { long = Some id; action = Some SetTrue; required = wanted }

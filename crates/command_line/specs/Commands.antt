@@ -54,6 +54,10 @@ first_file_rule = record file_rule { required = true }
 abbrev pub second_file_rule : Rule
 second_file_rule = new_rule (codes "second-file")
 
+-- the second FILE, which is asked for
+abbrev pub other_file_rule : Rule
+other_file_rule = record second_file_rule { required = true }
+
 -- `--c1 NAME` and `--c2 NAME`, which are asked for
 abbrev pub left_rule : Rule
 left_rule = record (new_rule (codes "c1")) { long = Some (codes "c1"); required = true }
@@ -64,6 +68,10 @@ right_rule = record (new_rule (codes "c2")) { long = Some (codes "c2"); required
 -- `--conflict-limit N`
 abbrev pub limit_rule : Rule
 limit_rule = record (new_rule (codes "conflict-limit")) { long = Some (codes "conflict-limit") }
+
+-- `--proof FILE`
+abbrev pub proof_rule : Rule
+proof_rule = record (new_rule (codes "proof")) { long = Some (codes "proof") }
 
 -- with `--workers N` and `--mlir-disable-threading`
 abbrev pub with_workers : App → App
@@ -85,9 +93,15 @@ translate_app = with_rule (with_common (new_app (codes "translate"))) export_rul
 abbrev pub gen_app : App
 gen_app = with_rule (with_rule (with_rule (with_rule (with_rule (new_app (codes "gen")) seed_rule) count_rule) verilog_rule) output_rule) workers_rule
 
--- `lec FILE [FILE] --c1 NAME --c2 NAME [--conflict-limit N]`
+-- `lec FILE [FILE] --c1 NAME --c2 NAME [--conflict-limit N] [--proof FILE]`
 abbrev pub lec_app : App
-lec_app = with_rule (with_rule (with_rule (with_rule (with_rule (new_app (codes "lec")) first_file_rule) second_file_rule) left_rule) right_rule) limit_rule
+lec_app =
+    with_rule (with_rule (with_rule (with_rule (with_rule (with_rule (new_app (codes "lec")) first_file_rule) second_file_rule) left_rule) right_rule) limit_rule)
+    proof_rule
+
+-- `check CNF PROOF`
+abbrev pub check_app : App
+check_app = with_rule (with_rule (new_app (codes "check")) first_file_rule) other_file_rule
 
 -- a command without help and version, of which a subcommand is wanted; its words are those after the program's name
 abbrev pub bare : App → App
@@ -100,10 +114,10 @@ bare a = record a {
   };
 }
 
--- the program without the command that compares
+-- the program without the commands that give verdicts
 abbrev pub designs_app : App
 designs_app = with_subcommand (with_subcommand (with_subcommand (bare (new_app (codes "circt"))) opt_app.top) translate_app.top) gen_app.top
 
 -- the program
 abbrev pub circt_app : App
-circt_app = with_subcommand designs_app lec_app.top
+circt_app = with_subcommand (with_subcommand designs_app lec_app.top) check_app.top

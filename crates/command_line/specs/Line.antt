@@ -11,24 +11,31 @@ use Rattle.command_line.specs.Normal.{normal}
 use Rattle.command_line.specs.Commands.{circt_app}
 use Rattle.command_line.specs.Numbers.{number_between}
 use Rattle.command_line.specs.declared.usage.UsageKind.{UsageKind}
-use Rattle.command_line.specs.declared.usage.UsageKind.TheVariants.{Words, TwoPipelines, NoTranslation, StdinTwice, Pipeline}
+use Rattle.command_line.specs.declared.usage.UsageKind.TheVariants.{Words, TwoPipelines, NoTranslation, Pipeline, StdinTwice}
 
 -- what is made of the inputs: MLIR text, or Verilog, of the design that passes make of the one that is read; or MLIR text of the
 -- designs that they make of those of the pieces of an input; or, without an input, a summary, or Verilog, of the design that is
 -- generated from a seed with so many modules; or a verdict on the module of a name of the first input and that of another of the last one,
--- with so many learnt clauses at most
+-- with so many learnt clauses at most, and a proof of it in the file of a name where one is given; or a verdict on the proof that is the
+-- second input, of the formula that is the first
 pub data Work : Type 0 where
   mlir : List Pass → Work
   mlir_pieces : List Pass → Work
   verilog : List Pass → Work
   generated_summary : ℕ → ℕ → Work
   generated_verilog : ℕ → ℕ → Work
-  comparison : Text → Text → ℕ → Work
+  comparison : Text → Text → ℕ → Option Text → Work
+  proof_check : Work
 
--- whether a work is a verdict on modules
-abbrev pub is_comparison : Work → Bool
-is_comparison (comparison left right limit) = true
-is_comparison _ = false
+-- the files of a proof of this name: its formula's, which is named after it, and its own
+abbrev pub proof_files : Option Text → List Text
+proof_files None = []
+proof_files (Some name) = (name ++ codes ".cnf") ∷ name ∷ []
+
+-- the files that a work writes before its output, in order, where it gives texts for them
+abbrev pub files_before : Work → List Text
+files_before (comparison left right limit proof) = proof_files proof
+files_before _ = []
 
 -- a command: the files that it reads, in order, the one that it writes, its work, and by how many workers; `-` is standard input, no file
 -- standard output
@@ -47,15 +54,16 @@ unless_dash (Some text) = cond (bytes_eq text (codes "-")) None (Some text)
 abbrev pub input_in : List Row → Text
 input_in rows = unwrap_or (first_of (codes "file") rows) (codes "-")
 
--- the second file that is read for a comparison, if one is
+-- the second file that is read for a verdict, if one is
 abbrev pub second_in : List Row → Option Text
 second_in rows = first_of (codes "second-file") rows
 
--- the files that are read for a work; what is generated is of none, and modules that are compared are of one or two
+-- the files that are read for a work; what is generated is of none, modules that are compared are of one or two, and a proof that is checked is of two
 abbrev pub inputs_in : List Row → Work → List Text
 inputs_in rows (generated_summary seed count) = []
 inputs_in rows (generated_verilog seed count) = []
-inputs_in rows (comparison left right limit) = input_in rows ∷ cons_option (second_in rows) []
+inputs_in rows (comparison left right limit proof) = input_in rows ∷ cons_option (second_in rows) []
+inputs_in rows proof_check = input_in rows ∷ cons_option (second_in rows) []
 inputs_in rows _ = input_in rows ∷ []
 
 -- the file that is written
@@ -164,10 +172,15 @@ is_stdin_twice rows = bytes_eq (input_in rows) (codes "-") && is_dash (second_in
 abbrev pub by_limit : List Row → Option ℕ → Result Work UsageKind
 by_limit rows None = Err Words
 by_limit rows (Some limit) =
-    cond (is_stdin_twice rows) (Err StdinTwice) (Ok (comparison (name_in (first_of (codes "c1") rows)) (name_in (first_of (codes "c2") rows)) limit))
+    cond (is_stdin_twice rows) (Err StdinTwice)
+    (Ok (comparison (name_in (first_of (codes "c1") rows)) (name_in (first_of (codes "c2") rows)) limit (first_of (codes "proof") rows)))
 
 abbrev pub lec_work : List Row → Result Work UsageKind
 lec_work rows = by_limit rows (limit_in (first_of (codes "conflict-limit") rows))
+
+-- the work of `check`
+abbrev pub check_work : List Row → Result Work UsageKind
+check_work rows = cond (is_stdin_twice rows) (Err StdinTwice) (Ok proof_check)
 
 -- the work of a command that takes passes: passes given in two ways are wrong first, then a missing translation, then a bad pipeline
 abbrev pub passes_work : List Pass → Text → List Row → Result Work UsageKind
@@ -180,7 +193,8 @@ passes_work offered name rows =
 abbrev pub work_in : List Pass → Text → List Row → Result Work UsageKind
 work_in offered name rows =
     cond (bytes_eq name (codes "gen")) (gen_work rows)
-    (cond (bytes_eq name (codes "lec")) (lec_work rows) (passes_work offered name rows))
+    (cond (bytes_eq name (codes "lec")) (lec_work rows)
+    (cond (bytes_eq name (codes "check")) (check_work rows) (passes_work offered name rows)))
 
 -- a work with the files that are named, and workers
 abbrev pub with_files : List Row → ℕ → Result Work UsageKind → Result Command UsageKind

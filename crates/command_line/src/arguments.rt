@@ -9,7 +9,7 @@ use std::alloc::Global;
 /// How an argument stands among the words.
 pub(crate) enum Form {
     /// Positional.
-    Location,
+    Positional,
     /// As a value after this letter with one dash.
     Letter(char),
     /// As a value after its name with two dashes.
@@ -35,7 +35,7 @@ pub(crate) fn arg_of<'a>(alloc: Global, argument: &Argument) -> Arg<'a>
 {
     let arg = Arg::new(alloc, argument.id).required(argument.is_required);
     match argument.form {
-        Form::Location => arg,
+        Form::Positional => arg,
         Form::Letter(letter) => arg.short(letter),
         Form::Named => arg.long(argument.id),
         Form::Flag => arg.long(argument.id).action(ArgAction::SetTrue),

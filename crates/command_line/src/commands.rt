@@ -20,7 +20,7 @@ pub(crate) struct Subcommand {
 // `[FILE]`
 const FILE: Argument = Argument {
     id: "file",
-    form: Form::Location,
+    form: Form::Positional,
     is_required: false,
 };
 
@@ -76,14 +76,14 @@ const EXPORT: Argument = Argument {
 // `SEED`
 const SEED: Argument = Argument {
     id: "seed",
-    form: Form::Location,
+    form: Form::Positional,
     is_required: true,
 };
 
 // `N`, the number of modules.
 const COUNT: Argument = Argument {
     id: "count",
-    form: Form::Location,
+    form: Form::Positional,
     is_required: true,
 };
 
@@ -97,14 +97,14 @@ const VERILOG: Argument = Argument {
 // `FILE`
 const FIRST_FILE: Argument = Argument {
     id: "file",
-    form: Form::Location,
+    form: Form::Positional,
     is_required: true,
 };
 
 // A second `[FILE]`.
 const SECOND_FILE: Argument = Argument {
     id: "second-file",
-    form: Form::Location,
+    form: Form::Positional,
     is_required: false,
 };
 
@@ -129,7 +129,21 @@ const LIMIT: Argument = Argument {
     is_required: false,
 };
 
-const SUBCOMMANDS: [Subcommand; 4] = [
+// A second `FILE`, which is asked for.
+const OTHER_FILE: Argument = Argument {
+    id: "second-file",
+    form: Form::Positional,
+    is_required: true,
+};
+
+// `[--proof FILE]`
+const PROOF: Argument = Argument {
+    id: "proof",
+    form: Form::Named,
+    is_required: false,
+};
+
+const SUBCOMMANDS: [Subcommand; 5] = [
     Subcommand {
         name: "opt",
         arguments: &[FILE, OUTPUT, PIPELINE, PASSES, WORKERS, THREADING, SPLIT],
@@ -144,7 +158,11 @@ const SUBCOMMANDS: [Subcommand; 4] = [
     },
     Subcommand {
         name: "lec",
-        arguments: &[FIRST_FILE, SECOND_FILE, LEFT, RIGHT, LIMIT],
+        arguments: &[FIRST_FILE, SECOND_FILE, LEFT, RIGHT, LIMIT, PROOF],
+    },
+    Subcommand {
+        name: "check",
+        arguments: &[FIRST_FILE, OTHER_FILE],
     },
 ];
 

@@ -6,11 +6,11 @@ ghost use Rattle.pass_pipeline.specs.Pipelines.{passes};
 ghost use Rattle.command_line.specs.Commands.{circt_app};
 ghost use Rattle.command_line.specs.Making.{IsMade};
 ghost use Rattle.command_line.specs.Line.Work.{verilog};
-ghost use Rattle.command_line.specs.Line.{line, parse, require_subcommand, with_files, on_passes, inputs_in, output_in, items_text, in_items, in_pipeline, in_list, passes_in, mlir_work, generated_work, gen_work, second_in, lec_work, passes_work, work_in, is_flagged, command_in};
+ghost use Rattle.command_line.specs.Line.{line, parse, require_subcommand, with_files, on_passes, inputs_in, output_in, items_text, in_items, in_pipeline, in_list, passes_in, mlir_work, generated_work, gen_work, second_in, lec_work, check_work, passes_work, work_in, is_flagged, command_in};
 ghost use Rattle.command_line.specs.Invocations.{work_of, Says, SaysWork, SaysPasses, IsFault};
 
 use crate::commands::circt_command;
-use crate::comparison::Comparison;
+use crate::comparison::{Comparison, ProofFiles};
 use crate::normalise::{WordsFail, normalise};
 use crate::recipe::Recipe;
 use crate::usage::UsageKind;
@@ -43,6 +43,8 @@ pub enum Work {
     GeneratedVerilog(Recipe),
     /// A verdict on two modules.
     Verdict(Comparison),
+    /// A verdict on the proof that is the second input, of the formula that is the first.
+    ProofCheck,
 }
 
 /// A command with its values.
@@ -85,7 +87,7 @@ impl From<AllocError> for LineFail {
 /// of 0 to 4294967295, or its number of modules none of 1 to 10000, or the conflict limit of `lec` none of
 /// 1 to 18446744073709551615; passes
 /// are given both by flags and by a pipeline, no translation is named, the text of a pipeline is
-/// none; `lec` names standard input twice.
+/// none; `lec` or `check` names standard input twice.
 pub fn read_words(alloc: Global, words: &[String], offered: &[Pass]) -> Result<Invocation, LineFail>
     ensures { Says (line offered.now (map string_bytes words.now)) result }
 {
@@ -214,6 +216,8 @@ fn work_in(
         gen_work(matches)
     } else if name == "lec" {
         lec_work(alloc, matches)
+    } else if name == "check" {
+        check_work(matches)
     } else {
         passes_work(alloc, name, matches, offered)
     }
@@ -262,31 +266,57 @@ fn lec_work(alloc: Global, matches: &ArgMatches<'_>) -> Result<Work, LineFail>
         name_in(matches, "c1"),
         name_in(matches, "c2"),
         conflict_limit,
+        value(matches, "proof"),
     ) {
         Ok(comparison) => Ok(Work::Verdict(comparison)),
         Err(_) => Err(LineFail::NoMemory),
     }
 }
 
-/// The comparison of the modules of these names.
+/// The comparison of the modules of these names, with a proof in the file of this name where one is given.
 fn comparison_of(
     alloc: Global,
     left: &str,
     right: &str,
     conflict_limit: u64,
+    proof: Option<&str>,
 ) -> Result<Comparison, AllocError>
     requires { 1 ≤ conflict_limit }
-    ensures { IfOk result (λ c. (string_bytes c.left ≡ left.now) × (string_bytes c.right ≡ right.now) × (c.conflict_limit ≡ conflict_limit)) }
+    ensures names { IfOk result (λ c. (string_bytes c.left ≡ left.now) × (string_bytes c.right ≡ right.now)) }
+    ensures limit { IfOk result (λ c. c.conflict_limit ≡ conflict_limit) }
+    ensures proof { IfOk result (λ c. option_map (λ p. string_bytes p.proof) c.proof ≡ option_map (λ s. s.now) proof.entry) }
 {
     let left = String::from_str(alloc, left)?;
-    match String::from_str(alloc, right) {
-        Ok(right) => Ok(Comparison {
+    let right = String::from_str(alloc, right)?;
+    match proof_files(alloc, proof) {
+        Ok(proof) => Ok(Comparison {
             left,
             right,
             conflict_limit,
+            proof,
         }),
         Err(error) => Err(error),
     }
+}
+
+/// The files of the proof of this name, if one is given.
+fn proof_files(alloc: Global, name: Option<&str>) -> Result<Option<ProofFiles>, AllocError>
+    ensures { IfOk result (λ files. option_map (λ p. string_bytes p.proof) files ≡ option_map (λ s. s.now) name.entry) }
+{
+    match name {
+        Some(name) => Ok(Some(ProofFiles::named(alloc, name)?)),
+        None => Ok(None),
+    }
+}
+
+/// The work of `check`.
+fn check_work(matches: &ArgMatches<'_>) -> Result<Work, LineFail>
+    ensures { SaysWork (check_work (rows_of (found_of matches.now))) result }
+{
+    if is_stdin_twice(matches) {
+        return Err(LineFail::Usage(UsageKind::StdinTwice));
+    }
+    Ok(Work::ProofCheck)
 }
 
 /// The work of a command of this name that takes passes.
@@ -404,7 +434,7 @@ fn inputs_in(
         Work::Mlir(_) | Work::MlirPieces(_) | Work::Verilog(_) => {
             inputs.push(String::from_str(alloc, input_in(matches))?)?;
         }
-        Work::Verdict(_) => {
+        Work::Verdict(_) | Work::ProofCheck => {
             inputs.push(String::from_str(alloc, input_in(matches))?)?;
             push_second(alloc, matches, &mut inputs)?;
         }

@@ -13,10 +13,10 @@ pub enum UsageKind {
     TwoPipelines,
     /// No translation is named.
     NoTranslation,
-    /// Standard input is named twice.
-    StdinTwice,
     /// The text of a pipeline is none. Offsets count its bytes.
     Pipeline(PipelineFail),
+    /// Standard input is named twice.
+    StdinTwice,
 }
 
 impl UsageKind {
@@ -29,10 +29,10 @@ impl UsageKind {
             UsageKind::Words => b"bad arguments",
             UsageKind::TwoPipelines => b"passes given in two ways",
             UsageKind::NoTranslation => b"no translation named",
-            UsageKind::StdinTwice => b"standard input named twice",
             UsageKind::Pipeline(PipelineFail::UnknownPass(_)) => b"unknown pass",
             UsageKind::Pipeline(PipelineFail::WrongPlace(_)) => b"pass in the wrong place",
             UsageKind::Pipeline(PipelineFail::BadText(_)) => b"bad pipeline text",
+            UsageKind::StdinTwice => b"standard input named twice",
         }
     }
 
@@ -41,15 +41,13 @@ impl UsageKind {
         ensures { result ≡ offset_of self }
     {
         match self {
-            UsageKind::Words
-            | UsageKind::TwoPipelines
-            | UsageKind::NoTranslation
-            | UsageKind::StdinTwice => None,
+            UsageKind::Words | UsageKind::TwoPipelines | UsageKind::NoTranslation => None,
             UsageKind::Pipeline(
                 PipelineFail::UnknownPass(at)
                 | PipelineFail::WrongPlace(at)
                 | PipelineFail::BadText(at),
             ) => Some(at),
+            UsageKind::StdinTwice => None,
         }
     }
 }

@@ -1,9 +1,9 @@
 -- The causes of refusals: their codes and their words.
 use Rattle.std.specs.Prelude.{ℕ, List, codes}
 use Rattle.diag.specs.declared.cause.Cause.{Cause}
-use Rattle.diag.specs.declared.cause.Cause.TheVariants.{BadByte, Unexpected, UnknownOperation, OutsideProfile, NumberTooLarge, TooDeep, TooLong, Redefined, Undefined, TypeMismatch, WidthLimit, ConstantRange, ExtractRange, ReplicateMultiple, ConcatWidth, Divisor, IndexWidth, Field, BitcastWidth, ClockOperand, Arity, OutputMismatch, DuplicateSymbol, UnknownModule, InstancePorts, DuplicatePort, MissingOutput, RecursiveInstance, TooLarge, CombinationalCycle, AsyncReset, NoSuchModule, PortsDiffer, RegistersDiffer, TooManyGates}
+use Rattle.diag.specs.declared.cause.Cause.TheVariants.{BadByte, Unexpected, UnknownOperation, OutsideProfile, NumberTooLarge, TooDeep, TooLong, Redefined, Undefined, TypeMismatch, WidthLimit, ConstantRange, ExtractRange, ReplicateMultiple, ConcatWidth, Divisor, IndexWidth, Field, BitcastWidth, ClockOperand, Arity, OutputMismatch, DuplicateSymbol, UnknownModule, InstancePorts, DuplicatePort, MissingOutput, RecursiveInstance, TooLarge, CombinationalCycle, AsyncReset, NoSuchModule, PortsDiffer, RegistersDiffer, TooManyGates, BadFormula, BadProofLine, UnknownClause, StepDoesNotFollow, HintOutsideProfile, NoEmptyClause}
 
--- the code of a cause: S for texts, V for designs, L for comparisons
+-- the code of a cause: S for texts, V for designs, L for comparisons, P for formulas and proofs
 unfoldable pub code_of : Cause → List ℕ
 code_of BadByte = codes "S1"
 code_of Unexpected = codes "S2"
@@ -40,6 +40,12 @@ code_of NoSuchModule = codes "L1"
 code_of PortsDiffer = codes "L2"
 code_of RegistersDiffer = codes "L3"
 code_of TooManyGates = codes "L4"
+code_of BadFormula = codes "P1"
+code_of BadProofLine = codes "P2"
+code_of UnknownClause = codes "P3"
+code_of StepDoesNotFollow = codes "P4"
+code_of HintOutsideProfile = codes "P5"
+code_of NoEmptyClause = codes "P6"
 
 -- what a cause says
 unfoldable pub text_of : Cause → List ℕ
@@ -78,3 +84,9 @@ text_of NoSuchModule = codes "no such module"
 text_of PortsDiffer = codes "ports differ"
 text_of RegistersDiffer = codes "registers differ"
 text_of TooManyGates = codes "too many gates"
+text_of BadFormula = codes "bad formula"
+text_of BadProofLine = codes "bad proof line"
+text_of UnknownClause = codes "unknown clause"
+text_of StepDoesNotFollow = codes "step does not follow"
+text_of HintOutsideProfile = codes "hint outside the profile"
+text_of NoEmptyClause = codes "no empty clause"

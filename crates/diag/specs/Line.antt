@@ -11,12 +11,14 @@ use Rattle.diag.specs.declared.refusal.OpName.TheVariants as op
 abbrev pub operation_of : OpName → List ℕ → List ℕ
 operation_of (op.Listed listed) source = name_of_listed listed
 operation_of op.File source = codes "builtin.module"
+operation_of op.Check source = codes "check"
 operation_of (op.Other at len) source = slice_range source at (at + len)
 
 -- a name that is not listed lies within the source
 abbrev pub IsWithin : OpName → List ℕ → Type 0
 IsWithin (op.Listed listed) source = ⊤
 IsWithin op.File source = ⊤
+IsWithin op.Check source = ⊤
 IsWithin (op.Other at len) source = at + len ≤ length source
 
 -- what a file is called: standard input, which the command line calls `-`, by a name of its own

@@ -2,8 +2,8 @@
 ghost use Rattle.std.specs.Prelude.{◌≡◌};
 ghost use Rattle.diag.specs.Cause.{code_of, text_of};
 
-/// The cause of a refusal. Those of text come first, then those of designs, then those of
-/// comparisons.
+/// The cause of a refusal. Those of text come first, then those of designs, those of
+/// comparisons, and those of formulas and proofs.
 #[derive(Clone, Copy, Debug, PartialEq, Eq)]
 pub enum Cause {
     /// A byte that begins no token, an unclosed string, or a bad escape.
@@ -76,6 +76,20 @@ pub enum Cause {
     RegistersDiffer,
     /// The comparison is above the limit on gates.
     TooManyGates,
+    /// A line that no formula has there, a variable above the header's, a number that is too large, or
+    /// another count of clauses than the header's.
+    BadFormula,
+    /// A line that no proof has, a number that is too large or not above those of the clauses before, both
+    /// literals of a variable, or a variable above the formula's.
+    BadProofLine,
+    /// A hint or a deletion names a clause that is not there.
+    UnknownClause,
+    /// A hint that comes before a conflict is neither false nor a unit, or there is no conflict.
+    StepDoesNotFollow,
+    /// A hint with a minus sign.
+    HintOutsideProfile,
+    /// No step of a proof has the empty clause.
+    NoEmptyClause,
 }
 
 impl Cause {
@@ -120,6 +134,12 @@ impl Cause {
             Cause::PortsDiffer => b"L2",
             Cause::RegistersDiffer => b"L3",
             Cause::TooManyGates => b"L4",
+            Cause::BadFormula => b"P1",
+            Cause::BadProofLine => b"P2",
+            Cause::UnknownClause => b"P3",
+            Cause::StepDoesNotFollow => b"P4",
+            Cause::HintOutsideProfile => b"P5",
+            Cause::NoEmptyClause => b"P6",
         }
     }
 
@@ -164,6 +184,12 @@ impl Cause {
             Cause::PortsDiffer => b"ports differ",
             Cause::RegistersDiffer => b"registers differ",
             Cause::TooManyGates => b"too many gates",
+            Cause::BadFormula => b"bad formula",
+            Cause::BadProofLine => b"bad proof line",
+            Cause::UnknownClause => b"unknown clause",
+            Cause::StepDoesNotFollow => b"step does not follow",
+            Cause::HintOutsideProfile => b"hint outside the profile",
+            Cause::NoEmptyClause => b"no empty clause",
         }
     }
 }

@@ -64,6 +64,7 @@ fn operation(op: OpName, source: &[u8]) -> &[u8]
     match op {
         OpName::Listed(listed) => listed.name(),
         OpName::File => b"builtin.module",
+        OpName::Check => b"check",
         OpName::Other { at, len } => &source[at as usize..(at + len) as usize],
     }
 }

@@ -20,6 +20,8 @@ pub enum OpName {
     Listed(Listed),
     /// The file as a whole, which is named `builtin.module`.
     File,
+    /// The check of a proof, which is named `check`.
+    Check,
     /// The name that stands in the source from `at` on, `len` bytes long.
     Other { at: u64, len: u64 },
 }

@@ -1,5 +1,5 @@
 -- From what is decided of the formula of a comparison to a verdict on the modules.
-use Rattle.std.proofs.Common.{◌≡◌, ℕ, ◌↔◌, Bool, List, length, ◌∙◌, IsTrue}
+use Rattle.std.proofs.Common.{◌≡◌, ℕ, ◌↔◌, Bool, List, length, refl, ◌∙◌, IsTrue}
 use Rattle.resolution_proof.specs.Formula.{Formula, satisfies}
 use Rattle.resolution_proof.specs.Proof.{Refutes, Exhausts}
 use Rattle.resolution_proof.specs.declared.log.Step.{Step}
@@ -16,7 +16,9 @@ use Rattle.miter_blast.specs.Comparable.{AreComparable, IsDifferenceOf, IsFormul
 use Rattle.miter_blast.specs.Cuts.{cut}
 use Rattle.miter_blast.specs.MiterForms.{MiterForm}
 use Rattle.miter_blast.specs.Comparisons.{IsComparison}
-use Rattle.lec_tool.specs.Verdicts.{IsAffordable, DoAgree, DoDiffer, IsUndecided}
+use Rattle.lec_tool.specs.Verdicts.{IsAffordable, DoAgree, DoDiffer, IsUndecided, IsVerdict, IsDecision, IsFoundOf}
+use Rattle.lec_tool.specs.declared.verdict.Verdict.{Verdict}
+use Rattle.lec_tool.specs.declared.verdict.Verdict.TheVariants.{Same, Differ, Unknown}
 use Rattle.lec_tool.proofs.CutLeaves.{leaves_cut}
 
 -- what the laws of comparisons say
@@ -35,7 +37,7 @@ module _ (laws : FormulaLaws) (d : Design) (a : Name) (e : Design) (b : Name) (d
   affordable = record { price = is.price; is_price = is.priced; within = is.within }
 
   -- where the formula is refuted, the modules agree
-  pub agreed : (log : List Step) → Refutes m.formula log → DoAgree d a e b log
+  agreed : (log : List Step) → Refutes m.formula log → DoAgree d a e b log
   agreed log refutes = record {
     comparable = is.comparable;
     affordable = affordable;
@@ -47,7 +49,7 @@ module _ (laws : FormulaLaws) (d : Design) (a : Name) (e : Design) (b : Name) (d
   }
 
   -- where an assignment satisfies it, they differ at the words that are cut of it
-  pub differing : (bits : List Bool) → IsTrue (satisfies bits m.formula) → (values : List Word) → values ≡ cut m.widths bits → DoDiffer d a e b values
+  differing : (bits : List Bool) → IsTrue (satisfies bits m.formula) → (values : List Word) → values ≡ cut m.widths bits → DoDiffer d a e b values
   differing bits holds values are =
       let was = (laws.differences d a e b d_accepted d_printable e_accepted e_printable is.comparable m.formula is.formula bits).0 holds in
       record {
@@ -63,6 +65,19 @@ module _ (laws : FormulaLaws) (d : Design) (a : Name) (e : Design) (b : Name) (d
       }
 
   -- where neither is found, that is all that is known
-  pub undecided : (budget : ℕ) (log : List Step) → Exhausts m.formula budget log → IsUndecided d a e b budget log
+  undecided : (budget : ℕ) (log : List Step) → Exhausts m.formula budget log → IsUndecided d a e b budget log
   undecided budget log exhausts =
       record { comparable = is.comparable; affordable = affordable; formula = m.formula; is_formula = is.formula; exhausts = exhausts }
+
+  -- what is found of the comparison is the verdict, about its formula
+  pub decided : (budget : ℕ) (verdict : Verdict) → IsFoundOf m budget verdict → IsDecision d a e b budget m.formula verdict
+  unfolding agreed undecided
+  decided budget (Same log) refutes = (agreed log refutes, refl)
+  decided budget (Differ values) found = (differing found.0 found.1 values found.2, is.formula)
+  decided budget (Unknown log) exhausts = (undecided budget log exhausts, refl)
+
+-- a decision has the verdict
+pub verdict_alone : (d : Design) (a : Name) (e : Design) (b : Name) (budget : ℕ) (formula : Formula) (verdict : Verdict) → IsDecision d a e b budget formula verdict → IsVerdict d a e b budget verdict
+verdict_alone d a e b budget formula (Same log) decision = decision.0
+verdict_alone d a e b budget formula (Differ values) decision = decision.0
+verdict_alone d a e b budget formula (Unknown log) decision = decision.0

@@ -27,7 +27,7 @@ input_names ps [] = []
 input_names [] (n ∷ names) = n ∷ names
 input_names (p ∷ ps) (n ∷ names) = cond p.is_output (input_names ps names) (n ∷ input_names ps names)
 
--- whether the port at a place is there, and is an output
+-- whether the port at a position is there, and is an output
 abbrev pub is_output_port : Option Port → Bool
 is_output_port None = false
 is_output_port (Some p) = p.is_output

@@ -1,6 +1,6 @@
 -- What a verdict on two modules says (CIRCT: `circt-lec`; Brand, 1993).
-use Rattle.std.specs.Prelude.{◌≡◌, ℕ, ◌≤◌, ◌↔◌, ◌++◌, List, length}
-use Rattle.resolution_proof.specs.Formula.{Formula}
+use Rattle.std.specs.Prelude.{◌≡◌, ℕ, ◌≤◌, ◌↔◌, ◌++◌, Bool, List, length, IsTrue}
+use Rattle.resolution_proof.specs.Formula.{Formula, satisfies}
 use Rattle.resolution_proof.specs.Proof.{Refutes, Exhausts}
 use Rattle.resolution_proof.specs.declared.log.Step.{Step}
 use Rattle.bits_core.specs.Word.{Word}
@@ -12,6 +12,7 @@ use Rattle.hw_model.specs.Meaning.{machine}
 use Rattle.hw_model.specs.Agreement.{input_bits, Agree}
 use Rattle.miter_blast.specs.Comparable.{AreComparable, DifferAt, IsFormulaOf}
 use Rattle.miter_blast.specs.Cuts.{cut}
+use Rattle.miter_blast.specs.MiterForms.{MiterForm}
 use Rattle.miter_blast.specs.Building.{most_gates}
 use Rattle.miter_blast.specs.Comparisons.{leaf_widths, IsPriceOf}
 use Rattle.lec_tool.specs.declared.verdict.Verdict.{Verdict}
@@ -56,3 +57,16 @@ abbrev pub IsVerdict : Design → Name → Design → Name → ℕ → Verdict �
 IsVerdict d a e b budget (Same log) = DoAgree d a e b log
 IsVerdict d a e b budget (Differ values) = DoDiffer d a e b values
 IsVerdict d a e b budget (Unknown log) = IsUndecided d a e b budget log
+
+-- the same with the formula that the verdict is about
+abbrev pub IsDecision : Design → Name → Design → Name → ℕ → Formula → Verdict → Type 0
+IsDecision d a e b budget formula (Same log) = (agree : DoAgree d a e b log) × (agree.formula ≡ formula)
+IsDecision d a e b budget formula (Differ values) = DoDiffer d a e b values × IsFormulaOf d a e b formula
+IsDecision d a e b budget formula (Unknown log) = (undecided : IsUndecided d a e b budget log) × (undecided.formula ≡ formula)
+
+-- what is found of a comparison by itself: a log that refutes its formula, what an assignment that satisfies it gives the leaves, or a
+-- log that has as many steps as the budget
+abbrev pub IsFoundOf : MiterForm → ℕ → Verdict → Type 0
+IsFoundOf m budget (Same log) = Refutes m.formula log
+IsFoundOf m budget (Differ values) = (bits : List Bool) × IsTrue (satisfies bits m.formula) × (values ≡ cut m.widths bits)
+IsFoundOf m budget (Unknown log) = Exhausts m.formula budget log

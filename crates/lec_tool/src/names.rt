@@ -90,10 +90,10 @@ fn input_names(alloc: Global, ports: &PortList, names: Vec<Text>) -> Result<Vec<
     ensures { IfOk result (λ v. v.items ≡ input_names (ports_in ports.now) names.items) }
 {
     let mut kept = Vec::with_capacity(alloc, names.len())?;
-    let mut place = 0;
+    let mut position = 0;
     for name in names {
-        push_unless(&mut kept, name, is_output(ports, place))?;
-        place += 1;
+        push_unless(&mut kept, name, is_output(ports, position))?;
+        position += 1;
     }
     Ok(kept)
 }
@@ -108,11 +108,11 @@ fn push_unless(names: &mut Vec<Text>, name: Text, is_output: bool) -> Result<(),
     Ok(())
 }
 
-// Whether the port at a place is there, and is an output.
-fn is_output(ports: &PortList, place: usize) -> bool
-    ensures { result ≡ is_output_at (ports_in ports.now) place }
+// Whether the port at a position is there, and is an output.
+fn is_output(ports: &PortList, position: usize) -> bool
+    ensures { result ≡ is_output_at (ports_in ports.now) position }
 {
-    match ports.ports.get(place) {
+    match ports.ports.get(position) {
         Some(port) => port.out,
         None => false,
     }

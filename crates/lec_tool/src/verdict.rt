@@ -2,17 +2,18 @@
 ghost use Rattle.std.specs.Prelude.{◌≤◌, IfOk, IfErr};
 ghost use Rattle.ir_store.specs.Designs.{design_of};
 ghost use Rattle.miter_blast.specs.Comparisons.{IsRefusedComparison};
-ghost use Rattle.lec_tool.specs.Verdicts.{IsVerdict};
+ghost use Rattle.lec_tool.specs.Verdicts.{IsVerdict, IsDecision, IsFoundOf};
 
 use cdcl_proof::solve::{Answer, solve};
 use miter_blast::comparing::miter;
 use miter_blast::fail::MiterFail;
 use miter_blast::input::Input;
+use miter_blast::miter::Miter;
 use miter_blast::{formulas_are_differences, unsatisfiable_formulas_agree};
 use op_verifier::Verified;
 use printing_laws::what_is_canonical_is_printable;
 use resolution_proof::log::Log;
-use std::alloc::Global;
+use std::alloc::{AllocError, Global};
 
 /// What is found of two modules.
 #[derive(Drop)]
@@ -23,6 +24,15 @@ pub enum Verdict {
     Differ(Input),
     /// So many clauses were learnt without an answer.
     Unknown(Log),
+}
+
+/// A verdict, with the comparison whose formula it is about.
+#[derive(Drop)]
+pub struct Decision {
+    /// The comparison.
+    pub comparison: Miter,
+    /// What is found of it.
+    pub verdict: Verdict,
 }
 
 /// The verdict on the module `a` of one design and the module `b` of another (CIRCT: `circt-lec`): whether they give the same
@@ -40,10 +50,43 @@ pub fn lec(
     ensures verdict { IfOk result (IsVerdict (design_of left.now.design) a.now (design_of right.now.design) b.now budget) }
     ensures refused { IfErr result (IsRefusedComparison (design_of left.now.design) a.now (design_of right.now.design) b.now) }
 {
+    match decide(alloc, left, a, right, b, budget) {
+        Ok(decision) => Ok(decision.verdict),
+        Err(fail) => Err(fail),
+    }
+}
+
+/// The same verdict, with the comparison whose formula it is about: the log refutes that formula, or has all its steps over it.
+pub fn decide(
+    alloc: Global,
+    left: &Verified,
+    a: &[u8],
+    right: &Verified,
+    b: &[u8],
+    budget: u64,
+) -> Result<Decision, MiterFail>
+    requires { 1 ≤ budget }
+    ensures decision { IfOk result (λ made. IsDecision (design_of left.now.design) a.now (design_of right.now.design) b.now budget made.comparison.formula made.verdict) }
+    ensures refused { IfErr result (IsRefusedComparison (design_of left.now.design) a.now (design_of right.now.design) b.now) }
+{
     what_is_canonical_is_printable();
     formulas_are_differences();
     unsatisfiable_formulas_agree();
     let comparison = miter(alloc, left, a, right, b)?;
+    match verdict_on(alloc, &comparison, budget) {
+        Ok(verdict) => Ok(Decision {
+            comparison,
+            verdict,
+        }),
+        Err(_) => Err(MiterFail::NoMemory),
+    }
+}
+
+// What is found of a comparison.
+fn verdict_on(alloc: Global, comparison: &Miter, budget: u64) -> Result<Verdict, AllocError>
+    requires { 1 ≤ budget }
+    ensures { IfOk result (IsFoundOf comparison.now budget) }
+{
     match solve(alloc, comparison.cnf(), budget)? {
         Answer::Refuted(log) => Ok(Verdict::Same(log)),
         Answer::Satisfied(assignment) => {

@@ -1,6 +1,8 @@
 //! Tests of `lec`: what it says of two files, and what it refuses.
+mod checks;
 mod commands;
 mod equivalence;
 mod parts;
+mod proof_files;
 mod refused;
 mod register_pairs;

@@ -1,5 +1,5 @@
 use Rattle.std.proofs.Common.{sym, subst}
-use Rattle.command_line.specs.Line.Work.{mlir, mlir_pieces, verilog, generated_summary, generated_verilog}
+use Rattle.command_line.specs.Line.Work.{mlir, mlir_pieces, verilog, generated_summary, generated_verilog, proof_check}
 use Rattle.command_line.specs.Invocations.{work_of}
 use Rattle.command_line.specs.declared.invocation.Work.{Work}
 use Rattle.circt_top.specs.Outcome.{Gives}
@@ -34,3 +34,8 @@ returns-in-GeneratedVerilog g c =
 
 pub returns-in-Verdict : goal.returns-in-Verdict
 returns-in-Verdict g c = subst (λ (w : Work). Gives (work_of w) c.args.sources.now c.compare.result) (sym c.in-Verdict.is) c.compare.ensures
+
+pub returns-in-ProofCheck : goal.returns-in-ProofCheck
+returns-in-ProofCheck g c =
+    subst (λ (w : Work). Gives (work_of w) c.args.sources.now c.without_finding-in-ProofCheck.result) (sym c.in-ProofCheck.is)
+    (c.without_finding-in-ProofCheck.ensures proof_check c.args.sources.now c.check_proof.ensures)

@@ -1,0 +1,11 @@
+pub mod Soundness
+pub mod Splitting
+pub mod Judging
+pub mod Walking
+pub mod Verifying
+pub mod Samples
+pub mod Reversal
+pub mod Logs
+pub mod PrintedWords
+pub mod WrittenLogs
+pub mod WrittenFormulas

@@ -1,0 +1,12 @@
+pub mod Lines
+pub mod Numbers
+pub mod Words
+pub mod Dimacs
+pub mod ProofLine
+pub mod Hints
+pub mod Checking
+pub mod Verified
+pub mod Written
+pub mod Stored
+pub mod Marks
+pub mod Reads
