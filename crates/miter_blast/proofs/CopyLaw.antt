@@ -19,14 +19,14 @@ use Rattle.printing_laws.specs.Printable.{Printable}
 use Rattle.edit_laws.specs.Follows.{Valid}
 use Rattle.edit_laws.proofs.ResetsKept.{find_symbol}
 use Rattle.acceptance_laws.proofs.Accepted.{accepted_fit}
-use Rattle.pass_pipeline.specs.declared.pass.Pass.TheVariants.{HwFlattenModules, HwLowerAggregates}
+use Rattle.pass_pipeline.specs.declared.pass.Pass.TheVariants.{HwFlattenModules, HwLowerAggregates, SymbolDce}
 use Rattle.aggregate_laws.specs.Scalars.{has_aggregates}
 use Rattle.pass_laws.specs.PassLaw.{leaf_types, IsAfter}
 use Rattle.pass_laws.specs.Remaining.{symbols, IsPublic}
 use Rattle.pass_laws.proofs.Composed.{after_both}
-use Rattle.inline_pass.specs.Flattening.{flat_design}
-use Rattle.inline_pass.proofs.DeadModulesGone.{without_dead_once}
-use Rattle.inline_pass.proofs.FlatteningLaw.{flattening_is_after}
+use Rattle.inline_pass.proofs.DeadModulesGone.{dce_is_after, without_dead_once}
+use Rattle.inline_pass.specs.Flattening.{IsFlattened}
+use Rattle.inline_pass.proofs.FlatteningLaw.{flattened_once, flattening_is_after}
 use Rattle.aggregate_lower.specs.Lowering.{lowered_aggregates}
 use Rattle.aggregate_lower.proofs.LoweringLaw.{lowering_is_after, none_left}
 use Rattle.miter_blast.specs.FlatCopy.{is_other, only_public, IsFlatCopy, KeepsFlat}
@@ -81,46 +81,52 @@ module _ (d e : Design) (n : ℕ) (m : Module) (accepted : IsAccepted d) (printa
   public : IsAccepted (only_public d m.symbol) × Printable (only_public d m.symbol)
   public = marked_accepted (is_other m.symbol) d accepted printable
 
-  flattened : IsAfter (HwFlattenModules ∷ []) (only_public d m.symbol) copy.0
-  flattened = flattening_is_after (only_public d m.symbol) copy.0 public.0 public.1 copy.1
+  reached : IsAfter (SymbolDce ∷ []) (only_public d m.symbol) copy.0
+  reached = dce_is_after (only_public d m.symbol) copy.0 public.0 public.1 copy.2
 
-  lowered : IsAfter (HwLowerAggregates ∷ []) copy.0 e
-  lowered = lowering_is_after copy.0 e flattened.accepted flattened.printable copy.2
+  flattened : IsAfter (HwFlattenModules ∷ []) copy.0 copy.1
+  flattened = flattening_is_after copy.0 copy.1 reached.accepted reached.printable copy.3
 
-  both : IsAfter (HwFlattenModules ∷ HwLowerAggregates ∷ []) (only_public d m.symbol) e
-  both = after_both (HwFlattenModules ∷ []) (HwLowerAggregates ∷ []) (only_public d m.symbol) copy.0 e flattened lowered
+  lowered : IsAfter (HwLowerAggregates ∷ []) copy.1 e
+  lowered = lowering_is_after copy.1 e flattened.accepted flattened.printable copy.4
+
+  all : IsAfter (SymbolDce ∷ HwFlattenModules ∷ HwLowerAggregates ∷ []) (only_public d m.symbol) e
+  all =
+      after_both (SymbolDce ∷ []) (HwFlattenModules ∷ HwLowerAggregates ∷ []) (only_public d m.symbol) copy.0 e reached
+      (after_both (HwFlattenModules ∷ []) (HwLowerAggregates ∷ []) copy.0 copy.1 e flattened lowered)
 
   one_symbol : symbols e ≡ m.symbol ∷ []
   one_symbol =
-      one_those (IsPublic (only_public d m.symbol)) m.symbol (symbols (only_public d m.symbol)) (symbols e) both.order (only_itself d m.symbol) (public_itself d m found)
+      one_those (IsPublic (only_public d m.symbol)) m.symbol (symbols (only_public d m.symbol)) (symbols e) all.order (only_itself d m.symbol) (public_itself d m found)
       (subst (In m.symbol) (sym (symbols_marked (is_other m.symbol) d)) (In-map (λ (x : Module). x.symbol) m d (In-slice_get m d n at)))
       (subst (IsOnce m.symbol) (sym (symbols_marked (is_other m.symbol) d)) (symbol_once d m.symbol (accepted_distinct d accepted)))
 
   pub copy_keeps : KeepsFlat d m e
   copy_keeps =
       let alone = one_module m.symbol e one_symbol in
-      let valid = subst Valid alone.1 (accepted_fit e both.accepted both.printable).valid in
+      let valid = subst Valid alone.1 (accepted_fit e all.accepted all.printable).valid in
       let there : find_module e m.symbol ≡ Some alone.0 = ap₂ (λ x s. find_module x s) alone.1 (sym alone.2) ∙ found_alone alone.0 in
-      let kept = both.modules m.symbol (marked (is_other m.symbol) m) alone.0 (found_public d m found) there in
+      let kept = all.modules m.symbol (marked (is_other m.symbol) m) alone.0 (found_public d m found) there in
       let lighter : weight (only_public d m.symbol) m.symbol ≤ weight d m.symbol = marked_lighter (is_other m.symbol) d m.symbol in
       let again : weight e m.symbol ≤ weight (only_public d m.symbol) m.symbol = kept.weight in
       record {
-        accepted = both.accepted;
-        printable = both.printable;
+        accepted = all.accepted;
+        printable = all.printable;
         one = alone.0;
         is_one = alone.1;
         symbol = alone.2;
         ports = kept.ports;
         flat = alone_is_flat alone.0 valid;
-        scalar = ap has_aggregates copy.2 ∙ none_left copy.0 flattened.accepted flattened.printable;
+        scalar = ap has_aggregates copy.4 ∙ none_left copy.1 flattened.accepted flattened.printable;
         registers = kept.registers ∙ ap (flat_map leaf_types) (marked_registers (is_other m.symbol) d m.symbol);
         weight = omega arith;
         same = same_then (machine d m.symbol) (machine (only_public d m.symbol) m.symbol) (machine e m.symbol)
             ((marked_follows (is_other m.symbol) d (accepted_fit d accepted printable)).same m.symbol)
-            (both.same m.symbol (public_itself d m found));
+            (all.same m.symbol (public_itself d m found));
       }
 
 -- there is one
 pub copies_once : (d : Design) (s : Name) (c e : Design) → IsFlatCopy d s c → IsFlatCopy d s e → c ≡ e
-copies_once d s c e (f, flat, is) (g, also, same) =
-    is ∙ ap lowered_aggregates (without_dead_once (flat_design (only_public d s)) f g flat also) ∙ sym same
+copies_once d s c e (g, f, without, flat, is) (h, k, also, level, same) =
+    let one : g ≡ h = without_dead_once (only_public d s) g h without also in
+    is ∙ ap lowered_aggregates (flattened_once h f k (subst (λ x. IsFlattened x f) one flat) level) ∙ sym same

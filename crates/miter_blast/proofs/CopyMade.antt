@@ -10,9 +10,11 @@ use Rattle.printing_laws.specs.Printable.{Printable}
 use Rattle.printing_laws.proofs.VerifiedDesigns.{canonical_designs_are_printable}
 use Rattle.acceptance_laws.specs.Keeps.{IsFit}
 use Rattle.acceptance_laws.proofs.Accepted.{accepted_fit}
-use Rattle.pass_pipeline.specs.declared.pass.Pass.TheVariants.{HwFlattenModules, HwLowerAggregates}
+use Rattle.pass_pipeline.specs.declared.pass.Pass.TheVariants.{HwFlattenModules, HwLowerAggregates, SymbolDce}
 use Rattle.pass_laws.specs.PassLaw.{IsAfter}
+use Rattle.inline_pass.specs.DeadModules.{IsWithoutDead}
 use Rattle.inline_pass.specs.Flattening.{IsFlattened}
+use Rattle.inline_pass.proofs.DeadModulesGone.{dce_is_after}
 use Rattle.inline_pass.proofs.FlatteningLaw.{flattening_is_after}
 use Rattle.aggregate_lower.specs.Lowering.{lowered_aggregates}
 use Rattle.aggregate_lower.proofs.LoweringLaw.{lowering_is_after}
@@ -37,9 +39,15 @@ module _ (d made : Design) (n : ℕ) (accepted : IsAccepted d) (canonical : IsCa
   pub made_fit : IsFit made
   made_fit = accepted_fit made made_shown.0 made_shown.1
 
-  module _ (f : Design) (flattened : IsFlattened made f) where
-    after_flattening : IsAfter (HwFlattenModules ∷ []) made f
-    after_flattening = flattening_is_after made f made_shown.0 made_shown.1 flattened
+  after_dead : (g : Design) → IsWithoutDead made g → IsAfter (SymbolDce ∷ []) made g
+  after_dead g without = dce_is_after made g made_shown.0 made_shown.1 without
+
+  pub reached_fit : (g : Design) → IsWithoutDead made g → IsFit g
+  reached_fit g without = let left = after_dead g without in accepted_fit g left.accepted left.printable
+
+  module _ (g f : Design) (without : IsWithoutDead made g) (flattened : IsFlattened g f) where
+    after_flattening : IsAfter (HwFlattenModules ∷ []) g f
+    after_flattening = let left = after_dead g without in flattening_is_after g f left.accepted left.printable flattened
 
     pub flattened_fit : IsFit f
     flattened_fit = accepted_fit f after_flattening.accepted after_flattening.printable

@@ -1,5 +1,5 @@
 -- The copy of one module of a design as a design of that module alone, flat and without aggregates (CIRCT documentation, "Passes":
--- `hw-flatten-modules`, `hw-lower-aggregates`).
+-- `hw-flatten-modules`, `hw-lower-aggregates`; MLIR documentation, "Passes": `symbol-dce`).
 use Rattle.std.specs.Prelude.{◌≡◌, ◌≤◌, ℕ, Bool, not, false, [], ◌∷◌, map, Some, slice_get}
 use Rattle.std.specs.List.{flat_map}
 use Rattle.hw_model.specs.Types.{Name}
@@ -13,6 +13,7 @@ use Rattle.printing_laws.specs.Printable.{Printable}
 use Rattle.aggregate_laws.specs.LeafPorts.{split_ports}
 use Rattle.aggregate_laws.specs.Scalars.{has_aggregates}
 use Rattle.pass_laws.specs.PassLaw.{leaf_types, register_types}
+use Rattle.inline_pass.specs.DeadModules.{IsWithoutDead}
 use Rattle.inline_pass.specs.Flattening.{IsFlattened}
 use Rattle.aggregate_lower.specs.Lowering.{lowered_aggregates}
 
@@ -36,9 +37,10 @@ IsOnlyPublicAt d n e = (m : Module) × (slice_get d n ≡ Some m) × (e ≡ only
 
 -- ---- copies
 
--- e is the module of the symbol s of d alone: what it instances is part of it, and its aggregates are their leaves
+-- e is the module of the symbol s of d alone: what instances do not lead to from it is gone before anything is flattened, what
+-- it instances is part of it, and its aggregates are their leaves
 abbrev pub IsFlatCopy : Design → Name → Design → Type 0
-IsFlatCopy d s e = (f : Design) × IsFlattened (only_public d s) f × (e ≡ lowered_aggregates f)
+IsFlatCopy d s e = (g : Design) × (f : Design) × IsWithoutDead (only_public d s) g × IsFlattened g f × (e ≡ lowered_aggregates f)
 
 -- e is that of the module of a number
 abbrev pub IsFlatCopyAt : Design → ℕ → Design → Type 0

@@ -5,6 +5,7 @@ ghost use Rattle.op_verifier.specs.Answered.{modules_verified};
 ghost use Rattle.miter_blast.specs.FlatCopy.{only_public, is_other, IsOnlyPublicAt, IsFlatCopyAt};
 
 use aggregate_lower::lowering::lower_aggregates;
+use inline_pass::dead_modules::symbol_dce;
 use inline_pass::flattening::flatten_modules;
 use ir_store::design::{Design, Module};
 use op_verifier::Verified;
@@ -12,12 +13,15 @@ use std::alloc::{AllocError, Global};
 
 /// A copy of the module of a number of a design of which nothing is refused, as a design of that module alone: what it
 /// instances is part of it, and each value of an aggregate type is its leaves (CIRCT documentation, "Passes":
-/// `hw-flatten-modules`, `hw-lower-aggregates`). The error comes only when out of memory.
+/// `hw-flatten-modules`, `hw-lower-aggregates`). Modules that it does not reach by instances are taken out before any is
+/// flattened (MLIR documentation, "Passes": `symbol-dce`), so they cost no more than their own text. The error comes only when
+/// out of memory.
 pub fn flat_copy(alloc: Global, verified: &Verified, number: u32) -> Result<Verified, AllocError>
     requires { number < length (modules_verified verified.now) }
     ensures { IfOk result (λ done. IsFlatCopyAt (design_of verified.now.design) number (design_of done.design)) }
 {
     let mut made = public_alone(alloc, verified, number)?;
+    symbol_dce(alloc, &mut made)?;
     flatten_modules(alloc, &mut made)?;
     lower_aggregates(alloc, &mut made)?;
     Ok(Verified::new(made))

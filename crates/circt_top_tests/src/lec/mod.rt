@@ -1,4 +1,5 @@
 //! Tests of `lec`: what it says of two files, and what it refuses.
+mod beside;
 mod checks;
 mod commands;
 mod equivalence;
