@@ -19,7 +19,7 @@ use Rattle.hw_model.specs.Sound.{body_of}
 use Rattle.hw_model.specs.SameType.{same_type}
 use Rattle.hw_model.specs.Weight.{weight_of, module_weight, weight}
 use Rattle.hw_model.proofs.Finite.{heights_from_no_cycle, no_cycle_from_heights}
-use Rattle.ir_store.specs.ResultTypes.{result_types}
+use Rattle.type_inference.specs.ResultTypes.{result_types}
 use Rattle.op_checks.specs.CountChecks.{operands_written, type_count}
 use Rattle.design_cycles.proofs.Callees.{found_at}
 use Rattle.port_checks.specs.InstanceChecks.{port_types, instance_cause}

@@ -19,7 +19,7 @@ use Rattle.hw_model.specs.Design.{Port, Op, Module, Design, find_module}
 use Rattle.hw_model.specs.Sound.{field_list}
 use Rattle.hw_model.specs.Value.{nth_type}
 use Rattle.hw_model.specs.Weight.{leaf_count, literal_leaves, literals_leaves, element_count, reset_weight, register_weight, kind_weight, body_weight, weight_of, module_weight, weight}
-use Rattle.ir_store.specs.ResultTypes.{first_type}
+use Rattle.type_inference.specs.ResultTypes.{first_type}
 use Rattle.op_checks.specs.TypeChecks.{has_bad_part, has_bad_part_among, is_outside}
 use Rattle.op_checks.specs.TypeLists.{is_no_array, is_no_int}
 use Rattle.op_checks.specs.LiteralChecks.{is_miscounted, literal_count, literal_differs, any_miscounted, are_miscounted, any_literal_differs, literals_differ}

@@ -4,7 +4,7 @@ use Rattle.std.specs.Prelude.{is_some, slice_index_or}
 use Rattle.std.proofs.lemmas.List.{length-map}
 use Rattle.hw_model.specs.Design.{Ref, Port, Op, result_type}
 use Rattle.hw_model.specs.Resets.{is_constant}
-use Rattle.ir_store.specs.ResultTypes.{result_types}
+use Rattle.type_inference.specs.ResultTypes.{result_types}
 use Rattle.op_verifier.specs.OpChecks.{settled_by, is_nonzero_kind, is_nonzero_op, alone_cause}
 use Rattle.op_verifier.specs.ResetChecks.{is_constant_op}
 use Rattle.edit_laws.specs.Edit.{retarget}

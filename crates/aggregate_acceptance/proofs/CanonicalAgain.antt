@@ -11,7 +11,7 @@ use Rattle.hw_model.specs.Kinds.StructOp.{struct_explode}
 use Rattle.hw_model.specs.Kinds.Kind.{on_struct, instance, output}
 use Rattle.hw_model.specs.Design.{Port, Op, Module, Design}
 use Rattle.hw_model.specs.Weight.{leaf_count, kind_weight, body_weight, weight_of, module_weight, weight}
-use Rattle.ir_store.specs.ResultTypes.{result_types}
+use Rattle.type_inference.specs.ResultTypes.{result_types}
 use Rattle.mlir_syntax.specs.Numerals.{count_limit}
 use Rattle.op_checks.specs.TypeChecks.{is_outside}
 use Rattle.op_checks.specs.OperandChecks.{has_other_form, has_other_operand}

@@ -12,7 +12,7 @@ use Rattle.hw_model.specs.Kinds.Kind.{extract, concat}
 use Rattle.hw_model.specs.Design.{Ref, Port, Op, result_type}
 use Rattle.hw_model.specs.Design.Ref.{result}
 use Rattle.hw_model.specs.Sound.{type_in, OpFits}
-use Rattle.ir_store.specs.ResultTypes.{with_width, joined_width}
+use Rattle.type_inference.specs.ResultTypes.{with_width, joined_width}
 use Rattle.op_checks.specs.TypeChecks.{has_bad_part}
 use Rattle.op_checks.specs.TypeLists.{known_types}
 use Rattle.aggregate_laws.specs.Leaves.{in_row, part}

@@ -17,7 +17,7 @@ use Rattle.hw_model.specs.Value.{fields, nth_type}
 use Rattle.hw_model.specs.Design.{Ref, Port, OpResult, Op, Module, find_module, instance_in, takes_enable, result_type}
 use Rattle.hw_model.specs.Design.Ref.{result}
 use Rattle.hw_model.specs.Sound.{input_types, output_types, register_types, Fits, OpFits}
-use Rattle.ir_store.specs.ResultTypes.{first_type as first_written, result_type as type_of_result, result_types as settled_types, result_count}
+use Rattle.type_inference.specs.ResultTypes.{first_type as first_written, result_type as type_of_result, result_types as settled_types, result_count}
 use Rattle.stored_form.specs.Bytes.{Each, AreBytes}
 use Rattle.stored_form.specs.Kinds.{KeepsConstants, IsWritten, IsWrittenInstance}
 use Rattle.stored_form.specs.Limits.{IsAnyType}

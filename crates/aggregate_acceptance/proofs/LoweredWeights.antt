@@ -19,7 +19,7 @@ use Rattle.hw_model.specs.Weight.{leaf_count, literal_leaves, literals_leaves, e
 use Rattle.hw_model.proofs.Weights.{weight_not_raised}
 use Rattle.edit_laws.specs.Edit.{retarget}
 use Rattle.edit_laws.proofs.Weights.{op_weight, weight-retarget}
-use Rattle.ir_store.specs.ResultTypes.{first_type as first_written, second_type as second_written, result_type as type_of_result, result_types as settled_types}
+use Rattle.type_inference.specs.ResultTypes.{first_type as first_written, second_type as second_written, result_type as type_of_result, result_types as settled_types}
 use Rattle.op_checks.specs.TypeLists.{known_types}
 use Rattle.port_checks.proofs.Least.{found_module}
 use Rattle.acceptance_laws.specs.Keeps.{IsFit}

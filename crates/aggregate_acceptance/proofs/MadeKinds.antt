@@ -15,7 +15,7 @@ use Rattle.hw_model.specs.Kinds.RegisterOp.{compreg, compreg_ce, firreg}
 use Rattle.hw_model.specs.Kinds.Kind.{icmp, extract, concat, mux, constant, wire, register, async_firreg}
 use Rattle.hw_model.specs.Design.{takes_enable}
 use Rattle.hw_model.specs.Sound.{register_types}
-use Rattle.ir_store.specs.ResultTypes.{joined_width, kept_size, as_int, result_type as type_of_result, result_types as settled_types, result_count}
+use Rattle.type_inference.specs.ResultTypes.{joined_width, kept_size, as_int, result_type as type_of_result, result_types as settled_types, result_count}
 use Rattle.stored_form.specs.Bytes.{Each}
 use Rattle.stored_form.specs.Kinds.{KeepsConstants, IsWritten}
 use Rattle.stored_form.specs.Limits.{IsInteger, IsAnyType}

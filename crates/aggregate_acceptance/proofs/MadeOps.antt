@@ -11,7 +11,7 @@ use Rattle.hw_model.specs.Opcodes.{opcode_of}
 use Rattle.hw_model.specs.Design.{Ref, Port, Op, result_type}
 use Rattle.hw_model.specs.Design.Ref.{port, result, undefined}
 use Rattle.hw_model.specs.Sound.{type_in}
-use Rattle.ir_store.specs.ResultTypes.{result_types as settled_types}
+use Rattle.type_inference.specs.ResultTypes.{result_types as settled_types}
 use Rattle.stored_form.specs.Bytes.{AreBytes}
 use Rattle.stored_form.specs.Dictionaries.{has_name}
 use Rattle.op_checks.specs.TypeLists.{known_types}

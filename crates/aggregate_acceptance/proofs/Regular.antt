@@ -16,7 +16,7 @@ use Rattle.hw_model.specs.Kinds.Kind.{variadic, sub, division, shift, extract, c
 use Rattle.hw_model.specs.Value.{nth_type}
 use Rattle.hw_model.specs.Design.{Ref, Op, Module, Design, find_module, is_instance}
 use Rattle.hw_model.specs.Sound.{type_in, field_list}
-use Rattle.ir_store.specs.ResultTypes.{first_type, second_type, joined_width, kept_size, as_int, element_of, fields_of, field_count, result_type as type_of_result, result_types as settled_types, result_count}
+use Rattle.type_inference.specs.ResultTypes.{first_type, second_type, joined_width, kept_size, as_int, element_of, fields_of, field_count, result_type as type_of_result, result_types as settled_types, result_count}
 use Rattle.op_checks.specs.TypeChecks.{is_int}
 use Rattle.op_checks.specs.TypeLists.{known_types, is_no_int, is_no_array, is_no_struct, differs, any_differs, differ, differ_in_three, settled_at}
 use Rattle.op_checks.specs.LimitChecks.{is_width_of_index, are_unequal, is_no_index, is_longer, has_wrong_index, has_unequal_widths}

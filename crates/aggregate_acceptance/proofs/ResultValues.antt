@@ -12,7 +12,7 @@ use Rattle.hw_model.specs.Kinds.StructOp.{struct_create, struct_extract, struct_
 use Rattle.hw_model.specs.Kinds.Kind.{mux, aggregate_constant, on_array, on_struct, bitcast, wire, register, async_firreg}
 use Rattle.hw_model.specs.Design.{same_name}
 use Rattle.hw_model.specs.Sound.{field_list, field_type}
-use Rattle.ir_store.specs.ResultTypes.{first_type, second_type, kept_size, as_array, array_of, joined_length, element_of, field_of, fields_of, result_type as type_of_result, result_types as settled_types}
+use Rattle.type_inference.specs.ResultTypes.{first_type, second_type, kept_size, as_array, array_of, joined_length, element_of, field_of, fields_of, result_type as type_of_result, result_types as settled_types}
 use Rattle.op_checks.specs.TypeChecks.{is_outside, has_bad_part, has_bad_part_among, is_without_fields, has_clock, has_clock_among, has_clock_part, is_clock}
 use Rattle.op_checks.specs.TypeLists.{known_types}
 use Rattle.op_checks.specs.LimitChecks.{of_type, value_types}

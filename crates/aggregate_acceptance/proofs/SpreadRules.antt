@@ -11,7 +11,7 @@ use Rattle.hw_model.specs.Kinds.Kind.{instance, output, register, async_firreg}
 use Rattle.hw_model.specs.Opcodes.{opcode_of}
 use Rattle.hw_model.specs.Design.{Ref, Port, OpResult, Op}
 use Rattle.hw_model.specs.Sound.{type_in}
-use Rattle.ir_store.specs.ResultTypes.{result_type as type_of_result, result_types as settled_types, result_count}
+use Rattle.type_inference.specs.ResultTypes.{result_type as type_of_result, result_types as settled_types, result_count}
 use Rattle.stored_form.specs.Bytes.{Each}
 use Rattle.stored_form.specs.Dictionaries.{has_name, string_keys, takes_bin, IsKeptDictionary}
 use Rattle.stored_form.specs.Kinds.{IsWrittenInstance}

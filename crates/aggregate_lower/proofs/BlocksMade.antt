@@ -14,8 +14,8 @@ use Rattle.ir_store.specs.declared.operation.Value.{Value}
 use Rattle.ir_store.specs.BodyOps.{BodyOp, op_at}
 use Rattle.ir_store.specs.Numbered.{ref_by, op_by}
 use Rattle.ir_store.proofs.BodyLemmas.{ids_once}
-use Rattle.ir_store.proofs.PositionTables.{ids_same, index_at}
-use Rattle.ir_store.proofs.ReadOps.{op_once}
+use Rattle.body_index.proofs.PositionTables.{ids_same, index_at}
+use Rattle.body_index.proofs.ReadOps.{op_once}
 use Rattle.aggregate_laws.specs.Rules.{Rule, count_by, block, blocks}
 use Rattle.lowering_rules.specs.declared.leaf_table.LeafTable.{LeafTable}
 use Rattle.lowering_rules.specs.LeafTables.{leaves_at, starts_from}

@@ -15,7 +15,7 @@ use Rattle.ir_store.specs.BodyOps.{BodyOp, as_new, ids_in}
 use Rattle.ir_store.specs.Live.{IsLive, HasLive, AreLive, AreDistinct}
 use Rattle.ir_store.specs.Numbered.{position_of, ref_by, op_by, ops_by_position}
 use Rattle.ir_store.proofs.Living.{all_none, all_with}
-use Rattle.ir_store.proofs.PositionTables.{position_found}
+use Rattle.body_index.proofs.PositionTables.{position_found}
 use Rattle.aggregate_laws.specs.Leaves.{in_row}
 use Rattle.aggregate_laws.proofs.Lists.{in_rule_at, In-in_row}
 use Rattle.lowering_rules.specs.Reading.{new_ref, new_seen}

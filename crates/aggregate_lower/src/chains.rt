@@ -9,10 +9,10 @@ ghost use Rattle.aggregate_acceptance.specs.Joins.{only_joins};
 ghost use Rattle.aggregate_lower.specs.Chains.{is_flagged, flagged, join_flags, wire_taken, CanLeave, LeaveAlike, AreThere};
 
 use body_edits::wires::carried_value;
+use body_index::position_table::ids_in;
 use hw_model::kinds::OpKind;
 use ir_store::body::Body;
 use ir_store::operation::{OpId, Value};
-use ir_store::position_table::ids_in;
 use lowering_rules::leaf_table::LeafTable;
 use std::alloc::{AllocError, Global};
 

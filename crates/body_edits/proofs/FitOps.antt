@@ -20,7 +20,7 @@ use Rattle.ir_store.specs.declared.operation.OpId.{OpId}
 use Rattle.ir_store.specs.declared.operation.Value.{Value}
 use Rattle.ir_store.specs.declared.operation.Value.TheVariants.{Port, Result, Undefined}
 use Rattle.ir_store.specs.Bodies.{ids_of, ops_of}
-use Rattle.ir_store.specs.ResultTypes.{result_types, result_type as type_of_result}
+use Rattle.type_inference.specs.ResultTypes.{result_types, result_type as type_of_result}
 use Rattle.op_checks.specs.CountChecks.{type_count}
 use Rattle.op_checks.specs.TypeChecks.{has_bad_part, is_outside}
 use Rattle.op_checks.proofs.Widths.{neither}

@@ -15,7 +15,7 @@ use Rattle.hw_model.specs.Design.{Ref, Op, Module, Design, result_type}
 use Rattle.hw_model.specs.IntegerKinds.{OfOne, OfTwo, TakesWords}
 use Rattle.hw_model.specs.Sound.{Fits, type_in}
 use Rattle.hw_model.specs.Value.{op_value}
-use Rattle.ir_store.specs.ResultTypes.{result_type as type_of_result}
+use Rattle.type_inference.specs.ResultTypes.{result_type as type_of_result}
 use Rattle.stored_form.specs.ResultTypes.{type_or_none}
 use Rattle.ir_store.specs.declared.body.Body.{Body}
 use Rattle.acceptance_laws.specs.Keeps.{IsFit}

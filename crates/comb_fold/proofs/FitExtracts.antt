@@ -6,7 +6,7 @@ use Rattle.hw_model.specs.Kinds.Kind.{extract, concat}
 use Rattle.hw_model.specs.Design.{Op}
 use Rattle.hw_model.specs.Sound.{type_in, Fits}
 use Rattle.ir_store.specs.declared.body.Body.{Body}
-use Rattle.ir_store.specs.ResultTypes.{result_type as type_of_result}
+use Rattle.type_inference.specs.ResultTypes.{result_type as type_of_result}
 use Rattle.stored_form.specs.ResultTypes.{type_or_none}
 use Rattle.op_checks.specs.CountChecks.{type_count}
 use Rattle.op_checks.specs.OperandChecks.{has_other_operand}

@@ -5,7 +5,7 @@ use Rattle.hw_model.specs.Types.{HwType}
 use Rattle.hw_model.specs.Design.{Ref, Op, Module, Design, result_type}
 use Rattle.hw_model.specs.Design.Ref.{result}
 use Rattle.hw_model.specs.Sound.{type_in}
-use Rattle.ir_store.specs.ResultTypes.{result_type as type_of_result}
+use Rattle.type_inference.specs.ResultTypes.{result_type as type_of_result}
 use Rattle.stored_form.specs.ResultTypes.{type_or_none}
 use Rattle.acceptance_laws.specs.Keeps.{IsFit}
 use Rattle.edit_laws.specs.Edit.{is_anchor}

@@ -20,7 +20,7 @@ use Rattle.hw_model.specs.Value.{op_value}
 use Rattle.edit_laws.specs.Laws.{up_ref, insert_op}
 use Rattle.acceptance_laws.specs.Keeps.{IsFit}
 use Rattle.stored_form.specs.ResultTypes.{type_or_none}
-use Rattle.ir_store.specs.ResultTypes.{result_type as type_of_result}
+use Rattle.type_inference.specs.ResultTypes.{result_type as type_of_result}
 use Rattle.ir_store.specs.declared.body.Body.{Body}
 use Rattle.ir_store.specs.declared.operation.Value.{Value}
 use Rattle.fold_laws.specs.Constants.{constant_at}

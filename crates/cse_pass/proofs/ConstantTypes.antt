@@ -8,7 +8,7 @@ use Rattle.hw_model.specs.Kinds.{Kind}
 use Rattle.hw_model.specs.Kinds.Kind.{constant, aggregate_constant}
 use Rattle.hw_model.specs.Resets.{is_constant}
 use Rattle.hw_model.specs.Design.{OpResult}
-use Rattle.ir_store.specs.ResultTypes.{first_type, result_count}
+use Rattle.type_inference.specs.ResultTypes.{first_type, result_count}
 use Rattle.op_checks.specs.CountChecks.{type_count}
 use Rattle.op_checks.specs.LimitChecks.{of_type, has_constant_outside}
 use Rattle.op_checks.specs.LiteralChecks.{is_out_of_range, is_outside_type}

@@ -13,7 +13,7 @@ use Rattle.hw_model.specs.Design.Ref.{port, result, undefined}
 use Rattle.hw_model.specs.Sound.{type_in}
 use Rattle.hw_model.specs.Value.{op_value}
 use Rattle.hw_model.specs.Weight.{kind_weight, body_weight, weight}
-use Rattle.ir_store.specs.ResultTypes.{result_type as type_of_result, result_types as types_of_results}
+use Rattle.type_inference.specs.ResultTypes.{result_type as type_of_result, result_types as types_of_results}
 use Rattle.op_verifier.specs.OpChecks.{is_nonzero_kind, settled_type, divides_by_constant}
 use Rattle.op_verifier.proofs.NoCauseAlone.{NoCauseAlone, types_of, no_cause_alone, result_number}
 use Rattle.edit_laws.specs.Edit.{retarget, result_word}

@@ -14,7 +14,7 @@ use Rattle.ir_store.specs.BodyOps.{ids_in, taken_out, IsUnused}
 use Rattle.ir_store.specs.Numbered.{position_of, ops_by_position}
 use Rattle.ir_store.proofs.BodyLemmas.{ids_once}
 use Rattle.ir_store.proofs.Numbering.{numbered-taken_out}
-use Rattle.ir_store.proofs.PositionTables.{position_found}
+use Rattle.body_index.proofs.PositionTables.{position_found}
 use Rattle.fold_laws.specs.Edits.Edit.{erased}
 use Rattle.fold_laws.specs.Unused.{is_pure, is_used, fold_unused}
 use Rattle.body_edits.specs.FitBodies.{IsOfFit}

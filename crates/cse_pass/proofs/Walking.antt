@@ -12,7 +12,7 @@ use Rattle.ir_store.specs.OperationViews.{parts_of}
 use Rattle.ir_store.specs.Orders.{live_ids}
 use Rattle.ir_store.specs.Numbered.{position_of}
 use Rattle.ir_store.proofs.BodyLemmas.{ids_once}
-use Rattle.ir_store.proofs.PositionTables.{position_found}
+use Rattle.body_index.proofs.PositionTables.{position_found}
 use Rattle.body_edits.specs.Views.{HasOp, position_in}
 
 -- what the first of the ids from a position on is

@@ -9,9 +9,9 @@ ghost use Rattle.cse_pass.specs.Trims.{trim_at, IsTrimmed};
 ghost use Rattle.cse_pass.specs.Sweeps.{IsTrimSweep};
 
 use body_edits::purity::is_pure;
+use body_index::position_table::ids_in;
 use ir_store::body::Body;
 use ir_store::operation::OpId;
-use ir_store::position_table::ids_in;
 use std::alloc::{AllocError, Global};
 
 /// Takes pure operations without uses out, until each has a use. On an error some are out.

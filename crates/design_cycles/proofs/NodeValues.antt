@@ -11,7 +11,7 @@ use Rattle.ir_store.specs.Numbered.{position_of, ref_by}
 use Rattle.design_cycles.specs.declared.layout.Layout.{Layout}
 use Rattle.design_cycles.specs.declared.layout.Span.{Span}
 use Rattle.design_cycles.specs.Local.{operands_at}
-use Rattle.ir_store.specs.PositionTables.{ArePositions}
+use Rattle.body_index.specs.PositionTables.{ArePositions}
 use Rattle.design_cycles.specs.Nodes.{AreSpans, IsLayout, node_at, node_ref, nodes_in, span_node, value_node, value_nodes, picked_values}
 
 -- ---- positions of ids

@@ -33,7 +33,7 @@ use Rattle.design_cycles.specs.Positions.{symbol_at}
 use Rattle.design_cycles.specs.declared.ops.Sort.{Sort}
 use Rattle.design_cycles.specs.declared.ops.Sort.TheVariants.{Register, Calls, Gives, Made}
 use Rattle.design_cycles.specs.Sorts.{holds}
-use Rattle.ir_store.specs.OpIndexes.{op_view}
+use Rattle.body_index.specs.OpIndexes.{op_view}
 use Rattle.design_cycles.specs.Summing.{KnowsCallees}
 use Rattle.design_cycles.proofs.Known.{found, known_inner}
 use Rattle.design_cycles.proofs.Locals.{from_In-picked, depends_wires}

@@ -6,7 +6,7 @@ use Rattle.hw_model.specs.Design.{Ref, Op, instance_in, is_register, is_output_o
 use Rattle.hw_model.specs.Design.Ref.{port, result, undefined}
 use Rattle.ir_store.specs.declared.operation.Value.{Value}
 use Rattle.ir_store.specs.declared.operation.Value.TheVariants.{Port, Result, Undefined}
-use Rattle.ir_store.specs.PositionTables.{ArePositions}
+use Rattle.body_index.specs.PositionTables.{ArePositions}
 use Rattle.ir_store.specs.Symbols.{symbol_position}
 use Rattle.design_cycles.specs.declared.layout.Span.{Span}
 use Rattle.design_cycles.specs.declared.layout.Summary.{Summary}

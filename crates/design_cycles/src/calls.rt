@@ -9,10 +9,10 @@ ghost use Rattle.design_cycles.specs.Graphs.{AreCalled};
 ghost use Rattle.design_cycles.specs.Calls.{numbers_of, call_lists, IsCalleeAt};
 
 use crate::ops::{Sort, read_ids, sort_of};
+use body_index::op_index::op_at;
 use graphs::{NodeList, mark_all};
 use ir_store::body::Body;
 use ir_store::design::Design;
-use ir_store::op_index::op_at;
 use ir_store::operation::OpId;
 use std::alloc::{AllocError, Global};
 

@@ -6,8 +6,8 @@ ghost use Rattle.ir_store.specs.Numbered.{ops_by_position};
 ghost use Rattle.design_cycles.specs.InOrder.{is_at_its_number, is_before, StandsAfter, IsInOrder, IsLate};
 
 use crate::ops::{Sort, sort_of};
+use body_index::op_index::op_at;
 use ir_store::body::Body;
-use ir_store::op_index::op_at;
 use ir_store::operation::{OpId, Value};
 
 /// Whether each operation but a register takes ports and results of operations before it alone, `ids` being those of all.

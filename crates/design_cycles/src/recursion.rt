@@ -12,10 +12,10 @@ ghost use Rattle.design_cycles.specs.Positions.{Finds, FindsOp, ids_at};
 use crate::calls::callee_of;
 use crate::hierarchy::Hierarchy;
 use crate::op_site::OpSite;
+use body_index::position_table::ids_in;
 use graphs::{NodeList, is_open, reached_from};
 use ir_store::design::Design;
 use ir_store::operation::OpId;
-use ir_store::position_table::ids_in;
 use std::alloc::{AllocError, Global};
 
 /// The first instance in text order that lies on a cycle of modules: its module is the one that it instances, or is

@@ -16,9 +16,9 @@ use crate::calls::callee_of;
 use crate::hierarchy::Hierarchy;
 use crate::ops::read_ids;
 use crate::weights::op_weight;
+use body_index::op_index::op_at;
 use ir_store::body::Body;
 use ir_store::design::{Design, PortList};
-use ir_store::op_index::op_at;
 use ir_store::operation::OpId;
 use std::alloc::{AllocError, Global};
 

@@ -21,10 +21,10 @@ use crate::layout::{Layout, Summary};
 use crate::ops::{Sort, sort_of};
 use crate::wired::{Wired, wires_of};
 use crate::wires::node_of;
+use body_index::op_index::op_at;
 use graphs::{NodeList, is_marked, likely_order, reached_from};
 use ir_store::body::Body;
 use ir_store::design::{Design, Port};
-use ir_store::op_index::op_at;
 use ir_store::operation::{OpId, Value};
 use std::alloc::{AllocError, Global};
 

@@ -8,10 +8,10 @@ ghost use Rattle.design_cycles.specs.Nodes.{bit_sets_by, sizes_in, body_lists, I
 
 use crate::layout::{Layout, Summary};
 use crate::wires::{Scope, graph_of, layout_of};
+use body_index::position_table::ids_in;
 use graphs::NodeList;
 use ir_store::design::{Design, Module};
 use ir_store::operation::OpId;
-use ir_store::position_table::ids_in;
 use std::alloc::{AllocError, Global};
 
 /// A module's operations, where their values stand, and what each value needs.

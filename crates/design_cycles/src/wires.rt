@@ -11,12 +11,12 @@ ghost use Rattle.design_cycles.specs.Nodes.{bit_sets_at as bit_sets_kept, bit_se
 
 use crate::layout::{Layout, Span, Summary};
 use crate::ops::{Sort, sort_of};
+use body_index::op_index::op_at;
+use body_index::position_table::positions_of;
 use graphs::{NodeList, empty_lists};
 use ir_store::body::Body;
 use ir_store::design::Design;
-use ir_store::op_index::op_at;
 use ir_store::operation::{OpId, Value};
-use ir_store::position_table::positions_of;
 use std::alloc::{AllocError, Global};
 
 /// A body's operations by their positions, in a design of whose modules summaries are known.

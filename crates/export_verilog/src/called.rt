@@ -12,11 +12,11 @@ ghost use Rattle.graphs.specs.Graphs.{has_mark};
 ghost use Rattle.design_cycles.specs.Graphs.{AreCalled};
 ghost use Rattle.export_verilog.specs.Called.{with_marks};
 
+use body_index::op_index::op_at;
+use body_index::position_table::ids_in;
 use hw_model::kinds::OpKind;
 use ir_store::body::Body;
 use ir_store::design::Design;
-use ir_store::op_index::op_at;
-use ir_store::position_table::ids_in;
 use std::alloc::{AllocError, Global};
 
 // Marks a module by its number, where there is one.

@@ -10,7 +10,7 @@ use Rattle.hw_model.specs.Kinds.StructOp.{struct_explode}
 use Rattle.hw_model.specs.Kinds.Kind.{on_struct, instance, output}
 use Rattle.hw_model.specs.Design.{OpResult, Op, Module, Design, instance_in, register_form, is_output_op, is_output_kind, result_type}
 use Rattle.hw_model.specs.Sound.{type_in}
-use Rattle.ir_store.specs.ResultTypes.{first_type, field_count, result_count}
+use Rattle.type_inference.specs.ResultTypes.{first_type, field_count, result_count}
 use Rattle.op_checks.specs.TypeChecks.{is_outside}
 use Rattle.op_checks.specs.TypeLists.{is_no_struct}
 use Rattle.op_checks.specs.OperandChecks.{has_other_form}

@@ -7,9 +7,9 @@ ghost use Rattle.flat_module_laws.specs.Orders.{IsOrder};
 ghost use Rattle.flat_module_gates.specs.Orders.{HasOrder, makers_of, needs_of};
 
 use crate::kinds::stands_anywhere;
+use body_index::op_index::OpIndex;
 use graphs::{NodeList, callees_first};
 use ir_store::body::Body;
-use ir_store::op_index::OpIndex;
 use ir_store::operation::Value;
 use std::alloc::{AllocError, Global};
 

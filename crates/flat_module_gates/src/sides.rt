@@ -15,10 +15,10 @@ use crate::kinds::is_output;
 use crate::registers::{Valued, content_bits, loaded_content, next_content};
 use crate::values::{Held, Words, built_words, starts_of, words_of};
 use crate::widths::{input_bits, port_words, variables};
+use body_index::op_index::OpIndex;
 use gates::circuit::Gates;
 use gates::signal::Signal;
 use ir_store::design::Module;
-use ir_store::op_index::OpIndex;
 use operation_gates::parts::concatenation;
 use std::alloc::{AllocError, Global};
 

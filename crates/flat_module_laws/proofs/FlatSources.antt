@@ -15,7 +15,7 @@ use Rattle.hw_model.proofs.Content.{body_state_same, body_state-append}
 use Rattle.hw_model.proofs.Paths.{input_ports, op_in, result_in, result_here}
 use Rattle.hw_model.proofs.Sorts.{Sort, sort_of}
 use Rattle.hw_model.proofs.Sorts.Sort.{a_register, an_instance, an_output, a_made}
-use Rattle.ir_store.specs.ResultTypes.{result_count}
+use Rattle.type_inference.specs.ResultTypes.{result_count}
 use Rattle.op_verifier.proofs.NoCauseAlone.{result_number}
 use Rattle.flat_module_laws.specs.Sides.{flat_nets, side_of, IsPlain, IsFlat}
 use Rattle.flat_module_laws.proofs.FlatBodies.{no_callee, no_instance, no_own_cause}

@@ -14,7 +14,7 @@ use Rattle.hw_model.specs.Kinds.Kind.{shift, aggregate_constant, on_array, on_st
 use Rattle.hw_model.specs.Design.{RegisterForm, instance_in, register_form, is_output_kind}
 use Rattle.hw_model.specs.Sound.{Fits}
 use Rattle.aggregate_laws.specs.Aggregates.{is_scalar}
-use Rattle.ir_store.specs.ResultTypes.{first_type, result_type, result_types}
+use Rattle.type_inference.specs.ResultTypes.{first_type, result_type, result_types}
 use Rattle.op_checks.specs.TypeChecks.{has_bad_part, is_outside}
 use Rattle.op_checks.specs.TypeLists.{known_types}
 use Rattle.op_checks.specs.LiteralChecks.{literal_differs}

@@ -13,7 +13,7 @@ use Rattle.hw_model.specs.Sound.{HasWidth, HaveWidths}
 use Rattle.hw_model.specs.Value.{op_value}
 use Rattle.hw_model.specs.Weight.{kind_weight}
 use Rattle.hw_model.proofs.Widths.{fits_width}
-use Rattle.ir_store.specs.ResultTypes.{first_type, result_type as type_of_result}
+use Rattle.type_inference.specs.ResultTypes.{first_type, result_type as type_of_result}
 use Rattle.stored_form.specs.ResultTypes.{type_or_none}
 use Rattle.op_checks.specs.CountChecks.{operands_written, type_count}
 use Rattle.op_checks.specs.LimitChecks.{has_wide_concat}

@@ -14,7 +14,7 @@ use Rattle.hw_model.specs.Design.Ref.{result}
 use Rattle.hw_model.specs.Sound.{HasWidth, type_in, Fits, OpFits}
 use Rattle.hw_model.specs.Value.{variadic_value, op_value}
 use Rattle.hw_model.specs.Weight.{kind_weight}
-use Rattle.ir_store.specs.ResultTypes.{result_type as type_of_result, result_types}
+use Rattle.type_inference.specs.ResultTypes.{result_type as type_of_result, result_types}
 use Rattle.op_checks.specs.CountChecks.{operands_written, type_count}
 use Rattle.op_checks.specs.OwnChecks.{own_cause}
 use Rattle.op_checks.proofs.NoOwnCause.{NoOwnCause}

@@ -6,7 +6,7 @@ use Rattle.std.proofs.lemmas.Bool.Decides.{nat_tests}
 use Rattle.wiring.specs.Lists.{total}
 use Rattle.hw_model.specs.Types.{HwType, width}
 use Rattle.hw_model.specs.Types.HwType.{int, clock, array, struct}
-use Rattle.ir_store.specs.ResultTypes.{first_type, second_type, joined_width, kept_size, as_int}
+use Rattle.type_inference.specs.ResultTypes.{first_type, second_type, joined_width, kept_size, as_int}
 use Rattle.stored_form.specs.ResultTypes.{type_or_none}
 use Rattle.op_checks.specs.LimitChecks.{is_too_wide}
 use Rattle.op_checks.specs.TypeChecks.{is_int, is_outside}

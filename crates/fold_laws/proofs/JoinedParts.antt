@@ -17,7 +17,7 @@ use Rattle.hw_model.specs.Kinds.Kind.{extract, concat}
 use Rattle.hw_model.specs.Design.{Ref, Op}
 use Rattle.hw_model.specs.Design.Ref.{port, result, undefined}
 use Rattle.hw_model.specs.Value.{concat_words, nth_type, op_value}
-use Rattle.ir_store.specs.ResultTypes.{second_type, result_type as type_of_result}
+use Rattle.type_inference.specs.ResultTypes.{second_type, result_type as type_of_result}
 use Rattle.stored_form.specs.ResultTypes.{type_or_none}
 use Rattle.op_checks.specs.CountChecks.{type_count}
 use Rattle.op_checks.specs.OperandChecks.{has_other_form, has_other_operand}

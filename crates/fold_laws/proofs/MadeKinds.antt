@@ -7,7 +7,7 @@ use Rattle.hw_model.specs.Kinds.StructOp.{struct_explode}
 use Rattle.hw_model.specs.Kinds.Kind.{constant, aggregate_constant, on_struct, instance, output, register, async_firreg}
 use Rattle.hw_model.specs.Design.{instance_in, register_form, is_output_kind}
 use Rattle.hw_model.specs.Resets.{is_constant}
-use Rattle.ir_store.specs.ResultTypes.{result_type as type_of_result, result_types}
+use Rattle.type_inference.specs.ResultTypes.{result_type as type_of_result, result_types}
 use Rattle.op_verifier.specs.OpChecks.{is_nonzero_kind}
 
 -- whether a kind is such a one

@@ -10,7 +10,7 @@ use Rattle.hw_model.specs.Design.{Ref, Op, Module, Design, result_type}
 use Rattle.hw_model.specs.Design.Ref.{result}
 use Rattle.hw_model.specs.Sound.{type_in}
 use Rattle.hw_model.specs.Value.{op_value}
-use Rattle.ir_store.specs.ResultTypes.{result_type as type_of_result}
+use Rattle.type_inference.specs.ResultTypes.{result_type as type_of_result}
 use Rattle.stored_form.specs.ResultTypes.{type_or_none}
 use Rattle.edit_laws.specs.Edit.{result_word, word_of, HoldsBut}
 use Rattle.edit_laws.specs.Falls.{LocalHeight}

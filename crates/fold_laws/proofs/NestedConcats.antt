@@ -18,7 +18,7 @@ use Rattle.hw_model.specs.Design.Ref.{result, undefined}
 use Rattle.hw_model.specs.Sound.{type_in, Fits}
 use Rattle.hw_model.specs.Value.{concat_words, op_value}
 use Rattle.hw_model.specs.Weight.{kind_weight}
-use Rattle.ir_store.specs.ResultTypes.{as_int, joined_width, result_type as type_of_result, result_types, result_count}
+use Rattle.type_inference.specs.ResultTypes.{as_int, joined_width, result_type as type_of_result, result_types, result_count}
 use Rattle.stored_form.specs.Limits.{IsAnyType}
 use Rattle.stored_form.specs.ResultTypes.{type_or_none}
 use Rattle.op_checks.specs.CountChecks.{operands_written, operand_count, type_count, has_miscounted_parts}

@@ -19,7 +19,7 @@ use Rattle.hw_model.specs.Design.Ref.{result, undefined}
 use Rattle.hw_model.specs.Sound.{type_in}
 use Rattle.hw_model.specs.Value.{nth_type, op_value}
 use Rattle.hw_model.specs.Weight.{kind_weight}
-use Rattle.ir_store.specs.ResultTypes.{second_type, result_type as type_of_result, result_types, result_count}
+use Rattle.type_inference.specs.ResultTypes.{second_type, result_type as type_of_result, result_types, result_count}
 use Rattle.stored_form.specs.Bytes.{Each}
 use Rattle.stored_form.specs.Limits.{IsAnyType}
 use Rattle.stored_form.specs.ResultTypes.{type_or_none}

@@ -15,7 +15,7 @@ use Rattle.hw_model.specs.Design.Ref.{result, undefined}
 use Rattle.hw_model.specs.Sound.{type_in, Fits}
 use Rattle.hw_model.specs.Value.{variadic_value, op_value}
 use Rattle.hw_model.specs.Weight.{kind_weight}
-use Rattle.ir_store.specs.ResultTypes.{result_type as type_of_result, result_types}
+use Rattle.type_inference.specs.ResultTypes.{result_type as type_of_result, result_types}
 use Rattle.stored_form.specs.ResultTypes.{type_or_none}
 use Rattle.op_checks.specs.CountChecks.{operands_written, type_count}
 use Rattle.op_checks.specs.OwnChecks.{own_cause}

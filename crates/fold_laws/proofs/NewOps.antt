@@ -8,7 +8,7 @@ use Rattle.hw_model.specs.Opcodes.{opcode_of}
 use Rattle.hw_model.specs.Types.{HwType}
 use Rattle.hw_model.specs.Kinds.{Kind}
 use Rattle.hw_model.specs.Design.{Ref, Port, Op}
-use Rattle.ir_store.specs.ResultTypes.{result_type as type_of_result, result_count}
+use Rattle.type_inference.specs.ResultTypes.{result_type as type_of_result, result_count}
 use Rattle.stored_form.specs.Bytes.{Each}
 use Rattle.stored_form.specs.Dictionaries.{takes_bin, string_keys, IsKeptDictionary}
 use Rattle.stored_form.specs.Kinds.{KeepsConstants, IsWritten}

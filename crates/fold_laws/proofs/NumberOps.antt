@@ -6,7 +6,7 @@ use Rattle.diag.specs.declared.cause.Cause.TheVariants as cause
 use Rattle.hw_model.specs.Equality.{number_self}
 use Rattle.hw_model.specs.Types.HwType.{int}
 use Rattle.hw_model.specs.Design.{Location, Port, Op}
-use Rattle.ir_store.specs.ResultTypes.{result_type, result_types, result_count}
+use Rattle.type_inference.specs.ResultTypes.{result_type, result_types, result_count}
 use Rattle.op_checks.specs.TypeChecks.{is_outside}
 use Rattle.op_checks.specs.LiteralChecks.{is_out_of_range}
 use Rattle.op_checks.specs.CountChecks.{operands_written, operand_count, type_count, has_miscounted_parts, has_wrong_operands, has_wrong_results, has_wrong_count}

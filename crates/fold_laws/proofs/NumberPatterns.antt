@@ -20,7 +20,7 @@ use Rattle.hw_model.specs.Kinds.Kind.{variadic, sub, division, shift, icmp}
 use Rattle.hw_model.specs.Design.{Ref, Op}
 use Rattle.hw_model.specs.Value.{compare, division_value, shift_value}
 use Rattle.ir_store.specs.Positions.{same_ref}
-use Rattle.ir_store.specs.ResultTypes.{result_type as type_of_result}
+use Rattle.type_inference.specs.ResultTypes.{result_type as type_of_result}
 use Rattle.op_checks.specs.TypeChecks.{is_outside}
 use Rattle.op_checks.specs.CountChecks.{type_count}
 use Rattle.op_checks.specs.OperandChecks.{has_other_form}

@@ -13,7 +13,7 @@ use Rattle.hw_model.specs.Design.{Ref, OpResult, Op, Module, Design, find_module
 use Rattle.hw_model.specs.Design.Ref.{result}
 use Rattle.hw_model.specs.Sound.{HasWidth, type_in, Fits}
 use Rattle.hw_model.specs.Value.{op_value}
-use Rattle.ir_store.specs.ResultTypes.{result_type as type_of_result}
+use Rattle.type_inference.specs.ResultTypes.{result_type as type_of_result}
 use Rattle.stored_form.specs.ResultTypes.{type_or_none}
 use Rattle.op_checks.specs.CountChecks.{operands_written, type_count}
 use Rattle.op_checks.specs.LimitChecks.{has_wide_concat}

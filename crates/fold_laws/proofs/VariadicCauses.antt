@@ -7,7 +7,7 @@ use Rattle.hw_model.specs.Equality.{number_self}
 use Rattle.hw_model.specs.Types.{HwType}
 use Rattle.hw_model.specs.Kinds.{Variadic}
 use Rattle.hw_model.specs.Kinds.Kind.{variadic}
-use Rattle.ir_store.specs.ResultTypes.{first_type, result_type as type_of_result, result_types, result_count}
+use Rattle.type_inference.specs.ResultTypes.{first_type, result_type as type_of_result, result_types, result_count}
 use Rattle.op_checks.specs.TypeLists.{known_types, differs, any_differs, differ}
 use Rattle.op_checks.specs.TypeChecks.{is_int, is_outside, has_bad_field, has_clock_part, is_clock}
 use Rattle.op_checks.specs.LimitChecks.{of_type, has_type_outside, has_constant_outside, has_extract_outside, has_broken_copy, has_wide_concat, has_unknown_divisor, has_wrong_index, has_wrong_field}

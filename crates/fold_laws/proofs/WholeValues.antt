@@ -12,7 +12,7 @@ use Rattle.hw_model.specs.Types.HwType.{int, clock, array, struct}
 use Rattle.hw_model.specs.Kinds.{Kind}
 use Rattle.hw_model.specs.Kinds.Kind.{extract, concat, replicate, bitcast}
 use Rattle.hw_model.specs.Design.{Ref, Op}
-use Rattle.ir_store.specs.ResultTypes.{result_type as type_of_result, kept_size}
+use Rattle.type_inference.specs.ResultTypes.{result_type as type_of_result, kept_size}
 use Rattle.stored_form.specs.ResultTypes.{type_or_none}
 use Rattle.op_checks.specs.CountChecks.{type_count}
 use Rattle.op_checks.specs.OperandChecks.{has_other_form, has_other_operand}

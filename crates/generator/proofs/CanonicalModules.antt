@@ -10,7 +10,7 @@ use Rattle.hw_model.specs.Kinds.Variadic.{xor}
 use Rattle.hw_model.specs.Kinds.Kind.{variadic, constant}
 use Rattle.hw_model.specs.Design.{Ref}
 use Rattle.hw_model.specs.Design.Ref.{port, result}
-use Rattle.ir_store.specs.ResultTypes.{result_type, result_types}
+use Rattle.type_inference.specs.ResultTypes.{result_type, result_types}
 use Rattle.stored_form.specs.Bytes.{Each, AreBytes}
 use Rattle.stored_form.specs.Canonical.{IsCanonicalOp, IsCanonicalPort, IsCanonicalModule, IsCanonical}
 use Rattle.stored_form.specs.Dictionaries.{IsKeptDictionary}

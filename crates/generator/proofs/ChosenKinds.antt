@@ -9,7 +9,7 @@ use Rattle.hw_model.specs.Kinds.Kind.{variadic, sub, shift}
 use Rattle.hw_model.specs.Design.{instance_in, is_output_kind, register_form}
 use Rattle.hw_model.specs.Flat.{has_async_reset}
 use Rattle.hw_model.specs.Weight.{kind_weight}
-use Rattle.ir_store.specs.ResultTypes.{result_type, result_types, result_count}
+use Rattle.type_inference.specs.ResultTypes.{result_type, result_types, result_count}
 use Rattle.stored_form.specs.Kinds.{KeepsConstants, IsWritten}
 use Rattle.op_checks.specs.TypeChecks.{is_outside}
 use Rattle.op_checks.specs.CountChecks.{operands_written, operand_count, type_count, has_miscounted_parts, has_wrong_operands, has_wrong_results, has_wrong_count}

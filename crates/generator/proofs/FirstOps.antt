@@ -9,7 +9,7 @@ use Rattle.hw_model.specs.Hierarchy.{called_by, callee_symbols}
 use Rattle.hw_model.specs.Sound.{type_in}
 use Rattle.hw_model.specs.Weight.{kind_weight, body_weight}
 use Rattle.wiring.specs.Wiring.{In}
-use Rattle.ir_store.specs.ResultTypes.{result_type, result_types}
+use Rattle.type_inference.specs.ResultTypes.{result_type, result_types}
 use Rattle.op_verifier.specs.Headers.{has_output}
 use Rattle.op_verifier.specs.OpChecks.{settled_type}
 use Rattle.generator.specs.Draws.{state_after, number_drawn}

@@ -16,7 +16,7 @@ use Rattle.hw_model.specs.Design.{Ref, Port, Op, Module, Design, find_module, in
 use Rattle.hw_model.specs.Design.Ref.{port, result}
 use Rattle.hw_model.specs.Flat.{async_parts, async_reset_in, port_ref}
 use Rattle.hw_model.specs.SameType.{same_type}
-use Rattle.ir_store.specs.ResultTypes.{result_type, result_types, result_count}
+use Rattle.type_inference.specs.ResultTypes.{result_type, result_types, result_count}
 use Rattle.port_checks.specs.InstanceChecks.{port_types, names_ports, call_cause, instance_cause}
 use Rattle.port_checks.specs.ResetPorts.{is_reset_port}
 use Rattle.op_checks.specs.TypeChecks.{is_outside}

@@ -8,7 +8,7 @@ use Rattle.hw_model.specs.Kinds.{Kind, Instance}
 use Rattle.hw_model.specs.Kinds.Kind.{wire, instance}
 use Rattle.hw_model.specs.Design.{Ref, Port, OpResult, Op, Location}
 use Rattle.hw_model.specs.SameType.{type_self}
-use Rattle.ir_store.specs.ResultTypes.{result_types, result_count, result_type as type_of_result}
+use Rattle.type_inference.specs.ResultTypes.{result_types, result_count, result_type as type_of_result}
 use Rattle.op_checks.specs.TypeChecks.{is_outside, has_bad_field, has_clock_part, is_clock}
 use Rattle.op_checks.specs.OperandChecks.{has_other_form, has_other_operand, has_other_result, has_mismatch}
 use Rattle.op_checks.specs.LimitChecks.{has_type_outside, has_constant_outside, has_extract_outside, has_broken_copy, has_wide_concat, has_unknown_divisor, has_wrong_index, has_wrong_field}

@@ -13,7 +13,7 @@ use Rattle.ir_store.specs.declared.operation.Value.{Value}
 use Rattle.ir_store.specs.declared.operation.Value.TheVariants.{Port, Result, Undefined}
 use Rattle.ir_store.specs.Numbered.{position_of, ref_by}
 use Rattle.ir_store.proofs.Living.{first_of_all, rest_of_all}
-use Rattle.ir_store.proofs.PositionTables.{position_found}
+use Rattle.body_index.proofs.PositionTables.{position_found}
 use Rattle.linked_lists.specs.Ids.{times}
 use Rattle.linked_lists.proofs.IdLemmas.{contained_times, times-append}
 use Rattle.inline_laws.specs.Inline.{side, ref_or_undefined, wire_count, moved_count, wire_result, outer_result, outer_ref, inner_result, inner_ref}

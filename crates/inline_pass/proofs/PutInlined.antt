@@ -12,7 +12,7 @@ use Rattle.ir_store.specs.declared.operation.NewOp.{NewOp}
 use Rattle.ir_store.specs.declared.operation.Value.{Value}
 use Rattle.ir_store.specs.BodyOps.{BodyOp, ids_in, operands_at}
 use Rattle.ir_store.specs.Live.{AreDistinct}
-use Rattle.ir_store.specs.PositionTables.{ArePositions}
+use Rattle.body_index.specs.PositionTables.{ArePositions}
 use Rattle.ir_store.proofs.Living.{ids_stay}
 use Rattle.inline_pass.specs.MovedOps.{AreMoved, ArePutBefore, all_put_before, copy_of, joined_values, moved_value, operands_moved, ops_before_output, output_values, with_ids, without_id, wires_of}
 use Rattle.inline_pass.specs.declared.moved_ops.Destinations.{Destinations}

@@ -7,7 +7,7 @@ use Rattle.hw_model.specs.Kinds.{Kind, Instance}
 use Rattle.hw_model.specs.Kinds.Kind.{instance}
 use Rattle.hw_model.specs.Design.{Ref, Op, result_type}
 use Rattle.hw_model.specs.Resets.{is_constant}
-use Rattle.ir_store.specs.ResultTypes.{result_types, result_count}
+use Rattle.type_inference.specs.ResultTypes.{result_types, result_count}
 use Rattle.op_checks.specs.OperandChecks.{has_other_form, has_other_operand, has_other_result, has_mismatch}
 use Rattle.op_checks.specs.LimitChecks.{has_type_outside, has_constant_outside, has_extract_outside, has_broken_copy, has_wide_concat, has_unknown_divisor, has_wrong_index, has_wrong_field}
 use Rattle.op_checks.specs.LimitChecks.{has_unequal_widths, has_clock_operand, has_clock_value}

@@ -8,7 +8,7 @@ use Rattle.hw_model.specs.Kinds.Kind.{instance}
 use Rattle.hw_model.specs.Opcodes.{opcode_of}
 use Rattle.hw_model.specs.Design.{Ref, Port, Attribute, Entry, Op, same_name}
 use Rattle.hw_model.specs.Design.Attribute.{text_value}
-use Rattle.ir_store.specs.ResultTypes.{result_types}
+use Rattle.type_inference.specs.ResultTypes.{result_types}
 use Rattle.opcode.specs.declared.listed.Listed.{Listed}
 use Rattle.op_checks.specs.CountChecks.{operands_written, type_count}
 use Rattle.stored_form.specs.Bytes.{Each, AreBytes}

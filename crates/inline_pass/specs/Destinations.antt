@@ -3,7 +3,7 @@ use Rattle.std.specs.Prelude.{◌≡◌, ℕ, List, length, map}
 use Rattle.ir_store.specs.declared.operation.OpId.{OpId}
 use Rattle.ir_store.specs.declared.operation.Value.{Value}
 use Rattle.ir_store.specs.Live.{AreDistinct}
-use Rattle.ir_store.specs.PositionTables.{ArePositions}
+use Rattle.body_index.specs.PositionTables.{ArePositions}
 use Rattle.inline_pass.specs.declared.moved_ops.Destinations.{Destinations}
 use Rattle.inline_pass.specs.MovedOps.{moved_value}
 

@@ -14,10 +14,10 @@ ghost use Rattle.inline_pass.specs.MovedOps.{ArePutBefore};
 use crate::body_changes::{move_operands, put_all_before, replace_results, take_wires_out};
 use crate::callees::{Callee, Callees};
 use crate::moved_ops::{Destinations, moved_ops, values_joined, wires_for};
+use body_index::position_table::{ids_in, positions_of};
 use hw_model::kinds::OpKind;
 use ir_store::body::Body;
 use ir_store::operation::OpId;
-use ir_store::position_table::{ids_in, positions_of};
 use std::alloc::{AllocError, Global};
 
 /// Has each instance in a body of a module that is found among the callees become that module's body, in its place, with the

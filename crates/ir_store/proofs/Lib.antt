@@ -2,15 +2,12 @@
 pub mod BlockLists
 pub mod BodyLemmas
 pub mod DesignLemmas
-mod FieldTypes
 pub mod Indexing
 pub mod Living
 pub mod OrderCalls
 pub mod Ordering
 pub mod PositionsBefore
 pub mod Numbering
-pub mod PositionTables
-pub mod ReadOps
 pub mod Refilling
 pub mod Replacing
 pub mod Samples

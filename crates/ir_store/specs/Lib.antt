@@ -6,15 +6,11 @@ pub mod Designs
 pub mod DictionaryViews
 pub mod Live
 pub mod Numbered
-pub mod OpIndexes
 pub mod OperationViews
 pub mod Orders
-pub mod PositionTables
 pub mod Positions
 pub mod ShortLists
 pub mod Symbols
 pub mod UseChains
 pub mod Uses
 pub mod UsesLeft
-pub mod ResultTypes
-pub mod SettledTypes

@@ -13,16 +13,12 @@ pub mod design;
 pub mod dictionary;
 pub mod ids;
 mod laws;
-pub mod op_index;
 mod operand_lists;
 mod operand_uses;
 mod operands;
 pub mod operation;
 pub mod ops;
 mod order;
-pub mod position_table;
-pub mod result_types;
-pub mod settled_type;
 pub mod short_list;
 pub mod uses;
 

@@ -7,10 +7,10 @@ ghost use Rattle.ir_store.specs.Numbered.{ops_by_position};
 ghost use Rattle.name_legalise.specs.Legal.{legal};
 ghost use Rattle.lec_tool.specs.LeafNames.{register_name, wanted_names, register_names, input_names, is_output_at, AreLeafNames};
 
+use body_index::op_index::OpIndex;
 use flat_module_gates::kinds::is_register;
 use io_edge::byte_text::Text;
 use ir_store::design::{Module, PortList};
-use ir_store::op_index::OpIndex;
 use miter_blast::flat_copy;
 use name_legalise::names::legal_list;
 use op_verifier::Verified;

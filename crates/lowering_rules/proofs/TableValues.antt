@@ -10,9 +10,9 @@ use Rattle.ir_store.specs.declared.operation.Value.TheVariants.{Port as PortValu
 use Rattle.ir_store.specs.BodyOps.{BodyOp}
 use Rattle.ir_store.specs.Bodies.{ops_of, ids_of}
 use Rattle.ir_store.specs.Numbered.{position_of, ref_by, op_by, ops_by_position}
-use Rattle.ir_store.specs.PositionTables.{ArePositions}
+use Rattle.body_index.specs.PositionTables.{ArePositions}
 use Rattle.ir_store.proofs.BodyLemmas.{ids_once}
-use Rattle.ir_store.proofs.PositionTables.{position_kept, position_missing}
+use Rattle.body_index.proofs.PositionTables.{position_kept, position_missing}
 use Rattle.aggregate_laws.specs.Leaves.{leaf_start, parts_of_port}
 use Rattle.aggregate_laws.specs.Rules.{Rules, begin, parts_of, parts_of_result}
 use Rattle.lowering_rules.specs.declared.leaf_table.LeafTable.{LeafTable}

@@ -18,11 +18,11 @@ ghost use Rattle.lowering_rules.specs.LeafTables.{IsLeafTable, IsBlockTable, Add
 use crate::forms::form_of;
 use crate::shapes::{Shape, shape_of};
 use crate::written_types::{leaf_count, sum};
+use body_index::position_table::{ids_in, positions_of};
 use hw_model::kinds::OpKind;
 use ir_store::body::{Body, Op};
 use ir_store::design::PortList;
 use ir_store::operation::{NewResultList, OpId, Value};
-use ir_store::position_table::{ids_in, positions_of};
 use std::alloc::{AllocError, Global};
 
 /// What stands for the values of a body, each operation of which becomes a block of operations of a new one.

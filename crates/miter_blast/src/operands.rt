@@ -6,14 +6,14 @@ ghost use Rattle.hw_model.specs.Design.{result_type};
 ghost use Rattle.ir_store.specs.Bodies.{ids_of, ops_of};
 ghost use Rattle.ir_store.specs.Designs.{ports_in};
 ghost use Rattle.ir_store.specs.Numbered.{position_of, ref_by, ops_by_position};
-ghost use Rattle.ir_store.specs.OpIndexes.{op_view};
+ghost use Rattle.body_index.specs.OpIndexes.{op_view};
 ghost use Rattle.operation_gates.specs.Prices.{first_width};
 ghost use Rattle.flat_module_laws.specs.FlatPrices.{operand_widths};
 
+use body_index::op_index::OpIndex;
 use flat_module_gates::widths::bits_of;
 use ir_store::body::Op;
 use ir_store::design::PortList;
-use ir_store::op_index::OpIndex;
 use ir_store::operation::Value;
 use std::alloc::{AllocError, Global};
 

@@ -8,19 +8,19 @@ ghost use Rattle.ir_store.specs.Bodies.{ops_of};
 ghost use Rattle.ir_store.specs.Designs.{ports_in};
 ghost use Rattle.ir_store.specs.Numbered.{ops_by_position};
 ghost use Rattle.ir_store.specs.OperationViews.{results_in};
-ghost use Rattle.ir_store.specs.OpIndexes.{op_view};
+ghost use Rattle.body_index.specs.OpIndexes.{op_view};
 ghost use Rattle.operation_gates.specs.Prices.{price, pair_price, first_width};
 ghost use Rattle.flat_module_laws.specs.FlatPrices.{results_price};
 ghost use Rattle.miter_blast.specs.ComparisonPrices.{choice_price, clock_price, form_price, register_price};
 ghost use Rattle.miter_blast.specs.BodyPrices.{whole_price, body_price};
 
 use crate::operands::{Typed, first_width};
+use body_index::op_index::OpIndex;
 use flat_module_gates::widths::{bits_of, first_bits};
 use hw_model::families::{Family, Variadic};
 use hw_model::kinds::{OpKind, Reset};
 use ir_store::body::Op;
 use ir_store::design::Module;
-use ir_store::op_index::OpIndex;
 use ir_store::operation::NewResultList;
 use std::alloc::{AllocError, Global};
 

@@ -10,11 +10,11 @@ ghost use Rattle.hw_model.specs.Sound.{output_types};
 ghost use Rattle.flat_module_gates.specs.FlatSteps.{content_width};
 ghost use Rattle.miter_blast.specs.Leaves.{held_widths, input_widths};
 
+use body_index::op_index::OpIndex;
 use flat_module_gates::kinds::is_register;
 use flat_module_gates::registers::content_bits;
 use flat_module_gates::widths::{bits_of, first_bits, sum};
 use ir_store::design::{Module, Port, PortList};
-use ir_store::op_index::OpIndex;
 use std::alloc::{AllocError, Global};
 
 /// The widths of the registers of a flat module, in order.

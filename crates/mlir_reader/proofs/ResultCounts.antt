@@ -4,8 +4,8 @@ use Rattle.hw_model.specs.Types.{HwType}
 use Rattle.hw_model.specs.Kinds.{Kind}
 use Rattle.hw_model.specs.Kinds.StructOp.{struct_explode}
 use Rattle.hw_model.specs.Kinds.Kind.{on_struct, instance, output}
-use Rattle.ir_store.specs.ResultTypes.{result_type, result_types, result_count}
-use Rattle.ir_store.specs.SettledTypes.{has_one_result}
+use Rattle.type_inference.specs.ResultTypes.{result_type, result_types, result_count}
+use Rattle.type_inference.specs.SettledTypes.{has_one_result}
 use Rattle.mlir_operations.specs.ElementText.{InherentAttributes}
 use Rattle.mlir_operations.specs.ElementText.InherentAttributes.{with_async_reset}
 use Rattle.mlir_reader.specs.Resolving.{firreg_kind}

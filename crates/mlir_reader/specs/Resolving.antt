@@ -21,7 +21,7 @@ use Rattle.hw_model.specs.Design.Ref.{port, result, undefined}
 use Rattle.mlir_lexer.specs.Classes.{is_digit}
 use Rattle.mlir_lexer.specs.Runs.{run}
 use Rattle.ir_store.specs.OperationViews.{location_of}
-use Rattle.ir_store.specs.ResultTypes.{result_types, result_count}
+use Rattle.type_inference.specs.ResultTypes.{result_types, result_count}
 use Rattle.mlir_operations.specs.OperandText.{OperandName, ResultNames, named_count}
 use Rattle.mlir_operations.specs.OperandText.ResultNames.{no_names, names, pack}
 use Rattle.mlir_operations.specs.ElementText.{InherentAttributes}

@@ -3,7 +3,7 @@ ghost use Rattle.std.specs.Prelude.{◌≡◌, ◌<◌, ◌+◌, ◌^◌, ◌++�
 ghost use Rattle.std.specs.Option.{option_map};
 ghost use Rattle.hw_model.specs.TypeViews.{type_of, field_of, fields_of};
 ghost use Rattle.hw_model.specs.Sound.{field_list};
-ghost use Rattle.ir_store.specs.ResultTypes.{field_count, result_count};
+ghost use Rattle.type_inference.specs.ResultTypes.{field_count, result_count};
 ghost use Rattle.mlir_operations.specs.OperandText.{named_count};
 ghost use Rattle.mlir_operations.specs.OperandText.ResultNames.{pack};
 ghost use Rattle.mlir_reader.specs.Resolving.{kind_named, inherent_instance, names_from, with_definitions, port_definition, names_defined, operation_definitions, marks, is_marked};
@@ -53,7 +53,7 @@ pub fn define_operation<'s>(
 }
 
 // How many results an operation has of its own.
-#[tactic(auto, using(crate::proofs::ResultCounts::firreg_count), unfolding(crate::specs::Resolving::inherent_kind, ir_store::specs::ResultTypes::result_count))]
+#[tactic(auto, using(crate::proofs::ResultCounts::firreg_count), unfolding(crate::specs::Resolving::inherent_kind, type_inference::specs::ResultTypes::result_count))]
 fn result_count(name: Listed, inherent: &InherentAttributes, types: &[Ty]) -> usize
     ensures { result ≡ result_count (kind_named name (inherent_of inherent.now) (map type_of types.now)) (map type_of types.now) }
 {

@@ -3,7 +3,7 @@ ghost use Rattle.std.specs.Prelude.{◌≡◌, ◌++◌, ◌∷◌, [], false, m
 ghost use Rattle.std.specs.Option.{option_map};
 ghost use Rattle.hw_model.specs.KindViews.{kind_of};
 ghost use Rattle.hw_model.specs.TypeViews.{type_of};
-ghost use Rattle.ir_store.specs.ResultTypes.{result_types};
+ghost use Rattle.type_inference.specs.ResultTypes.{result_types};
 ghost use Rattle.ir_store.specs.OperationViews.{results_in};
 ghost use Rattle.mlir_reader.specs.Resolving.{marked_results};
 ghost use Rattle.stored_form.specs.ResultTypes.{type_or_none};
@@ -11,9 +11,9 @@ ghost use Rattle.stored_form.specs.ResultTypes.{type_or_none};
 use hw_model::kinds::OpKind;
 use hw_model::types::Ty;
 use ir_store::operation::{NewResult, NewResultList};
-use ir_store::result_types::result_types;
-use ir_store::settled_type::{SettledType, has_one_result};
 use std::alloc::{AllocError, Global};
+use type_inference::result_types::result_types;
+use type_inference::settled_type::{SettledType, has_one_result};
 
 /// The results of an operation of this kind, with these types and so many operands, with these marks.
 pub fn results_of(

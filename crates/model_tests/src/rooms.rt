@@ -1,13 +1,13 @@
 //! Room that is reserved, ids by position, and modules by symbol.
 
 use crate::bodies::{erase, put};
+use body_index::position_table::{ids_in, positions_of};
 use diag::refusal::Location;
 use io_edge::byte_text::Text;
 use ir_store::body::Body;
 use ir_store::design::{Design, Module, PortList};
 use ir_store::dictionary::Dictionary;
 use ir_store::operation::{OpId, Value};
-use ir_store::position_table::{ids_in, positions_of};
 use std::alloc::{AllocError, Global};
 use std::test::Fail;
 

@@ -11,7 +11,7 @@ use Rattle.hw_model.specs.Types.FieldTypes.{no_fields, field}
 use Rattle.hw_model.specs.SameType.{same_type}
 use Rattle.hw_model.specs.Sound.{AllAre}
 use Rattle.hw_model.specs.Value.{nth_type}
-use Rattle.ir_store.specs.ResultTypes.{first_type, second_type, elements_in, sum_of, length_joined, joined_length, as_array, array_of, element_of, kept_size}
+use Rattle.type_inference.specs.ResultTypes.{first_type, second_type, elements_in, sum_of, length_joined, joined_length, as_array, array_of, element_of, kept_size}
 use Rattle.op_checks.specs.TypeChecks.{has_bad_part, has_bad_part_among, is_without_fields, is_outside}
 use Rattle.op_checks.specs.TypeLists.{known_types, is_no_array, is_no_int, differs, any_differs, differ, differ_in_three, settled_at}
 use Rattle.op_checks.specs.OperandChecks.{is_no_array_of, has_other_array}

@@ -8,7 +8,7 @@ use Rattle.wiring.specs.Lists.{total}
 use Rattle.hw_model.specs.Types.{HwType, width}
 use Rattle.hw_model.specs.Types.HwType.{int}
 use Rattle.hw_model.specs.Sound.{AllAre}
-use Rattle.ir_store.specs.ResultTypes.{first_type, second_type, joined_width, as_int, kept_size}
+use Rattle.type_inference.specs.ResultTypes.{first_type, second_type, joined_width, as_int, kept_size}
 use Rattle.op_checks.specs.TypeChecks.{is_int}
 use Rattle.op_checks.specs.TypeLists.{known_types, int_width, differs, any_differs, differ, differ_in_two, differ_in_three}
 use Rattle.op_checks.specs.LimitChecks.{of_both, reaches_past, is_no_multiple, is_too_wide}

@@ -11,7 +11,7 @@ use Rattle.hw_model.specs.Kinds.Reset.{no_reset, sync_reset}
 use Rattle.hw_model.specs.SameType.{same_type, type_from}
 use Rattle.hw_model.specs.Sound.{field_list, field_type, literal_width, literals_width, register_types}
 use Rattle.hw_model.specs.Value.{nth_type}
-use Rattle.ir_store.specs.ResultTypes.{first_type, field_of, fields_of, field_count}
+use Rattle.type_inference.specs.ResultTypes.{first_type, field_of, fields_of, field_count}
 use Rattle.op_checks.specs.TypeLists.{known_types, is_no_struct, differs, any_differs, differ, differ_in_two}
 use Rattle.op_checks.specs.LiteralChecks.{literal_count, literal_differs, any_literal_differs, literals_differ, is_miscounted, any_miscounted, are_miscounted}
 use Rattle.op_checks.specs.OperandChecks.{parts_differ, register_differs}

@@ -9,7 +9,7 @@ use Rattle.hw_model.specs.Kinds.Reset.{sync_reset}
 use Rattle.hw_model.specs.Kinds.RegisterOp.{compreg, compreg_ce, firreg}
 use Rattle.hw_model.specs.Kinds.Kind.{variadic, sub, division, shift, icmp, parity, extract, concat, replicate, mux, constant, aggregate_constant, on_array, on_struct, bitcast, wire, instance, output, register, async_firreg}
 use Rattle.hw_model.specs.Sound.{Fits}
-use Rattle.ir_store.specs.ResultTypes.{first_type, second_type, result_type, result_types, result_count}
+use Rattle.type_inference.specs.ResultTypes.{first_type, second_type, result_type, result_types, result_count}
 use Rattle.op_checks.specs.TypeLists.{known_types}
 use Rattle.op_checks.specs.OperandChecks.{has_other_form, has_other_operand}
 use Rattle.op_checks.specs.LimitChecks.{has_extract_outside, has_broken_copy, has_wide_concat, are_unequal, has_unequal_widths}

@@ -10,9 +10,9 @@ use Rattle.hw_model.specs.Sound.{field_list}
 use Rattle.hw_model.specs.Design.{OpResult}
 use Rattle.hw_model.specs.TypeViews.{NamedType, type_of, fields_of}
 use Rattle.hw_model.specs.KindViews.{literals_of}
-use Rattle.ir_store.specs.ResultTypes.{first_type}
+use Rattle.type_inference.specs.ResultTypes.{first_type}
 use Rattle.ir_store.specs.OperationViews.{types_in, result_of}
-use Rattle.ir_store.specs.SettledTypes.{is_settled_as}
+use Rattle.type_inference.specs.SettledTypes.{is_settled_as}
 use Rattle.ir_store.specs.ShortLists.{short_items}
 use Rattle.ir_store.specs.declared.operation.NewResult.{NewResult}
 use Rattle.hw_model.specs.declared.types.Ty.{Ty}

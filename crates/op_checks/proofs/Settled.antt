@@ -10,8 +10,8 @@ use Rattle.hw_model.specs.Kinds.StructOp.{struct_create, struct_extract, struct_
 use Rattle.hw_model.specs.Kinds.Kind.{variadic, sub, division, shift, extract, concat, replicate, mux, constant, aggregate_constant, on_array, on_struct, bitcast, wire, instance, output, register, async_firreg}
 use Rattle.hw_model.specs.Sound.{field_list}
 use Rattle.hw_model.specs.SameType.{same_type}
-use Rattle.ir_store.specs.ResultTypes.{first_type, second_type, with_width, joined_width, elements_in, sum_of, length_joined, joined_length, kept_size, as_int, as_array, array_of, element_of}
-use Rattle.ir_store.specs.ResultTypes.{field_of, fields_of, field_count, result_type, result_types, result_count}
+use Rattle.type_inference.specs.ResultTypes.{first_type, second_type, with_width, joined_width, elements_in, sum_of, length_joined, joined_length, kept_size, as_int, as_array, array_of, element_of}
+use Rattle.type_inference.specs.ResultTypes.{field_of, fields_of, field_count, result_type, result_types, result_count}
 use Rattle.op_checks.specs.TypeChecks.{is_int}
 use Rattle.op_checks.specs.TypeLists.{known_types, is_no_int, is_no_array, differ}
 use Rattle.op_checks.specs.OperandChecks.{is_no_array_of, has_other_array, has_other_form}

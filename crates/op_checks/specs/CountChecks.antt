@@ -10,7 +10,7 @@ use Rattle.hw_model.specs.Kinds.ArrayOp.{array_create, array_concat, array_get, 
 use Rattle.hw_model.specs.Kinds.StructOp.{struct_create, struct_extract, struct_inject, struct_explode}
 use Rattle.hw_model.specs.Kinds.RegisterOp.{compreg, compreg_ce, firreg}
 use Rattle.hw_model.specs.Kinds.Kind.{variadic, parity, extract, concat, replicate, mux, constant, aggregate_constant, on_array, on_struct, bitcast, wire, instance, output, register, async_firreg}
-use Rattle.ir_store.specs.ResultTypes.{first_type, field_count, result_count}
+use Rattle.type_inference.specs.ResultTypes.{first_type, field_count, result_count}
 use Rattle.op_checks.specs.LiteralChecks.{is_miscounted}
 
 -- the operands of a reset

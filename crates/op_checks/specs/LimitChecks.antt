@@ -6,7 +6,7 @@ use Rattle.hw_model.specs.Kinds.{Kind}
 use Rattle.hw_model.specs.Kinds.ArrayOp.{array_create, array_concat, array_get, array_slice, array_inject}
 use Rattle.hw_model.specs.Kinds.StructOp.{struct_extract, struct_inject}
 use Rattle.hw_model.specs.Kinds.Kind.{division, extract, concat, replicate, constant, aggregate_constant, on_array, on_struct, bitcast, instance, register, async_firreg}
-use Rattle.ir_store.specs.ResultTypes.{first_type, second_type, field_of, joined_width}
+use Rattle.type_inference.specs.ResultTypes.{first_type, second_type, field_of, joined_width}
 use Rattle.op_checks.specs.TypeChecks.{is_outside, has_bad_field, has_clock_part, is_clock}
 use Rattle.op_checks.specs.TypeLists.{int_width, array_length, settled_at}
 use Rattle.op_checks.specs.LiteralChecks.{is_outside_type, any_failing_leaf}

@@ -11,7 +11,7 @@ use Rattle.hw_model.specs.Kinds.ArrayOp.{array_create, array_concat, array_get, 
 use Rattle.hw_model.specs.Kinds.StructOp.{struct_create, struct_extract, struct_inject, struct_explode}
 use Rattle.hw_model.specs.Kinds.Kind.{concat, mux, aggregate_constant, on_array, on_struct, bitcast, wire, instance, output, register, async_firreg}
 use Rattle.hw_model.specs.Design.{takes_enable}
-use Rattle.ir_store.specs.ResultTypes.{first_type, second_type, element_of, field_of, fields_of, result_types}
+use Rattle.type_inference.specs.ResultTypes.{first_type, second_type, element_of, field_of, fields_of, result_types}
 use Rattle.op_checks.specs.TypeChecks.{is_int}
 use Rattle.op_checks.specs.TypeLists.{known_types, is_no_int, is_no_array, is_no_struct, differs, any_differs, differ, differ_in_two, differ_in_three, settled_at}
 use Rattle.op_checks.specs.LiteralChecks.{literal_differs, any_failing_leaf}

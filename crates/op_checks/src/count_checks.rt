@@ -4,7 +4,7 @@ ghost use Rattle.std.specs.Option.{option_map};
 ghost use Rattle.hw_model.specs.TypeViews.{type_of};
 ghost use Rattle.hw_model.specs.FamilyViews.{family_of, register_op_of};
 ghost use Rattle.hw_model.specs.KindViews.{reset_of, literals_in};
-ghost use Rattle.ir_store.specs.ResultTypes.{field_count, result_count};
+ghost use Rattle.type_inference.specs.ResultTypes.{field_count, result_count};
 ghost use Rattle.op_checks.specs.CountChecks.{register_operands, reset_operands, operands_written, operand_count, type_count, parts_miscounted, has_miscounted_parts, has_wrong_operands, has_wrong_results};
 
 use crate::literal_checks::are_parts_miscounted;
@@ -127,7 +127,7 @@ pub fn has_wrong_results(family: Family<'_>, types: &[Ty], results: usize, named
 }
 
 /// How many results an operation has.
-#[tactic(auto, unfolding(ir_store::specs::ResultTypes::result_count))]
+#[tactic(auto, unfolding(type_inference::specs::ResultTypes::result_count))]
 fn result_count(family: Family<'_>, types: &[Ty]) -> usize
     ensures { result ≡ result_count (family_of family.entry) (map type_of types.now) }
 {

@@ -20,7 +20,7 @@ use hw_model::families::{ArrayOp, Family, StructOp};
 use hw_model::kinds::Integer;
 use hw_model::types::{Ty, index_width};
 use ir_store::operation::NewResult;
-use ir_store::result_types::{field_of, joined_width};
+use type_inference::result_types::{field_of, joined_width};
 
 /// Whether a written type or a result's is outside the limits; the result of `comb.concat` is not asked.
 #[tactic(auto, unfolding(crate::specs::LimitChecks::has_type_outside))]

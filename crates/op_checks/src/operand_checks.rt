@@ -16,7 +16,7 @@ use crate::type_parts::fields_in;
 use hw_model::families::{ArrayOp, Family, StructOp};
 use hw_model::kinds::{LiteralList, Reset};
 use hw_model::types::Ty;
-use ir_store::result_types::{element_of, field_of};
+use type_inference::result_types::{element_of, field_of};
 
 /// Whether a written type is of a kind that the form does not take.
 #[tactic(auto, unfolding(crate::specs::OperandChecks::has_other_form))]

@@ -2,7 +2,7 @@
 ghost use Rattle.std.specs.Prelude.{◌≡◌, ◌∷◌, [], map, drop, length, Some};
 ghost use Rattle.hw_model.specs.TypeViews.{type_of};
 ghost use Rattle.hw_model.specs.FamilyViews.{family_of};
-ghost use Rattle.ir_store.specs.ResultTypes.{result_type, result_types};
+ghost use Rattle.type_inference.specs.ResultTypes.{result_type, result_types};
 ghost use Rattle.op_checks.specs.TypeLists.{known_types, differs, differ};
 ghost use Rattle.op_checks.specs.OperandChecks.{has_other_result};
 
@@ -11,11 +11,11 @@ use crate::type_parts::fields_in;
 use hw_model::families::{Family, StructOp};
 use hw_model::types::Ty;
 use ir_store::operation::NewResult;
-use ir_store::settled_type::SettledType;
+use type_inference::settled_type::SettledType;
 
 /// Whether a result has another type than the operation gives it, where it gives one. `operands` says how many operands
 /// the operation has.
-#[tactic(auto, unfolding(ir_store::specs::ResultTypes::result_types, crate::specs::OperandChecks::has_other_result), using(crate::proofs::Lists::none_differ))]
+#[tactic(auto, unfolding(type_inference::specs::ResultTypes::result_types, crate::specs::OperandChecks::has_other_result), using(crate::proofs::Lists::none_differ))]
 pub fn has_other_result(
     family: Family<'_>,
     types: &[Ty],

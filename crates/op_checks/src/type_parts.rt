@@ -3,7 +3,7 @@ ghost use Rattle.std.specs.Prelude.{◌≡◌, map, length, Some};
 ghost use Rattle.std.specs.Option.{option_map};
 ghost use Rattle.hw_model.specs.TypeViews.{type_of, field_of, fields_of};
 ghost use Rattle.hw_model.specs.Sound.{field_list};
-ghost use Rattle.ir_store.specs.ResultTypes.{fields_of as fields_in};
+ghost use Rattle.type_inference.specs.ResultTypes.{fields_of as fields_in};
 
 use hw_model::types::{Field, Ty};
 

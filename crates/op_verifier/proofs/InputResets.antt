@@ -16,7 +16,7 @@ use Rattle.hw_model.specs.Flat.{ResetBy, has_async_reset, async_parts, async_res
 use Rattle.hw_model.specs.Sound.{input_type, input_types, type_in, Fits, SoundBody}
 use Rattle.hw_model.specs.Resets.{IsMarkedInput, IsConstantOf, ResetsFromPorts}
 use Rattle.hw_model.proofs.NetWidths.{input_found, typed_at}
-use Rattle.ir_store.specs.ResultTypes.{result_count}
+use Rattle.type_inference.specs.ResultTypes.{result_count}
 use Rattle.linked_lists.proofs.IdLemmas.{below_unless}
 use Rattle.port_checks.specs.ResetPorts.{IsBitInput, IsResetPort, port_count, is_reset_port}
 use Rattle.port_checks.proofs.Least.{reset_some, is_sound, is_complete}

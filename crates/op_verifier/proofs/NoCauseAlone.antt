@@ -4,7 +4,7 @@ use Rattle.std.specs.Prelude.{None}
 use Rattle.std.proofs.lemmas.List.{length-map}
 use Rattle.hw_model.specs.Types.{HwType}
 use Rattle.hw_model.specs.Design.{Port, OpResult, Op}
-use Rattle.ir_store.specs.ResultTypes.{result_count}
+use Rattle.type_inference.specs.ResultTypes.{result_count}
 use Rattle.op_verifier.specs.OpChecks.{settled_type, divides_by_constant, alone_cause}
 use Rattle.op_checks.proofs.NoOwnCause.{NoOwnCause, no_own_cause}
 

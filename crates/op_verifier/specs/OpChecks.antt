@@ -11,7 +11,7 @@ use Rattle.hw_model.specs.Design.{Ref, Port, OpResult, Op, Design, instance_in, 
 use Rattle.hw_model.specs.Design.Ref.{port, result, undefined}
 use Rattle.hw_model.specs.Sound.{input_type, type_in}
 use Rattle.hw_model.specs.SameType.{same_type}
-use Rattle.ir_store.specs.ResultTypes.{result_types}
+use Rattle.type_inference.specs.ResultTypes.{result_types}
 use Rattle.port_checks.specs.InstanceChecks.{port_types, instance_cause}
 use Rattle.op_verifier.specs.Answers.{when, or_else}
 use Rattle.op_checks.specs.OwnChecks.{own_cause}

@@ -9,7 +9,7 @@ ghost use Rattle.hw_model.specs.Hierarchy.{HasNoRecursion};
 ghost use Rattle.hw_model.specs.Meaning.{HasNoCycle};
 ghost use Rattle.hw_model.specs.Resets.{ResetsFromPorts};
 ghost use Rattle.hw_model.specs.Sound.{Sound};
-ghost use Rattle.ir_store.specs.ResultTypes.{result_types};
+ghost use Rattle.type_inference.specs.ResultTypes.{result_types};
 ghost use Rattle.port_checks.specs.ResetPorts.{is_reset_port};
 ghost use Rattle.op_checks.specs.TypeLists.{known_types};
 ghost use Rattle.op_checks.specs.OwnChecks.{own_cause};

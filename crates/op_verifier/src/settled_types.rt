@@ -4,17 +4,17 @@ ghost use Rattle.std.specs.Prelude.{◌≡◌, ◌∷◌, [], true, map, length,
 ghost use Rattle.hw_model.specs.TypeViews.{type_of};
 ghost use Rattle.hw_model.specs.FamilyViews.{family_of};
 ghost use Rattle.hw_model.specs.KindViews.{kind_of};
-ghost use Rattle.ir_store.specs.ResultTypes.{result_type, result_types};
+ghost use Rattle.type_inference.specs.ResultTypes.{result_type, result_types};
 ghost use Rattle.op_checks.specs.TypeLists.{known_types};
 
 use hw_model::families::{Family, StructOp};
 use hw_model::types::Ty;
 use ir_store::body::Op;
 use ir_store::operation::NewResult;
-use ir_store::result_types::result_types;
-use ir_store::settled_type::SettledType;
 use op_checks::result_checks::single_differs;
 use std::alloc::{AllocError, Global};
+use type_inference::result_types::result_types;
+use type_inference::settled_type::SettledType;
 
 /// The types that an operation settles for its results.
 #[derive(Drop)]
@@ -74,7 +74,7 @@ fn inferred_type_at(types: &[Option<Ty>], k: usize) -> Option<&Ty>
 }
 
 /// Whether the types that an operation settles are found to be those of its results. Of a few kinds this is not asked.
-#[tactic(auto, unfolding(ir_store::specs::ResultTypes::result_types))]
+#[tactic(auto, unfolding(type_inference::specs::ResultTypes::result_types))]
 fn are_own(family: Family<'_>, types: &[Ty], results: &[NewResult], operands: usize) -> bool
     ensures { result ≡ true → result_types (family_of family.entry) (map type_of types.now) operands ≡ known_types (map (λ r. type_of r.ty) results.now) }
 {

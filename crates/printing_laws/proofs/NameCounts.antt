@@ -10,7 +10,7 @@ use Rattle.hw_model.specs.Kinds.StructOp.{struct_explode}
 use Rattle.hw_model.specs.Kinds.Kind.{on_struct, instance, output}
 use Rattle.hw_model.specs.Sound.{field_list}
 use Rattle.hw_model.specs.Design.{Port, Op}
-use Rattle.ir_store.specs.ResultTypes.{first_type, fields_of, field_count, result_types, result_count}
+use Rattle.type_inference.specs.ResultTypes.{first_type, fields_of, field_count, result_types, result_count}
 use Rattle.op_checks.specs.CountChecks.{type_count}
 use Rattle.printing_laws.specs.Parts.{parts_in}
 use Rattle.printing_laws.specs.NameHints.{instance_name_hints, pack_name_hints, name_hints_of, name_count, is_pack}

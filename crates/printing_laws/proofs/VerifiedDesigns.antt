@@ -8,7 +8,7 @@ use Rattle.hw_model.specs.Kinds.Kind.{on_struct}
 use Rattle.hw_model.specs.Sound.{type_in, input_type}
 use Rattle.hw_model.specs.Design.{Ref, Port, OpResult, Op, Module, Design, is_output_op, result_type}
 use Rattle.hw_model.specs.Design.Ref.{port, result, undefined}
-use Rattle.ir_store.specs.ResultTypes.{result_types}
+use Rattle.type_inference.specs.ResultTypes.{result_types}
 use Rattle.stored_form.specs.Bytes.{Each}
 use Rattle.stored_form.specs.ResultTypes.{type_or_none, HaveTypes}
 use Rattle.stored_form.specs.Canonical.{IsCanonicalOp, IsCanonicalPort, IsCanonicalModule, IsCanonical}

@@ -5,7 +5,7 @@ use Rattle.hw_model.specs.Types.{HwType}
 use Rattle.hw_model.specs.Opcodes.{opcode_of}
 use Rattle.hw_model.specs.Design.{Ref, Port, OpResult, Op, Module, Design, is_output_op}
 use Rattle.hw_model.specs.Design.Ref.{port, result, undefined}
-use Rattle.ir_store.specs.ResultTypes.{result_types}
+use Rattle.type_inference.specs.ResultTypes.{result_types}
 use Rattle.op_checks.specs.CountChecks.{operands_written, type_count}
 use Rattle.mlir_syntax.specs.Numerals.{count_limit}
 use Rattle.stored_form.specs.Dictionaries.{takes_bin, string_keys}

@@ -12,7 +12,7 @@ use Rattle.hw_model.specs.Kinds.Kind.{mux}
 use Rattle.hw_model.specs.Design.{Ref, Port, OpResult, Op, Module, Design}
 use Rattle.hw_model.specs.Flat.{Register}
 use Rattle.hw_model.specs.Sound.{type_in}
-use Rattle.ir_store.specs.ResultTypes.{result_types, result_type as type_of_result, result_count}
+use Rattle.type_inference.specs.ResultTypes.{result_types, result_type as type_of_result, result_count}
 use Rattle.op_checks.specs.CountChecks.{operands_written, operand_count, type_count, has_miscounted_parts}
 use Rattle.op_checks.specs.LimitChecks.{value_types, has_constant_outside, has_extract_outside, has_broken_copy, has_wide_concat, has_unknown_divisor, has_wrong_index, has_unequal_widths, has_clock_operand}
 use Rattle.op_checks.specs.OperandChecks.{has_other_form, has_other_operand}

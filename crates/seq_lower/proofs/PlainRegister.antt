@@ -16,7 +16,7 @@ use Rattle.hw_model.specs.Flat.{Register, register_in, async_reset_in}
 use Rattle.hw_model.specs.Meaning.{next_value, reset, value_if_enabled}
 use Rattle.hw_model.specs.Sound.{type_in, register_types, Fits}
 use Rattle.hw_model.specs.Value.{is_high}
-use Rattle.ir_store.specs.ResultTypes.{result_types, result_type as type_of_result, result_count}
+use Rattle.type_inference.specs.ResultTypes.{result_types, result_type as type_of_result, result_count}
 use Rattle.stored_form.specs.Dictionaries.{has_name, takes_bin, string_keys, IsKeptDictionary}
 use Rattle.stored_form.specs.Kinds.{KeepsConstants, IsWritten}
 use Rattle.op_checks.specs.CountChecks.{operands_written, operand_count, type_count, has_miscounted_parts}

@@ -11,7 +11,7 @@ use Rattle.hw_model.specs.Design.{Ref, OpResult, Op, Module, Design, takes_enabl
 use Rattle.hw_model.specs.Flat.{Register, ResetBy, register_parts}
 use Rattle.hw_model.specs.Sound.{type_in, register_types, Fits}
 use Rattle.hw_model.specs.Weight.{register_weight, reset_weight}
-use Rattle.ir_store.specs.ResultTypes.{result_types, result_type as type_of_result}
+use Rattle.type_inference.specs.ResultTypes.{result_types, result_type as type_of_result}
 use Rattle.op_checks.specs.CountChecks.{type_count}
 use Rattle.op_verifier.proofs.NoCauseAlone.{NoCauseAlone, no_cause_alone}
 use Rattle.printing_laws.specs.Printable.{IsPrintableOp, settled_result}

@@ -4,7 +4,7 @@ use Rattle.std.proofs.lemmas.Bool.{false≢true}
 use Rattle.std.proofs.lemmas.List.{length-map}
 use Rattle.ir_store.specs.declared.operation.OpId.{OpId}
 use Rattle.ir_store.specs.declared.body.Op as code
-use Rattle.ir_store.specs.ResultTypes.{result_types}
+use Rattle.type_inference.specs.ResultTypes.{result_types}
 use Rattle.ir_store.specs.BodyOps.{BodyOp, op_at, ids_in}
 use Rattle.ir_store.specs.Bodies.{read_op}
 use Rattle.ir_store.specs.Numbered.{op_by, ref_by, position_of, ops_by_position}

@@ -23,7 +23,7 @@ use Rattle.hw_model.specs.Design.Attributes.{no_attributes, attribute}
 use Rattle.stored_form.specs.Bytes.{Each, AreBytes, MayBeBytes}
 use Rattle.stored_form.specs.Limits.{IsInteger, IsType, AreFields, IsAnyType, IsLiteral, AreLiterals, IsAttribute, AreAttributes, IsValue, IsEntry}
 use Rattle.hw_model.specs.Opcodes.{opcode_of}
-use Rattle.ir_store.specs.ResultTypes.{result_types}
+use Rattle.type_inference.specs.ResultTypes.{result_types}
 use Rattle.stored_form.specs.Dictionaries.{is_dropped, string_keys, module_keys, AreInOrder, IsKeptDictionary}
 use Rattle.stored_form.specs.Kinds.{KeepsConstants, IsWrittenInstance, IsWritten}
 use Rattle.stored_form.specs.ResultTypes.{HaveTypes}

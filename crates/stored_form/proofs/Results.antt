@@ -6,7 +6,7 @@ use Rattle.hw_model.specs.Types.{HwType}
 use Rattle.hw_model.specs.Types.HwType.{int}
 use Rattle.hw_model.specs.Design.{OpResult}
 use Rattle.hw_model.specs.SameType.{same_type, types_apart}
-use Rattle.ir_store.specs.SettledTypes.{is_settled_as}
+use Rattle.type_inference.specs.SettledTypes.{is_settled_as}
 use Rattle.stored_form.specs.Bytes.{Each}
 use Rattle.stored_form.specs.ResultTypes.{HaveTypes, type_or_none}
 

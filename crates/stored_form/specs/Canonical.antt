@@ -3,7 +3,7 @@ use Rattle.std.specs.Prelude.{◌≡◌, ◌^◌, ◌<◌, true, false, [], leng
 use Rattle.opcode.specs.declared.listed.Listed.TheVariants as listed
 use Rattle.hw_model.specs.Opcodes.{opcode_of}
 use Rattle.hw_model.specs.Design.{Port, Op, Module, Design}
-use Rattle.ir_store.specs.ResultTypes.{result_types}
+use Rattle.type_inference.specs.ResultTypes.{result_types}
 use Rattle.mlir_syntax.specs.Numerals.{count_limit}
 use Rattle.stored_form.specs.Bytes.{Each, AreBytes}
 use Rattle.stored_form.specs.Limits.{IsAnyType}

@@ -6,7 +6,7 @@ ghost use Rattle.ir_store.specs.Bodies.{ops_of};
 ghost use Rattle.ir_store.specs.DictionaryViews.{entries_in};
 ghost use Rattle.ir_store.specs.Numbered.{ops_by_position};
 ghost use Rattle.ir_store.specs.OperationViews.{types_in, results_in};
-ghost use Rattle.ir_store.specs.ResultTypes.{result_types};
+ghost use Rattle.type_inference.specs.ResultTypes.{result_types};
 ghost use Rattle.stored_form.specs.Alone.{op_alone};
 ghost use Rattle.stored_form.specs.Bytes.{Each};
 ghost use Rattle.stored_form.specs.Canonical.{IsCanonicalOp};

@@ -6,16 +6,16 @@ ghost use Rattle.hw_model.specs.Sound.{field_list};
 ghost use Rattle.hw_model.specs.TypeViews.{type_of, field_of as field_view, fields_of};
 ghost use Rattle.hw_model.specs.FamilyViews.{family_of};
 ghost use Rattle.ir_store.specs.OperationViews.{result_of};
-ghost use Rattle.ir_store.specs.ResultTypes.{result_type, result_types, fields_of as fields_in};
+ghost use Rattle.type_inference.specs.ResultTypes.{result_type, result_types, fields_of as fields_in};
 ghost use Rattle.stored_form.specs.ResultTypes.{HaveTypes, type_or_none};
 
 use hw_model::families::{Family, StructOp};
 use hw_model::types::{Field, Ty};
 use ir_store::operation::NewResult;
-use ir_store::settled_type::SettledType;
+use type_inference::settled_type::SettledType;
 
 /// Whether the results have the types that an operation of a kind with these types and so many operands gives them.
-#[tactic(auto, unfolding(ir_store::specs::ResultTypes::result_types))]
+#[tactic(auto, unfolding(type_inference::specs::ResultTypes::result_types))]
 pub(crate) fn have_types(
     family: Family<'_>,
     types: &[Ty],

@@ -6,7 +6,7 @@ use Rattle.ir_store.specs.declared.body.Op as body
 use Rattle.ir_store.specs.Bodies.{ids_of, ops_of}
 use Rattle.ir_store.specs.Designs.{ports_in}
 use Rattle.ir_store.specs.Numbered.{position_of, ref_by, ops_by_position}
-use Rattle.ir_store.specs.OpIndexes.{op_view}
+use Rattle.body_index.specs.OpIndexes.{op_view}
 use Rattle.verilog_expr.specs.declared.scope.Scope.{Scope}
 
 -- the ids of the operations

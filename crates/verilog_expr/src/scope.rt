@@ -8,9 +8,9 @@ ghost use Rattle.ir_store.specs.Bodies.{ops_of, op_id, read_op};
 ghost use Rattle.ir_store.specs.Numbered.{op_by, ops_by_position};
 ghost use Rattle.verilog_expr.specs.Marks.{AreSmall};
 
+use body_index::op_index::OpIndex;
 use ir_store::body::{Body, Op};
 use ir_store::design::{Port, PortList};
-use ir_store::op_index::OpIndex;
 use ir_store::operation::{OpId, Value};
 use std::alloc::{AllocError, Global};
 

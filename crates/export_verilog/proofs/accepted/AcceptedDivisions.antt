@@ -15,7 +15,7 @@ use Rattle.hw_model.specs.Kinds.Kind.{division, constant}
 use Rattle.hw_model.specs.Design.{Ref, Port, OpResult, Op, result_type}
 use Rattle.hw_model.specs.Design.Ref.{port, result, undefined}
 use Rattle.hw_model.specs.Sound.{type_in, OpFits}
-use Rattle.ir_store.specs.ResultTypes.{result_type as kind_result_type, result_types}
+use Rattle.type_inference.specs.ResultTypes.{result_type as kind_result_type, result_types}
 use Rattle.op_checks.specs.TypeChecks.{is_outside}
 use Rattle.op_checks.specs.TypeLists.{known_types}
 use Rattle.op_checks.specs.LiteralChecks.{is_out_of_range}

@@ -8,7 +8,7 @@ use Rattle.hw_model.specs.Types.{HwType, width}
 use Rattle.hw_model.specs.Types.HwType.{int, clock, array, struct}
 use Rattle.hw_model.specs.Kinds.{Kind}
 use Rattle.hw_model.specs.Kinds.Kind.{variadic, sub, division, shift, extract, concat, replicate, mux, constant, aggregate_constant, on_array, on_struct, bitcast, wire, instance, output, register, async_firreg}
-use Rattle.ir_store.specs.ResultTypes.{first_type, second_type, with_width, joined_width, kept_size, as_int, result_type, result_types}
+use Rattle.type_inference.specs.ResultTypes.{first_type, second_type, with_width, joined_width, kept_size, as_int, result_type, result_types}
 use Rattle.op_checks.specs.TypeChecks.{has_bad_part, is_outside, is_clock}
 use Rattle.op_checks.specs.TypeLists.{known_types}
 use Rattle.op_checks.specs.LimitChecks.{value_types, is_too_wide, has_wide_concat}

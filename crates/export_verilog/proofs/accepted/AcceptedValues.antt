@@ -10,7 +10,7 @@ use Rattle.hw_model.specs.Design.{Ref, Port, OpResult, Op, RegisterForm, instanc
 use Rattle.hw_model.specs.Design.Ref.{port, result, undefined}
 use Rattle.hw_model.specs.Flat.{width_of, Register, register_parts, register_in}
 use Rattle.hw_model.specs.Sound.{input_type, type_in, OpFits}
-use Rattle.ir_store.specs.ResultTypes.{result_count}
+use Rattle.type_inference.specs.ResultTypes.{result_count}
 use Rattle.op_checks.specs.CountChecks.{operands_written, operand_count}
 use Rattle.op_checks.specs.TypeChecks.{is_clock}
 use Rattle.op_checks.specs.LimitChecks.{value_types}

@@ -13,7 +13,7 @@ use Rattle.hw_model.specs.Kinds.Kind.{mux, aggregate_constant, on_array, on_stru
 use Rattle.hw_model.specs.Design.{Port, Op, Module, Design, instance_in, is_instance, is_register, is_output_op}
 use Rattle.hw_model.specs.Design.Ref.{result}
 use Rattle.hw_model.specs.Weight.{leaf_count, reset_weight, register_weight, kind_weight, body_weight, weight_of, module_weight, weight}
-use Rattle.ir_store.specs.ResultTypes.{result_count}
+use Rattle.type_inference.specs.ResultTypes.{result_count}
 use Rattle.op_checks.specs.CountChecks.{type_count}
 use Rattle.op_verifier.specs.Verdict.{IsAccepted}
 use Rattle.op_verifier.proofs.NoCauseAlone.{NoCauseAlone, result_number}

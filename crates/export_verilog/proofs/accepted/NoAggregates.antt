@@ -16,7 +16,7 @@ use Rattle.hw_model.specs.Kinds.Kind.{mux, aggregate_constant, on_array, on_stru
 use Rattle.hw_model.specs.Design.{Ref, Port, OpResult, Op, Module, Design, result_type}
 use Rattle.hw_model.specs.Design.Ref.{port, result, undefined}
 use Rattle.hw_model.specs.Sound.{input_type, type_in}
-use Rattle.ir_store.specs.ResultTypes.{first_type, second_type, as_array, kept_size, element_of, result_types, result_type as settled_result, result_count}
+use Rattle.type_inference.specs.ResultTypes.{first_type, second_type, as_array, kept_size, element_of, result_types, result_type as settled_result, result_count}
 use Rattle.op_checks.specs.TypeChecks.{is_int}
 use Rattle.op_checks.specs.TypeLists.{known_types, is_no_array, is_no_struct, differs, any_differs, differ, settled_at}
 use Rattle.op_checks.specs.LiteralChecks.{literal_differs}

@@ -8,7 +8,7 @@ use Rattle.hw_model.specs.Types.{Name, HwType}
 use Rattle.hw_model.specs.Kinds.{Kind}
 use Rattle.hw_model.specs.Kinds.Kind.{wire, output, register, async_firreg}
 use Rattle.hw_model.specs.Design.{Ref, Port, Op, is_output_kind, op_without_location}
-use Rattle.ir_store.specs.ResultTypes.{result_types, result_count}
+use Rattle.type_inference.specs.ResultTypes.{result_types, result_count}
 use Rattle.mlir_operations.specs.OperandText.{ResultNames, named_count}
 use Rattle.mlir_operations.specs.OperandText.ResultNames.{no_names, names, pack}
 use Rattle.mlir_operations.specs.OperationText.{OperationText, is_last}

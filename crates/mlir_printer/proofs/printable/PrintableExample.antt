@@ -6,7 +6,7 @@ use Rattle.hw_model.specs.Kinds.Variadic.{add}
 use Rattle.hw_model.specs.Kinds.Kind.{variadic, output}
 use Rattle.hw_model.specs.Design.{Port, Module, no_location}
 use Rattle.hw_model.specs.Design.Ref.{port, result}
-use Rattle.ir_store.specs.ResultTypes.{result_types, result_type}
+use Rattle.type_inference.specs.ResultTypes.{result_types, result_type}
 use Rattle.mlir_reader.specs.Spelling.{SpellsUnlocated}
 use Rattle.printing_laws.specs.NameHints.{name_hints_of}
 use Rattle.mlir_printer.specs.Texts.{ir_text}

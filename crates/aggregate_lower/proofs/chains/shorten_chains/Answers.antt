@@ -2,7 +2,7 @@ use Rattle.std.proofs.Common.{get_or, sym, subst, ◌∙◌}
 use Rattle.std.specs.Prelude.{Contains}
 use Rattle.wiring.specs.Wiring.{In}
 use Rattle.ir_store.specs.Bodies.{ops_of, op_id}
-use Rattle.ir_store.proofs.ReadOps.{id_contained}
+use Rattle.body_index.proofs.ReadOps.{id_contained}
 use Rattle.aggregate_lower.specs.Chains.{flagged}
 use Rattle.aggregate_lower.proofs.Shortening.{alike_itself, alike_next}
 use Rattle.aggregate_lower.proofs.chains.shorten_chains.Goals as goal

@@ -2,7 +2,7 @@ use Rattle.std.proofs.Common.{length, ap, ◌∙◌, arith}
 use Rattle.hw_model.specs.Design.{Op}
 use Rattle.ir_store.specs.Bodies.{ids_of, ops_of, op_id, read_op}
 use Rattle.ir_store.specs.Numbered.{position_of, op_by, ops_by_position}
-use Rattle.ir_store.proofs.ReadOps.{op_is, ids_numbered}
+use Rattle.body_index.proofs.ReadOps.{op_is, ids_numbered}
 use Rattle.aggregate_lower.proofs.WireSteps.{number_at, no_join_left, join_can, join_next, join_left}
 use Rattle.aggregate_lower.proofs.lowering.take_joins_out.Goals as goal
 

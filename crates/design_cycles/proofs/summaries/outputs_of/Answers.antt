@@ -1,7 +1,7 @@
 use Rattle.std.proofs.Common.{arith}
 use Rattle.ir_store.specs.Bodies.{ops_of}
 use Rattle.ir_store.specs.Numbered.{ops_by_position}
-use Rattle.ir_store.specs.OpIndexes.{op_view}
+use Rattle.body_index.specs.OpIndexes.{op_view}
 use Rattle.design_cycles.proofs.Pushing.{ids_count, output_here, output_later, output_nowhere}
 use Rattle.design_cycles.proofs.summaries.outputs_of.Goals as goal
 

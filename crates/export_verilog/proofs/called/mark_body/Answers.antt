@@ -5,7 +5,7 @@ use Rattle.ir_store.specs.Bodies.{ops_of}
 use Rattle.ir_store.specs.Numbered.{ops_by_position}
 use Rattle.ir_store.specs.Designs.{StoredModule, modules_of}
 use Rattle.design_cycles.specs.Calls.{callee_number}
-use Rattle.ir_store.specs.OpIndexes.{op_view}
+use Rattle.body_index.specs.OpIndexes.{op_view}
 use Rattle.export_verilog.proofs.items.Marks.{body_more}
 use Rattle.export_verilog.proofs.called.mark_body.Goals as goal
 

@@ -3,7 +3,7 @@ use Rattle.std.proofs.lemmas.List.{take_all}
 use Rattle.gates.specs.Circuits.{Runs}
 use Rattle.ir_store.specs.Bodies.{ops_of}
 use Rattle.ir_store.specs.Numbered.{ops_by_position}
-use Rattle.ir_store.specs.OpIndexes.{op_view}
+use Rattle.body_index.specs.OpIndexes.{op_view}
 use Rattle.flat_module_gates.specs.FlatGateLists.{word_at}
 use Rattle.flat_module_gates.specs.FlatSteps.{loaded_of, content_gate_list}
 use Rattle.flat_module_gates.proofs.Loading.{content_begin, content_skip, content_more, old_is}

@@ -7,7 +7,7 @@ use Rattle.hw_model.specs.Flat.{async_reset_in}
 use Rattle.hw_model.specs.RegisterViews.{register_of, reset_by_of}
 use Rattle.ir_store.specs.Bodies.{ids_of, ops_of}
 use Rattle.ir_store.specs.Numbered.{position_of, ref_by, ops_by_position}
-use Rattle.ir_store.specs.OpIndexes.{op_view}
+use Rattle.body_index.specs.OpIndexes.{op_view}
 use Rattle.net_gates.specs.RegisterGateLists.{enable_gate_list}
 use Rattle.flat_module_gates.specs.FlatGateLists.{word_at}
 use Rattle.flat_module_gates.specs.FlatSteps.{next_in, any_reset_in}

@@ -1,7 +1,7 @@
 use Rattle.std.proofs.Common.{◌≡◌, refl, sym, ap, ◌∙◌, map, arith, subst, IfOk}
 use Rattle.ir_store.specs.Bodies.{ops_of}
 use Rattle.ir_store.specs.Numbered.{ops_by_position}
-use Rattle.ir_store.specs.OpIndexes.{op_view}
+use Rattle.body_index.specs.OpIndexes.{op_view}
 use Rattle.operation_gates.specs.OperationGateLists.{concatenation}
 use Rattle.flat_module_gates.specs.FlatGateLists.{word_at}
 use Rattle.flat_module_gates.proofs.Loading.{outputs_here, outputs_later, outputs_none}

@@ -2,7 +2,7 @@ use Rattle.std.proofs.Common.{◌≡◌, ap, sym, subst, ◌∙◌, take, drop, 
 use Rattle.hw_model.specs.Flat.{held_width}
 use Rattle.ir_store.specs.Bodies.{ops_of}
 use Rattle.ir_store.specs.Numbered.{ops_by_position}
-use Rattle.ir_store.specs.OpIndexes.{op_view}
+use Rattle.body_index.specs.OpIndexes.{op_view}
 use Rattle.flat_module_gates.specs.FlatGateLists.{word_at, starts_from}
 use Rattle.flat_module_gates.proofs.Building.{gate_list_held, gate_list_given, runs_is}
 use Rattle.gates.proofs.Running.{runs-done}

@@ -7,7 +7,7 @@ use Rattle.ir_store.specs.Bodies.{ops_of, ids_of, read_op}
 use Rattle.ir_store.specs.BodyOps.{BodyOp, ids_in}
 use Rattle.ir_store.specs.Designs.{ports_in}
 use Rattle.ir_store.specs.Live.{AreDistinct}
-use Rattle.ir_store.specs.PositionTables.{ArePositions}
+use Rattle.body_index.specs.PositionTables.{ArePositions}
 use Rattle.ir_store.proofs.BodyLemmas.{ids_once}
 use Rattle.inline_pass.specs.Inlinable.{own_name}
 use Rattle.inline_pass.specs.MovedOps.{ArePutBefore, moved_value, operands_moved, without_id, wires_of}

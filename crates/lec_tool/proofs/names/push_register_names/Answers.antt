@@ -1,7 +1,7 @@
 use Rattle.std.proofs.Common.{◌+◌, ◌∷◌, [], ◌++◌, drop, sym, ap, ◌∙◌}
 use Rattle.ir_store.specs.Bodies.{ops_of}
 use Rattle.ir_store.specs.Numbered.{ops_by_position}
-use Rattle.ir_store.specs.OpIndexes.{op_view}
+use Rattle.body_index.specs.OpIndexes.{op_view}
 use Rattle.lec_tool.specs.LeafNames.{register_name, register_names}
 use Rattle.lec_tool.proofs.LeafLists.{one_made, register_next, no_register_next}
 use Rattle.lec_tool.proofs.names.push_register_names.Goals as goal

@@ -1,7 +1,7 @@
 use Rattle.std.proofs.Common.{◌≤◌, map, subst, refl}
 use Rattle.ir_store.specs.Bodies.{ids_of, ops_of}
 use Rattle.ir_store.specs.Numbered.{position_of, ref_by, ops_by_position}
-use Rattle.ir_store.proofs.ReadOps.{ids_numbered}
+use Rattle.body_index.proofs.ReadOps.{ids_numbered}
 use Rattle.aggregate_laws.specs.LeafPorts.{split_ports}
 use Rattle.aggregate_laws.specs.Aggregates.{aggregate_rules}
 use Rattle.lowering_rules.specs.LeafTables.{op_seen, all_refs_in, body_table, starts_from, ends_from}

@@ -2,9 +2,9 @@ use Rattle.std.proofs.Common.{sym, subst, ◌∙◌}
 use Rattle.ir_store.specs.Bodies.{ids_of}
 use Rattle.ir_store.specs.Designs.{ports_in}
 use Rattle.ir_store.specs.Live.{AreDistinct}
-use Rattle.ir_store.specs.PositionTables.{ArePositions}
+use Rattle.body_index.specs.PositionTables.{ArePositions}
 use Rattle.ir_store.proofs.BodyLemmas.{ids_once}
-use Rattle.ir_store.proofs.PositionTables.{ids_same}
+use Rattle.body_index.proofs.PositionTables.{ids_same}
 use Rattle.aggregate_laws.specs.LeafPorts.{split_ports}
 use Rattle.aggregate_laws.specs.Aggregates.{aggregate_rules}
 use Rattle.lowering_rules.proofs.TableValues.{leaves_are}

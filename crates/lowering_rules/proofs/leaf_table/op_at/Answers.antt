@@ -1,4 +1,4 @@
-use Rattle.ir_store.proofs.ReadOps.{id_contained, op_is}
+use Rattle.body_index.proofs.ReadOps.{id_contained, op_is}
 use Rattle.lowering_rules.proofs.leaf_table.op_at.Goals as goal
 
 pub op-requires : goal.op-requires

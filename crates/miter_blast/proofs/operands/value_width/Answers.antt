@@ -6,7 +6,7 @@ use Rattle.hw_model.specs.Sound.{type_in}
 use Rattle.ir_store.specs.Bodies.{ops_of}
 use Rattle.ir_store.specs.Designs.{ports_in}
 use Rattle.ir_store.specs.Numbered.{ops_by_position}
-use Rattle.ir_store.specs.OpIndexes.{op_view}
+use Rattle.body_index.specs.OpIndexes.{op_view}
 use Rattle.miter_blast.proofs.ValueWidths.{typed_at, untyped_past}
 use Rattle.miter_blast.proofs.operands.value_width.Goals as goal
 

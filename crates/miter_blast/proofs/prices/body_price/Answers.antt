@@ -4,7 +4,7 @@ use Rattle.wiring.specs.Lists.{total}
 use Rattle.ir_store.specs.Bodies.{ops_of}
 use Rattle.ir_store.specs.Designs.{ports_in}
 use Rattle.ir_store.specs.Numbered.{ops_by_position}
-use Rattle.ir_store.specs.OpIndexes.{op_view}
+use Rattle.body_index.specs.OpIndexes.{op_view}
 use Rattle.miter_blast.specs.BodyPrices.{whole_price, body_price}
 use Rattle.miter_blast.proofs.CappedSums.{total_more}
 use Rattle.miter_blast.proofs.prices.body_price.Goals as goal

@@ -3,8 +3,8 @@ use Rattle.std.specs.Prelude.{IfOk}
 use Rattle.hw_model.specs.KindViews.{kind_of}
 use Rattle.hw_model.specs.TypeViews.{type_of}
 use Rattle.ir_store.specs.OperationViews.{results_in}
-use Rattle.ir_store.specs.ResultTypes.{result_type}
-use Rattle.ir_store.specs.SettledTypes.{has_one_result}
+use Rattle.type_inference.specs.ResultTypes.{result_type}
+use Rattle.type_inference.specs.SettledTypes.{has_one_result}
 use Rattle.mlir_reader.specs.Resolving.{marked_results}
 use Rattle.mlir_reader.proofs.ResultCounts.{one_type}
 use Rattle.mlir_reader.proofs.results.results_of.Goals as goal

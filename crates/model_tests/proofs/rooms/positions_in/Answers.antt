@@ -2,7 +2,7 @@ use Rattle.std.proofs.Common.{subst, ap, sym, ◌∙◌}
 use Rattle.ir_store.specs.Bodies.{ids_of}
 use Rattle.ir_store.specs.Live.{AreDistinct}
 use Rattle.ir_store.proofs.BodyLemmas.{ids_once}
-use Rattle.ir_store.proofs.PositionTables.{indices, ids_same}
+use Rattle.body_index.proofs.PositionTables.{indices, ids_same}
 use Rattle.model_tests.proofs.rooms.positions_in.Goals as goal
 
 pub positions_of-requires : goal.positions_of-requires

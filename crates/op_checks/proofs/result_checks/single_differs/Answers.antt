@@ -1,7 +1,7 @@
 use Rattle.std.proofs.Common.{map, ap, sym, ◌∙◌}
 use Rattle.hw_model.specs.TypeViews.{type_of}
 use Rattle.hw_model.specs.FamilyViews.{family_of}
-use Rattle.ir_store.specs.ResultTypes.{result_type}
+use Rattle.type_inference.specs.ResultTypes.{result_type}
 use Rattle.op_checks.specs.TypeLists.{differs}
 use Rattle.op_checks.proofs.Lists.{one_differs, first_seen}
 use Rattle.op_checks.proofs.result_checks.single_differs.Goals as goal

@@ -3,7 +3,7 @@ use Rattle.std.proofs.lemmas.List.{length-map}
 use Rattle.hw_model.specs.TypeViews.{type_of}
 use Rattle.hw_model.specs.FamilyViews.{family_of}
 use Rattle.ir_store.specs.declared.operation.NewResult.{NewResult}
-use Rattle.ir_store.specs.ResultTypes.{result_type}
+use Rattle.type_inference.specs.ResultTypes.{result_type}
 use Rattle.op_checks.proofs.Owned.{one_owned}
 use Rattle.op_verifier.proofs.settled_types.is_own.Goals as goal
 use Rattle.std.proofs.lemmas.Bool.{not-true}

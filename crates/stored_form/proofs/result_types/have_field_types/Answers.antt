@@ -5,7 +5,7 @@ use Rattle.hw_model.specs.Sound.{field_list}
 use Rattle.hw_model.specs.TypeViews.{type_of, field_of, fields_of}
 use Rattle.hw_model.specs.declared.types.Ty.{the_lemmas}
 use Rattle.ir_store.specs.OperationViews.{result_of}
-use Rattle.ir_store.specs.ResultTypes.{fields_of as fields_in}
+use Rattle.type_inference.specs.ResultTypes.{fields_of as fields_in}
 use Rattle.stored_form.specs.ResultTypes.{HaveTypes}
 use Rattle.stored_form.proofs.result_types.have_field_types.Goals as goal
 

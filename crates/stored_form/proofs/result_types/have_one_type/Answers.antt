@@ -2,7 +2,7 @@ use Rattle.std.proofs.Common.{map, ap}
 use Rattle.hw_model.specs.TypeViews.{type_of}
 use Rattle.hw_model.specs.FamilyViews.{family_of}
 use Rattle.ir_store.specs.OperationViews.{result_of}
-use Rattle.ir_store.specs.ResultTypes.{result_type}
+use Rattle.type_inference.specs.ResultTypes.{result_type}
 use Rattle.stored_form.proofs.Results.{first_typed, first_other}
 use Rattle.stored_form.proofs.result_types.have_one_type.Goals as goal
 

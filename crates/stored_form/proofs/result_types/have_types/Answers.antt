@@ -3,7 +3,7 @@ use Rattle.hw_model.specs.Types.{HwType}
 use Rattle.hw_model.specs.TypeViews.{type_of}
 use Rattle.hw_model.specs.FamilyViews.{family_of}
 use Rattle.ir_store.specs.OperationViews.{result_of}
-use Rattle.ir_store.specs.ResultTypes.{result_types}
+use Rattle.type_inference.specs.ResultTypes.{result_types}
 use Rattle.stored_form.specs.ResultTypes.{HaveTypes}
 use Rattle.stored_form.proofs.result_types.have_types.Goals as goal
 

@@ -1,7 +1,7 @@
 use Rattle.std.proofs.Common.{sym, arith}
 use Rattle.std.proofs.lemmas.List.{length-map}
 use Rattle.ir_store.specs.declared.operation.OpId.{OpId}
-use Rattle.ir_store.proofs.PositionTables.{position_kept, position_missing}
+use Rattle.body_index.proofs.PositionTables.{position_kept, position_missing}
 use Rattle.inline_pass.specs.Destinations.{destination_ids}
 use Rattle.inline_pass.proofs.moved_ops.Destinations.position.Goals as goal
 

@@ -1,0 +1,3 @@
+-- Lemmas.
+pub mod PositionTables
+pub mod ReadOps

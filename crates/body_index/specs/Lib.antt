@@ -1,0 +1,2 @@
+pub mod OpIndexes
+pub mod PositionTables

@@ -1,8 +1,0 @@
-use Rattle.ir_store.proofs.ReadOps.{id_contained, op_is}
-use Rattle.ir_store.proofs.op_index.op_at.Goals as goal
-
-pub op-requires : goal.op-requires
-op-requires c = id_contained c.args.body.now c.args.ids.now c.requires.all c.args.position c.requires.within
-
-pub returns : goal.returns
-returns c = op_is c.args.body.now c.args.ids.now c.requires.all c.args.position c.requires.within c.op.result c.op.ensures

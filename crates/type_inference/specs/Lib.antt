@@ -1,0 +1,2 @@
+pub mod ResultTypes
+pub mod SettledTypes
