@@ -8,12 +8,12 @@ ghost use Rattle.io_edge.specs.Reading.{HasFileCause};
 use crate::byte_text::Text;
 use crate::file_access::{FileFail, Files};
 use crate::real_sink::write_out;
-use std::alloc::Global;
+use std::alloc::{AllocError, Global};
 use std::io::{ErrorKind, Read, Write};
 use std::marker::Model;
 use std::{fs, rt};
 
-// How many bytes one read asks for at most.
+// How many bytes one read asks for at most. They stand on the heap, so that a small stack suffices.
 const WINDOW: usize = 65_536;
 
 /// The system's files and standard input. Nothing of them is told but how many reads and how many
@@ -115,14 +115,14 @@ pub fn read_text<S: Read>(
     ensures cause { HasFileCause faults.old faults.new result }
 {
     let mut text = Text::new(alloc);
-    let mut window = [0u8; WINDOW];
+    let mut window = zeros(alloc, WINDOW)?;
     'reads: for _ in 0..u64::MAX {
         let left = limit - text.len() as u64;
         if left == 0 {
             return Ok(text);
         }
         let room = left.min(WINDOW as u64) as usize;
-        match read_some(source, window.split_at_mut(room).0, &mut text, faults) {
+        match read_some(source, window.as_mut_slice().split_at_mut(room).0, &mut text, faults) {
             Ok(true) => return Ok(text),
             Ok(false) => {}
             Err(fail) => return Err(fail),
@@ -130,6 +130,13 @@ pub fn read_text<S: Read>(
     }
     *faults = faults.saturating_add(1);
     Err(FileFail::Failed)
+}
+
+// So many zero bytes.
+fn zeros(alloc: Global, size: usize) -> Result<Vec<u8>, AllocError>
+    ensures { IfOk result (λ bytes. length bytes.items ≡ size) }
+{
+    vec![in alloc; 0u8; size]
 }
 
 // One read of at least one byte, put at the end of the text: whether the source has ended. A fault
