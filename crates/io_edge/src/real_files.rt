@@ -122,7 +122,12 @@ pub fn read_text<S: Read>(
             return Ok(text);
         }
         let room = left.min(WINDOW as u64) as usize;
-        match read_some(source, window.as_mut_slice().split_at_mut(room).0, &mut text, faults) {
+        match read_some(
+            source,
+            window.as_mut_slice().split_at_mut(room).0,
+            &mut text,
+            faults,
+        ) {
             Ok(true) => return Ok(text),
             Ok(false) => {}
             Err(fail) => return Err(fail),
