@@ -182,22 +182,34 @@ fn is_summed_up(rt: &(impl Threads + Sync + AllocGlobal)) -> Result<bool, AllocE
     puts(rt, "gen 7 200", wanted.as_bytes())
 }
 
-// Whether just this prefix of a text is put on an output of which the second put fails.
-fn is_prefix(
+/// Words that print a text of several pieces.
+const LONG_TEXT: &str = "gen 7 24 --verilog --workers 1";
+
+/// How many bytes a piece of a text has.
+const PIECE: usize = 4096;
+
+// Whether of a text just the pieces before one go out, where that one fails.
+fn is_cut_at(
     rt: &(impl Threads + Sync + AllocGlobal),
-    line: &str,
-    prefix: Option<&[u8]>,
+    text: &[u8],
+    piece: usize,
 ) -> Result<bool, AllocError> {
-    let run = run_long(rt, line, "", &[1])?;
-    Ok(run.code == 6 && prefix == Some(run.out.contents()))
+    let run = run_long(rt, LONG_TEXT, "", &[piece as u64])?;
+    Ok(run.code == 6 && text.get(..piece * PIECE) == Some(run.out.contents()))
 }
 
-// Whether of a long text just the first piece goes out, where the second one fails.
-fn is_cut(rt: &(impl Threads + Sync + AllocGlobal)) -> Result<bool, AllocError> {
-    match long_output(rt, "gen 7 200 --verilog")? {
-        Some(whole) => is_prefix(rt, "gen 7 200 --verilog", whole.contents().get(..4096)),
-        None => Ok(false),
+// The first piece of a long text before which other bytes go out where it fails. A text of one piece has none that is right.
+fn first_other_cut(rt: &(impl Threads + Sync + AllocGlobal)) -> Result<Option<usize>, AllocError> {
+    let Some(whole) = long_output(rt, LONG_TEXT)? else {
+        return Ok(Some(0));
+    };
+    let count = whole.contents().len().div_ceil(PIECE);
+    for piece in 0..count {
+        if count == 1 || !is_cut_at(rt, whole.contents(), piece)? {
+            return Ok(Some(piece));
+        }
     }
+    Ok(None)
 }
 
 #[test]
@@ -220,7 +232,7 @@ fn workers_change_no_verilog(rt: HostRuntime) -> Result<(), Fail> {
 
 #[test]
 fn a_prefix_goes_out_where_the_output_fails(rt: HostRuntime) -> Result<(), Fail> {
-    assert!(rt; is_cut(&rt)?);
+    assert_eq!(rt; first_other_cut(&rt)?, None);
     Ok(())
 }
 

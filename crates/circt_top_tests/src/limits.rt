@@ -116,6 +116,9 @@ fn ends_with(
     )
 }
 
+/// The error message on a module at line 124 that is too large.
+const TOO_LARGE: &str = "<stdin>:124:1: error: 'hw.module' V22: design too large\n";
+
 /// How a module ends, and what the program says of it.
 struct End {
     text: &'static str,
@@ -133,7 +136,7 @@ const ENDS: [End; 2] = [
     End {
         text: "  %z = hw.constant true\n}\n",
         code: 1,
-        message: "<stdin>:124:1: error: 'hw.module' V22: design too large\n",
+        message: TOO_LARGE,
     },
 ];
 
@@ -159,6 +162,25 @@ fn sizes_are_told_exactly(rt: HostRuntime) -> Result<(), Fail> {
         for end in &ENDS {
             assert!(rt; is_told(&rt, modules.as_str(), rest, end)?, "of {rest}");
         }
+    }
+    Ok(())
+}
+
+/// Commands on a text with a module that has two instances of the one before, thirty times; the 26th is the first that is too large.
+const COMMANDS: [&str; 5] = [
+    "opt",
+    "opt --split-input-file",
+    "opt --hw-flatten-modules",
+    "translate --export-verilog",
+    "lec - -c1 M30 -c2 M30",
+];
+
+#[test]
+fn a_design_that_is_too_large_is_refused_by_all(rt: HostRuntime) -> Result<(), Fail> {
+    let modules = doubling_modules(rt.alloc(), 30)?;
+    for line in COMMANDS {
+        let run = run_words(&rt, line, modules.as_str(), Failing::No)?;
+        assert!(rt; run.is(1, "", TOO_LARGE), "by {line}");
     }
     Ok(())
 }

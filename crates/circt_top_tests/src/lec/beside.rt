@@ -17,8 +17,8 @@ hw.module @M0(in %a : i1, out b : i1) {
 }
 ";
 
-/// How many modules have two instances of the one before. Flat, the last one would have 2^24 operations.
-const LEVELS: u32 = 24;
+/// How many modules have two instances of the one before. Flat, the last one would have 2^23 operations.
+const LEVELS: u32 = 23;
 
 // The small modules, and the large ones.
 fn all_modules(alloc: Global) -> Result<String, AllocError> {

@@ -2,7 +2,8 @@
 use crate::lec::commands::{Row, first_other};
 use std::test::Fail;
 
-const WORDS: &str = "
+/// Modules of which some agree.
+pub(crate) const WORDS: &str = "
 hw.module @p(in %a : i16, in %b : i16, in %c : i16, out o : i16) {
   %0 = comb.and %a, %b : i16
   %1 = comb.and %a, %c : i16

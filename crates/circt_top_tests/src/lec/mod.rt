@@ -3,6 +3,7 @@ mod beside;
 mod checks;
 mod commands;
 mod equivalence;
+mod faults;
 mod parts;
 mod proof_files;
 mod refused;

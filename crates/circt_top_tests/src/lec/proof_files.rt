@@ -1,5 +1,6 @@
 //! What `lec --proof` leaves in files: a formula, the proof that refutes it, and what stands there after each fault.
 use crate::lec::commands::run_on;
+use crate::lec::equivalence::WORDS;
 use crate::runs::{Ended, words_of};
 use circt_top::Open;
 use circt_top::run::run_circt;
@@ -8,29 +9,6 @@ use io_edge::memory_sink::MemorySink;
 use std::alloc::{AllocError, AllocGlobal};
 use std::test::Fail;
 use std::thread::Threads;
-
-const PAIRS: &str = "
-hw.module @p(in %a : i16, in %b : i16, in %c : i16, out o : i16) {
-  %0 = comb.and %a, %b : i16
-  %1 = comb.and %a, %c : i16
-  %2 = comb.or %0, %1 : i16
-  hw.output %2 : i16
-}
-hw.module @q(in %a : i16, in %b : i16, in %c : i16, out o : i16) {
-  %0 = comb.or %b, %c : i16
-  %1 = comb.and %a, %0 : i16
-  hw.output %1 : i16
-}
-hw.module @r(in %a : i8, out o : i1) {
-  %c5_i8 = hw.constant 5 : i8
-  %0 = comb.icmp eq %a, %c5_i8 : i8
-  hw.output %0 : i1
-}
-hw.module @s(in %a : i8, out o : i1) {
-  %false = hw.constant false
-  hw.output %false : i1
-}
-";
 
 /// The words of a line, the writes and the puts that fail, how the run ends, and which files there are then.
 struct Case {
@@ -114,7 +92,7 @@ const CASES: [Case; 6] = [
 fn run_case(rt: &(impl Threads + Sync + AllocGlobal), case: &Case) -> Result<Ended, AllocError> {
     let alloc = rt.alloc();
     let words = words_of(alloc, case.line)?;
-    let files = vec![in alloc; MemoryFile::of(alloc, "f.mlir", PAIRS.as_bytes())?]?;
+    let files = vec![in alloc; MemoryFile::of(alloc, "f.mlir", WORDS.as_bytes())?]?;
     let failing_writes = Vec::from_slice(alloc, case.failing_writes)?;
     let failing_puts = Vec::from_slice(alloc, case.failing_puts)?;
     let mut files = MemoryFiles::new(alloc, files).failing_writes_at(failing_writes);
