@@ -24,7 +24,7 @@ use std::thread::Threads;
 const PIPELINE: &[u8] = b"builtin.module(canonicalize,cse,hw-flatten-modules,canonicalize,cse)";
 
 /// The Verilog of what the passes make of the design of a recipe.
-pub(crate) fn generate_verilog<R: Threads + Sync, G: Gate + Sync>(
+pub(crate) fn generate_verilog<R: Threads + Sync, G: Gate + Copy + Send>(
     means: &Means<'_, R, G>,
     recipe: Recipe,
 ) -> Result<Text, OutcomeFail>
@@ -36,7 +36,7 @@ pub(crate) fn generate_verilog<R: Threads + Sync, G: Gate + Sync>(
 }
 
 /// The summary of the design of a recipe, and of what the passes make of it.
-pub(crate) fn summarise<R: Threads + Sync, G: Gate + Sync>(
+pub(crate) fn summarise<R: Threads + Sync, G: Gate + Copy + Send>(
     means: &Means<'_, R, G>,
     recipe: Recipe,
 ) -> Result<Text, OutcomeFail>

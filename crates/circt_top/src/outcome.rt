@@ -37,7 +37,7 @@ use std::alloc::AllocError;
 use std::thread::Threads;
 
 /// What a work makes of the texts of its inputs: the text that it prints with what that says, or what is refused.
-pub(crate) fn outcome<'a, R: Threads + Sync, G: Gate + Sync>(
+pub(crate) fn outcome<'a, R: Threads + Sync, G: Gate + Copy + Send>(
     means: &Means<'_, R, G>,
     work: &'a Work,
     sources: &[Text],
@@ -71,7 +71,7 @@ fn without_finding<'a>(text: Result<Text, OutcomeFail>) -> Result<Made<'a>, Outc
 }
 
 /// The text of what passes make of the design that a text says.
-fn print_whole<R: Threads + Sync, G: Gate + Sync>(
+fn print_whole<R: Threads + Sync, G: Gate + Copy + Send>(
     means: &Means<'_, R, G>,
     source: &[u8],
     passes: &Pipeline,
@@ -85,7 +85,7 @@ fn print_whole<R: Threads + Sync, G: Gate + Sync>(
 }
 
 /// The Verilog of what passes make of the design that a text says.
-fn translate_whole<R: Threads + Sync, G: Gate + Sync>(
+fn translate_whole<R: Threads + Sync, G: Gate + Copy + Send>(
     means: &Means<'_, R, G>,
     source: &[u8],
     passes: &Pipeline,
@@ -99,7 +99,7 @@ fn translate_whole<R: Threads + Sync, G: Gate + Sync>(
 }
 
 /// The texts of what passes make of the designs that the pieces of a text say, joined. The whole text may not be too long.
-fn print_pieces<R: Threads + Sync, G: Gate + Sync>(
+fn print_pieces<R: Threads + Sync, G: Gate + Copy + Send>(
     means: &Means<'_, R, G>,
     source: &[u8],
     passes: &Pipeline,
@@ -126,7 +126,7 @@ fn too_long() -> Refusal
 }
 
 /// The texts of what passes make of the designs that pieces say, joined, or the first refusal.
-fn print_each<R: Threads + Sync, G: Gate + Sync>(
+fn print_each<R: Threads + Sync, G: Gate + Copy + Send>(
     means: &Means<'_, R, G>,
     pieces: &[Piece<'_>],
     passes: &Pipeline,
@@ -147,7 +147,7 @@ fn print_each<R: Threads + Sync, G: Gate + Sync>(
 }
 
 /// Adds a line `// -----` and the text of what passes make of the design that a piece says.
-fn push_piece<R: Threads + Sync, G: Gate + Sync>(
+fn push_piece<R: Threads + Sync, G: Gate + Copy + Send>(
     means: &Means<'_, R, G>,
     text: &mut Text,
     piece: &Piece<'_>,
@@ -163,7 +163,7 @@ fn push_piece<R: Threads + Sync, G: Gate + Sync>(
 }
 
 /// The text of what passes make of the design that a piece says.
-fn print_piece<R: Threads + Sync, G: Gate + Sync>(
+fn print_piece<R: Threads + Sync, G: Gate + Copy + Send>(
     means: &Means<'_, R, G>,
     piece: &Piece<'_>,
     passes: &Pipeline,
@@ -178,7 +178,7 @@ fn print_piece<R: Threads + Sync, G: Gate + Sync>(
 }
 
 /// The text of what passes make of the accepted design that a text says.
-fn reprint<R: Threads + Sync, G: Gate + Sync>(
+fn reprint<R: Threads + Sync, G: Gate + Copy + Send>(
     means: &Means<'_, R, G>,
     source: &[u8],
     verified: Verified,
@@ -198,7 +198,7 @@ fn reprint<R: Threads + Sync, G: Gate + Sync>(
 }
 
 /// The text of what passes make of a verified design. Each body's memory is given back as soon as it is printed.
-fn print_result<R: Threads + Sync, G: Gate + Sync>(
+fn print_result<R: Threads + Sync, G: Gate + Copy + Send>(
     means: &Means<'_, R, G>,
     verified: Verified,
     passes: &Pipeline,

@@ -79,7 +79,7 @@ const PASSES_ON_OFFER: [Pass; 6] = [
 /// [`Status::Unknown`]. With `--proof FILE`, where they agree, a formula and the proof that refutes it are written to `FILE.cnf` (DIMACS CNF)
 /// and `FILE` (LRAT) before that. `check CNF PROOF` prints `verified` where the second file is such a proof over the formula
 /// of the first one. All other words are answered by [`Status::Usage`]. A fault of `err` changes no status.
-pub fn run_circt<R: Threads + Sync, F: Files, O: Sink, E: Sink, G: Gate + Sync>(
+pub fn run_circt<R: Threads + Sync, F: Files, O: Sink, E: Sink, G: Gate + Copy + Send>(
     rt: &R,
     alloc: Global,
     words: &[String],
@@ -124,7 +124,7 @@ fn read_command(alloc: Global, words: &[String]) -> Result<Invocation, LineFail>
 }
 
 // The run of a command.
-fn run_on<R: Threads + Sync, F: Files, O: Sink, E: Sink, G: Gate + Sync>(
+fn run_on<R: Threads + Sync, F: Files, O: Sink, E: Sink, G: Gate + Copy + Send>(
     rt: &R,
     alloc: Global,
     invocation: &Invocation,
@@ -236,7 +236,7 @@ fn bytes_at(number: u32, sources: &[Text]) -> &[u8]
 }
 
 // The run on the texts of the inputs.
-fn answer<'a, R: Threads + Sync, F: Files, O: Sink, G: Gate + Sync>(
+fn answer<'a, R: Threads + Sync, F: Files, O: Sink, G: Gate + Copy + Send>(
     rt: &R,
     alloc: Global,
     invocation: &'a Invocation,

@@ -38,25 +38,26 @@ pub(crate) struct Means<'a, R, G> {
 }
 
 /// What passes make of a verified design.
-pub(crate) fn passes_result<R: Threads + Sync, G: Gate + Sync>(
+pub(crate) fn passes_result<R: Threads + Sync, G: Gate + Copy + Send>(
     means: &Means<'_, R, G>,
     verified: Verified,
     passes: &Pipeline,
 ) -> Result<Verified, AllocError>
     ensures { IfOk result (λ made. IsResult passes.now (design_of verified.design) (design_of made.design)) }
 {
+    let mut gate = *means.gate;
     run_pipeline(
         means.rt,
         means.alloc,
         verified,
         passes,
         means.workers.count,
-        means.gate,
+        &mut gate,
     )
 }
 
 /// What passes make of a verified design, with its aggregates lowered to their leaves.
-pub(crate) fn exported_result<R: Threads + Sync, G: Gate + Sync>(
+pub(crate) fn exported_result<R: Threads + Sync, G: Gate + Copy + Send>(
     means: &Means<'_, R, G>,
     verified: Verified,
     passes: &Pipeline,
@@ -72,7 +73,7 @@ pub(crate) fn exported_result<R: Threads + Sync, G: Gate + Sync>(
 }
 
 /// The Verilog of what passes and then the lowering of aggregates made of any verified design.
-pub(crate) fn export_made<R: Threads + Sync, G: Gate + Sync>(
+pub(crate) fn export_made<R: Threads + Sync, G: Gate + Copy + Send>(
     means: &Means<'_, R, G>,
     made: &Verified,
 ) -> Result<Text, AllocError>
@@ -88,7 +89,7 @@ pub(crate) fn export_made<R: Threads + Sync, G: Gate + Sync>(
 }
 
 /// The Verilog of what passes make of a verified design, with its aggregates lowered.
-pub(crate) fn translate<R: Threads + Sync, G: Gate + Sync>(
+pub(crate) fn translate<R: Threads + Sync, G: Gate + Copy + Send>(
     means: &Means<'_, R, G>,
     verified: Verified,
     passes: &Pipeline,

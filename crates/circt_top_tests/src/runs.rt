@@ -152,7 +152,7 @@ pub fn run_gated(
     line: &str,
     input: &str,
     failing: Failing,
-    gate: &(impl Gate + Sync),
+    gate: &(impl Gate + Copy + Send),
 ) -> Result<Ended, AllocError> {
     let words = words_of(rt.alloc(), line)?;
     run_at(rt, words.as_slice(), input, failing, gate)
@@ -174,7 +174,7 @@ fn run_at(
     words: &[String],
     input: &str,
     failing: Failing,
-    gate: &(impl Gate + Sync),
+    gate: &(impl Gate + Copy + Send),
 ) -> Result<Ended, AllocError> {
     let alloc = rt.alloc();
     let mut files = files_of(alloc, input, failing)?;

@@ -18,19 +18,35 @@ hw.module @B(in %a : i8, out c : i8) {
 /// How often the first worker looks whether another one has come.
 const TURNS: u32 = 100_000_000;
 
-/// A gate that holds the first worker until another one has come.
+/// How many have come to a gate, and whether two have met there.
 #[derive(Drop)]
 struct Meeting {
     came: AtomicU64,
     met: AtomicU64,
 }
 
-impl Gate for Meeting {
-    fn enter(&self, _module: u32) {
-        if self.came.fetch_add(1, Ordering::SeqCst) == 0 {
-            self.wait();
+/// A gate that holds the first worker until another one has come.
+#[derive(Clone, Copy)]
+struct MeetingGate<'m> {
+    meeting: &'m Meeting,
+}
+
+impl Gate for MeetingGate<'_> {
+    ghost use Rattle.std.specs.Prelude.{None};
+
+    ghost told = { λ _. None };
+
+    fn enter(&mut self, _number: u32) {
+        if self.meeting.came.fetch_add(1, Ordering::SeqCst) == 0 {
+            self.meeting.wait();
         }
     }
+
+    fn another(&mut self) -> Self {
+        *self
+    }
+
+    fn gather(&mut self, _other: Self) {}
 }
 
 impl Meeting {
@@ -54,7 +70,8 @@ impl Meeting {
 // Whether two workers were at work at once.
 fn two_meet(rt: &(impl Threads + Sync + AllocGlobal), line: &str) -> Result<bool, AllocError> {
     let meeting = Meeting::new();
-    let ended = run_gated(rt, line, TWO, Failing::No, &meeting)?;
+    let gate = MeetingGate { meeting: &meeting };
+    let ended = run_gated(rt, line, TWO, Failing::No, &gate)?;
     Ok(ended.code == 0 && meeting.met.load(Ordering::SeqCst) == 1)
 }
 

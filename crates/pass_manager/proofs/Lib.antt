@@ -3,3 +3,4 @@ pub mod AllBodies
 pub mod CalleeLists
 pub mod FlatBodies
 pub mod Results
+pub mod Visits

@@ -1,4 +1,5 @@
 pub mod Results
+pub mod Visits
 pub mod Works
 pub mod Flats
 pub use Rattle.aggregate_lower.specs.Lowering

@@ -3,9 +3,8 @@ ghost use Rattle.std.specs.Prelude.{◌≡◌, None, IfOk};
 ghost use Rattle.pass_manager.specs.Works.{IsFirst, IsMade};
 
 use crate::body_pass::BodyPass;
-use crate::gate::Gate;
 use ir_store::body::Body;
-use shared_schedule::{Pieces, Plan, Work};
+use shared_schedule::{Gate, Pieces, Plan, Work};
 use std::alloc::{AllocError, Global};
 use std::marker::PhantomData;
 use std::snapshot::Snapshot;
@@ -33,25 +32,23 @@ impl<P: BodyPass> Pieces for Bodies<P> {
     ghost copied = { λ pieces m copy. copy ≡ None };
 }
 
-/// What a worker does with a module: it tells the gate, and has the pass work on the body.
+/// What a worker does with a module: it has the pass work on the body.
 #[derive(Drop)]
-pub(crate) struct BodyWork<'g, G> {
-    pub(crate) gate: &'g G,
-}
+pub(crate) struct BodyWork;
 
-impl<P: BodyPass, G: Gate> Work<Bodies<P>> for BodyWork<'_, G> {
-    fn work(
+impl<P: BodyPass> Work<Bodies<P>> for BodyWork {
+    fn work<G: Gate>(
         &self,
         alloc: Global,
         plan: &Plan<Bodies<P>>,
         m: u32,
         body: Body,
         _received: Vec<Option<Body>>,
+        _gate: &G,
     ) -> Result<Body, AllocError>
         requires first { IsFirst plan.now.pieces.before.value.items m body }
         ensures { IfOk result (λ b. IsMade P.makes plan.now.pieces.before.value.items m b) }
     {
-        self.gate.enter(m);
         let mut body = body;
         P::run(alloc, &mut body)?;
         Ok(body)

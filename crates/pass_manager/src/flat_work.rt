@@ -8,12 +8,11 @@ ghost use Rattle.ir_store.specs.Designs.{design_of, modules_of};
 ghost use Rattle.inline_pass.specs.OneBody.{IsOwnBody, IsFlatBody};
 ghost use Rattle.pass_manager.specs.Flats.{AreListsOf, IsFlatCopy};
 
-use crate::gate::Gate;
 use crate::owners::free_body;
 use inline_pass::received::flatten_received;
 use ir_store::body::Body;
 use ir_store::design::Design;
-use shared_schedule::{Pieces, Plan, Work};
+use shared_schedule::{Gate, Pieces, Plan, Work};
 use std::alloc::{AllocError, Global};
 use std::snapshot::Snapshot;
 use std::sync::Arc;
@@ -44,21 +43,19 @@ impl Pieces for FlatBodies<'_> {
     ghost copied = { λ pieces m copy. IsFlatCopy (design_of pieces.before.value) m copy };
 }
 
-/// What a worker does with a module: it tells the gate, and puts the flat bodies of private modules where the body
-/// instances these.
+/// What a worker does with a module: it puts the flat bodies of private modules where the body instances these.
 #[derive(Drop)]
-pub(crate) struct FlatWork<'g, G> {
-    pub(crate) gate: &'g G,
-}
+pub(crate) struct FlatWork;
 
-impl<'d, G: Gate> Work<FlatBodies<'d>> for FlatWork<'_, G> {
-    fn work(
+impl<'d> Work<FlatBodies<'d>> for FlatWork {
+    fn work<G: Gate>(
         &self,
         alloc: Global,
         plan: &Plan<FlatBodies<'d>>,
         m: u32,
         body: Arc<Body>,
         received: Vec<Option<Arc<Body>>>,
+        _gate: &G,
     ) -> Result<Arc<Body>, AllocError>
         requires within { m < length (callees_in plan.now) }
         requires lists { AreListsOf (design_of plan.now.pieces.before.value) (modules_of plan.now.pieces.headers.now) (callees_in plan.now) }
@@ -66,7 +63,6 @@ impl<'d, G: Gate> Work<FlatBodies<'d>> for FlatWork<'_, G> {
         requires received { AreReceived (IsFlatCopy (design_of plan.now.pieces.before.value)) (callees_of (callees_in plan.now) m) received.items }
         ensures { IfOk result (λ b. IsFlatBody (design_of plan.now.pieces.before.value) m (arc_value b)) }
     {
-        self.gate.enter(m);
         let mut body = free_body(alloc, body)?;
         let numbers = plan.callees[m as usize].as_slice();
         flatten_received(

@@ -1,51 +1,53 @@
 //! The pass `hw-flatten-modules`, worked by several workers.
-ghost use Rattle.std.specs.Prelude.{◌≡◌, ◌≤◌, OnOk};
+ghost use Rattle.std.specs.Prelude.{◌≡◌, ◌≤◌, length, OnOk};
 ghost use Rattle.ir_store.specs.Designs.{design_of};
+ghost use Rattle.shared_schedule.specs.Visits.{VisitsEach};
 ghost use Rattle.acceptance_laws.specs.Keeps.{IsFit};
 ghost use Rattle.inline_pass.specs.Flattening.{flat_design, IsFlattened};
 
 use crate::bodies::{put_bodies, take_bodies};
 use crate::callees::callee_lists;
 use crate::flat_work::{FlatBodies, FlatWork};
-use crate::gate::Gate;
 use crate::owners::{free_bodies, owned_bodies};
 use inline_pass::dead_modules::symbol_dce;
 use ir_store::design::Design;
-use shared_schedule::run_modules;
+use shared_schedule::{Gate, run_modules};
 use std::alloc::{AllocError, Global};
 use std::snapshot::Snapshot;
 use std::thread::Threads;
 
 /// Has each instance of a private module become the body of that module, and takes the private modules out of the design
 /// (CIRCT, HW dialect: `hw-flatten-modules`).
-pub(crate) fn flatten_modules<R: Threads + Sync, G: Gate + Sync>(
+pub(crate) fn flatten_modules<R: Threads + Sync, G: Gate + Send + Drop>(
     rt: &R,
     alloc: Global,
     design: &mut Design,
     workers: u32,
-    gate: &G,
+    gate: &mut G,
 ) -> Result<(), AllocError>
     requires fit { IsFit (design_of design.old) }
     requires one { 1 ≤ workers }
     requires few { workers ≤ 64 }
-    ensures { OnOk result (IsFlattened (design_of design.old) (design_of design.new)) }
+    ensures made { OnOk result (IsFlattened (design_of design.old) (design_of design.new)) }
+    ensures visits { OnOk result (VisitsEach (length (design_of design.old)) (G.told gate.old) (G.told gate.new)) }
 {
     flatten_bodies(rt, alloc, design, workers, gate)?;
     symbol_dce(alloc, design)
 }
 
 /// Makes the body of each module flat, after those of the modules that it instances, whose flat bodies come to the worker.
-fn flatten_bodies<R: Threads + Sync, G: Gate + Sync>(
+fn flatten_bodies<R: Threads + Sync, G: Gate + Send + Drop>(
     rt: &R,
     alloc: Global,
     design: &mut Design,
     workers: u32,
-    gate: &G,
+    gate: &mut G,
 ) -> Result<(), AllocError>
     requires fit { IsFit (design_of design.old) }
     requires one { 1 ≤ workers }
     requires few { workers ≤ 64 }
-    ensures { OnOk result (design_of design.new ≡ flat_design (design_of design.old)) }
+    ensures made { OnOk result (design_of design.new ≡ flat_design (design_of design.old)) }
+    ensures visits { OnOk result (VisitsEach (length (design_of design.old)) (G.told gate.old) (G.told gate.new)) }
 {
     let callees = callee_lists(alloc, design)?;
     let before = Snapshot::of(&*design);
@@ -55,8 +57,7 @@ fn flatten_bodies<R: Threads + Sync, G: Gate + Sync>(
         headers: &*design,
         before,
     };
-    let work = FlatWork { gate };
-    let done = run_modules(rt, alloc, pieces, callees, firsts, workers, &work)?;
+    let done = run_modules(rt, alloc, pieces, callees, firsts, workers, &FlatWork, gate)?;
     let bodies = free_bodies(alloc, done)?;
     put_bodies(design, bodies);
     Ok(())

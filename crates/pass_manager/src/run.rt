@@ -1,23 +1,24 @@
 //! Runs of passes over a design.
-ghost use Rattle.std.specs.Prelude.{◌≤◌, IfOk, OnOk};
+ghost use Rattle.std.specs.Prelude.{◌≤◌, length, IfOk, OnOk};
 ghost use Rattle.ir_store.specs.Designs.{design_of};
 ghost use Rattle.acceptance_laws.specs.Keeps.{IsFit};
 ghost use Rattle.pass_pipeline.specs.declared.pass.Pass.TheVariants.{HwLowerAggregates};
+ghost use Rattle.shared_schedule.specs.Visits.{VisitsEach};
 ghost use Rattle.pass_manager.specs.Results.{AreModulesBy, IsChosen, IsResult};
+ghost use Rattle.pass_manager.specs.Visits.{IsToldOf, AreToldOf};
 
 use crate::bodies::{put_bodies, take_bodies};
 use crate::body_pass::{BodyPass, CanonicalForm, CommonSubexpressions, LoweredRegisters};
 use crate::body_work::{Bodies, BodyWork};
 use crate::callees::callee_lists;
 use crate::flattening::flatten_modules;
-use crate::gate::Gate;
 use aggregate_lower::lowering::lower_aggregates;
 use inline_pass::dead_modules::symbol_dce;
 use ir_store::design::Design;
 use op_verifier::Verified;
 use pass_pipeline::pass::Pass;
 use pass_pipeline::pipeline::Pipeline;
-use shared_schedule::run_modules;
+use shared_schedule::{Gate, run_modules};
 use std::alloc::{AllocError, Global};
 use std::marker::PhantomData;
 use std::snapshot::Snapshot;
@@ -26,19 +27,20 @@ use std::thread::Threads;
 /// What the passes of a pipeline make of a design of which nothing is refused, one pass after another, for any number of
 /// workers, 1 to 64. A pass on bodies works each module by itself after those that it instances, on whichever worker comes to
 /// it, and `hw-flatten-modules` with the finished bodies of these; private modules go on the caller alone, and so do aggregates.
-/// `gate` is told of each module before a pass works on its body. The error comes only when out of memory, and the design is
-/// dropped then.
-pub fn run_pipeline<R: Threads + Sync, G: Gate + Sync>(
+/// The gate is told of each module once for each such pass, just before the pass works on its body, by a handle of the worker.
+/// The error comes only when out of memory, and the design is dropped then.
+pub fn run_pipeline<R: Threads + Sync, G: Gate + Send + Drop>(
     rt: &R,
     alloc: Global,
     design: Verified,
     pipeline: &Pipeline,
     workers: u32,
-    gate: &G,
+    gate: &mut G,
 ) -> Result<Verified, AllocError>
     requires one { 1 ≤ workers }
     requires few { workers ≤ 64 }
-    ensures { IfOk result (λ done. IsResult pipeline.now (design_of design.design) (design_of done.design)) }
+    ensures made { IfOk result (λ done. IsResult pipeline.now (design_of design.design) (design_of done.design)) }
+    ensures visits { OnOk result (AreToldOf pipeline.now (design_of design.design) (G.told gate.old) (G.told gate.new)) }
 {
     let mut made = design.into_design();
     for pass in pipeline.as_slice() {
@@ -58,18 +60,19 @@ pub fn with_lowered_aggregates(alloc: Global, design: Verified) -> Result<Verifi
 }
 
 /// One pass.
-fn run_pass<R: Threads + Sync, G: Gate + Sync>(
+fn run_pass<R: Threads + Sync, G: Gate + Send + Drop>(
     rt: &R,
     alloc: Global,
     design: &mut Design,
     pass: Pass,
     workers: u32,
-    gate: &G,
+    gate: &mut G,
 ) -> Result<(), AllocError>
     requires fit { IsFit (design_of design.old) }
     requires one { 1 ≤ workers }
     requires few { workers ≤ 64 }
-    ensures { OnOk result (IsChosen pass (design_of design.old) (design_of design.new)) }
+    ensures made { OnOk result (IsChosen pass (design_of design.old) (design_of design.new)) }
+    ensures visits { OnOk result (IsToldOf pass (length (design_of design.old)) (G.told gate.old) (G.told gate.new)) }
 {
     match pass {
         Pass::Canonicalize => change_bodies::<R, CanonicalForm, G>(
@@ -86,17 +89,18 @@ fn run_pass<R: Threads + Sync, G: Gate + Sync>(
 }
 
 /// Has a pass work on the body of each module.
-fn change_bodies<R: Threads + Sync, P: BodyPass + Sync, G: Gate + Sync>(
+fn change_bodies<R: Threads + Sync, P: BodyPass + Sync, G: Gate + Send + Drop>(
     rt: &R,
     alloc: Global,
     design: &mut Design,
     workers: u32,
-    gate: &G,
+    gate: &mut G,
 ) -> Result<(), AllocError>
     requires fit { IsFit (design_of design.old) }
     requires one { 1 ≤ workers }
     requires few { workers ≤ 64 }
-    ensures { OnOk result (AreModulesBy P.makes (design_of design.old) (design_of design.new)) }
+    ensures made { OnOk result (AreModulesBy P.makes (design_of design.old) (design_of design.new)) }
+    ensures visits { OnOk result (VisitsEach (length (design_of design.old)) (G.told gate.old) (G.told gate.new)) }
 {
     let callees = callee_lists(alloc, design)?;
     let bodies = take_bodies(alloc, design)?;
@@ -104,8 +108,7 @@ fn change_bodies<R: Threads + Sync, P: BodyPass + Sync, G: Gate + Sync>(
         before: Snapshot::of(&bodies),
         pass: PhantomData,
     };
-    let work = BodyWork { gate };
-    let done = run_modules(rt, alloc, pieces, callees, bodies, workers, &work)?;
+    let done = run_modules(rt, alloc, pieces, callees, bodies, workers, &BodyWork, gate)?;
     put_bodies(design, done);
     Ok(())
 }

@@ -5,7 +5,7 @@ ghost use Rattle.shared_schedule.specs.Views.{callees_in};
 ghost use Rattle.sched_core.specs.Runs.{AreCallees};
 ghost use Rattle.sched_core.proofs.Falling.{all_below};
 
-use shared_schedule::{Pieces, Plan, Work, run_modules};
+use shared_schedule::{Gate, Pieces, Plan, Work, run_modules};
 use std::alloc::{AllocError, Global};
 use std::sync::atomic::{AtomicU64, Ordering};
 use std::test::Fail;
@@ -37,6 +37,28 @@ struct Count {
     wrong: AtomicU64,
 }
 
+/// Counts the modules that it is told of.
+#[derive(Clone, Copy)]
+struct Told<'t> {
+    modules: &'t AtomicU64,
+}
+
+impl Gate for Told<'_> {
+    ghost use Rattle.std.specs.Prelude.{None};
+
+    ghost told = { λ _. None };
+
+    fn enter(&mut self, _number: u32) {
+        self.modules.fetch_add(1, Ordering::SeqCst);
+    }
+
+    fn another(&mut self) -> Self {
+        *self
+    }
+
+    fn gather(&mut self, _other: Self) {}
+}
+
 // whether the finished bodies of these modules have come
 fn have_come(callees: &[u32], received: &[Option<u64>]) -> bool {
     if received.len() != callees.len() {
@@ -51,13 +73,14 @@ fn have_come(callees: &[u32], received: &[Option<u64>]) -> bool {
 }
 
 impl Work<Sevens> for Count {
-    fn work(
+    fn work<G: Gate>(
         &self,
         _alloc: Global,
         plan: &Plan<Sevens>,
         m: u32,
         body: u64,
         received: Vec<Option<u64>>,
+        _gate: &G,
     ) -> Result<u64, AllocError>
         requires within { m < length (callees_in plan.now) }
         requires first { body ≡ 7 }
@@ -204,11 +227,16 @@ fn goes_well<R: Threads + Sync>(
         modules: AtomicU64::new(0),
         wrong: AtomicU64::new(0),
     };
-    let bodies = run_modules(rt, alloc, Sevens, callees, bodies, workers, &count)?;
+    let told = AtomicU64::new(0);
+    let mut gate = Told { modules: &told };
+    let bodies = run_modules(
+        rt, alloc, Sevens, callees, bodies, workers, &count, &mut gate,
+    )?;
     let worked = count.modules.load(Ordering::SeqCst);
     let wrong = count.wrong.load(Ordering::SeqCst);
     Ok(
         worked == modules as u64
+            && told.load(Ordering::SeqCst) == worked
             && wrong == 0
             && (bodies.len() == modules && is_right(bodies.as_slice())),
     )

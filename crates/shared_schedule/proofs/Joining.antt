@@ -42,7 +42,7 @@ last_move-append (x ∷ xs) ys m = by_test (m == x.0) refl (last_move-append xs 
     by_test true e rest = cond-true (m == x.0) (Some x.1) (last_move (xs ++ ys) m) e ∙ ap (λ o. first_of o (last_move ys m)) (sym (cond-true (m == x.0) (Some x.1) (last_move xs m) e))
     by_test false e rest = cond-false (m == x.0) (Some x.1) (last_move (xs ++ ys) m) e ∙ rest ∙ ap (λ o. first_of o (last_move ys m)) (sym (cond-false (m == x.0) (Some x.1) (last_move xs m) e))
 
-done_times-append : (xs ys : List (ℕ × Hold)) (m : ℕ) → done_times (xs ++ ys) m ≡ done_times xs m + done_times ys m
+pub done_times-append : (xs ys : List (ℕ × Hold)) (m : ℕ) → done_times (xs ++ ys) m ≡ done_times xs m + done_times ys m
 done_times-append [] ys m = omega arith
 done_times-append (x ∷ xs) ys m = let rest : done_times (xs ++ ys) m ≡ done_times xs m + done_times ys m = done_times-append xs ys m in omega (arith, rest)
 

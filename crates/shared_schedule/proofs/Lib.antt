@@ -13,6 +13,7 @@ pub mod Ending
 pub mod FirstTable
 pub mod Looking
 pub mod Working
+pub mod Visiting
 pub mod Exchanging
 pub mod Callers
 pub mod Copies

@@ -1,8 +1,7 @@
 -- A look at the table changes nothing, and shows that the lists of a view agree.
-use Rattle.std.proofs.Common.{◌≡◌, ◌≢◌, ℕ, Bool, true, false, ◌&&◌, set, Option, Some, refl, sym, ap, subst, ◌∙◌}
+use Rattle.std.proofs.Common.{◌≡◌, ℕ, Bool, true, false, ◌&&◌, set, Option, Some, refl, sym, ap, subst, ◌∙◌}
 use Rattle.std.proofs.lemmas.Bool.{false≢true, false_from_ne_true}
 use mathlib.Core.Option.{none}
-use Rattle.atomic_table.specs.Table as table
 use Rattle.atomic_table.specs.Table.{Me, keeps, Allows, step}
 use Rattle.atomic_table.proofs.Lists.{set_again}
 use Rattle.sched_core.specs.declared.parts.Stage.{Stage}

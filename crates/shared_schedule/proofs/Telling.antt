@@ -6,7 +6,6 @@ use Rattle.std.proofs.lemmas.Bool.{true≢false, cases_eq, eq-eqb, ne_eqb, cond-
 use native.Mathlib.Nat.{add-mod_right}
 use mathlib.Core.Option.{some, none}
 use lib.ListN.{get_elem?}
-use Rattle.atomic_table.specs.Table as table
 use Rattle.atomic_table.specs.Table.{Me, gives, Allows, step, rest, put_back}
 use Rattle.atomic_table.proofs.Lists.{set_here, set_else}
 use Rattle.sched_core.specs.declared.parts.Stage.{Stage}

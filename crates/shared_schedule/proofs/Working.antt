@@ -33,7 +33,7 @@ between-finished callees v b = record { over = over; told = b.told }
     over m Begun is = absurd (b.begun m is)
     over m Over is = refl
 
-times-append : (m : ℕ) (xs ys : List ℕ) → times m (xs ++ ys) ≡ times m xs + times m ys
+pub times-append : (m : ℕ) (xs ys : List ℕ) → times m (xs ++ ys) ≡ times m xs + times m ys
 times-append m [] ys = omega arith
 times-append m (x ∷ xs) ys = ap (λ n. one_if (m == x) + n) (times-append m xs ys) ∙ (let e : one_if (m == x) + (times m xs + times m ys) ≡ (one_if (m == x) + times m xs) + times m ys = omega arith in e)
 
@@ -224,7 +224,7 @@ module _ {P : Type 0} (callees : List (List ℕ)) (v : View P) (queue : List ℕ
       told a b at over other (inl e) = absurd (true≢false (sym over ∙ ap (λ k. is_over (last_move ((c, Due) ∷ v.moves) k)) e ∙ ap is_over (move-here c Due v.moves)))
       told a b at over other (inr ne) = tells.told a b at (ap is_over (sym (move-other c (callee callees a b) Due v.moves ne)) ∙ over) other
 
-append-none : (xs : List ℕ) → xs ++ [] ≡ xs
+pub append-none : (xs : List ℕ) → xs ++ [] ≡ xs
 append-none [] = refl
 append-none (x ∷ xs) = ap (λ ys. x ∷ ys) (append-none xs)
 

@@ -5,3 +5,4 @@ pub mod Plays
 pub mod Opened
 pub mod Working
 pub mod Copies
+pub mod Visits

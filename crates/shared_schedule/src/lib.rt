@@ -2,6 +2,7 @@
 #![tactic(auto)]
 
 mod gang;
+mod gate;
 mod making;
 mod opening;
 mod pieces;
@@ -15,6 +16,7 @@ mod work;
 mod worker;
 
 pub use gang::run_modules;
+pub use gate::{Gate, Open};
 pub use pieces::Pieces;
 pub use plan::Plan;
 pub use shared::Shared;

@@ -3,11 +3,13 @@
 ghost use Rattle.std.specs.Prelude.{◌≡◌, ℕ, ◌+◌, ◌<◌, false, cond, [], ◌∷◌, ◌++◌, List, Some, length, map, slice_index_or, IfOk, OnOk};
 ghost use Rattle.sched_core.specs.State.{IsEdge, callees_of};
 ghost use Rattle.shared_schedule.specs.declared.view.Hold.TheVariants.{Begun};
-ghost use Rattle.shared_schedule.specs.Views.{callees_in, last_move, has_edge};
+ghost use Rattle.shared_schedule.specs.Views.{callees_in, last_move, done_times, has_edge};
 ghost use Rattle.shared_schedule.specs.Seats.{IsIdle};
 ghost use Rattle.shared_schedule.specs.Copies.{AreReceived, AreCopies};
 ghost use Rattle.shared_schedule.specs.Working.{IsBetween, IsTelling, GoesOn, IsEmptied, IsReady, IsDone, open_modules};
+ghost use Rattle.shared_schedule.specs.Visits.{HasVisited};
 
+use crate::gate::Gate;
 use crate::pieces::Pieces;
 use crate::shared::Shared;
 use crate::slot::Slot;
@@ -81,6 +83,7 @@ fn tell<P: Pieces>(
     ensures id { OnOk result (seat.new.id ≡ seat.old.id) }
     ensures told { OnOk result ((rest : List (ℕ × ℕ)) → IsTelling (callees_in shared.now.plan) seat.old.me.0 queue.old.items m (edge ∷ rest) → IsTelling (callees_in shared.now.plan) seat.new.me.0 queue.new.items m rest) }
     ensures on { OnOk result (GoesOn seat.old.me.0 seat.new.me.0) }
+    ensures done { OnOk result ((k : ℕ) → done_times seat.new.me.0.moves k ≡ done_times seat.old.me.0.moves k) }
 {
     shared.look(seat);
     let (c, i) = edge;
@@ -118,6 +121,7 @@ where
     ensures id { OnOk result (seat.new.id ≡ seat.old.id) }
     ensures between { OnOk result (IsBetween (callees_in shared.now.plan) seat.new.me.0 queue.new.items) }
     ensures on { OnOk result (GoesOn seat.old.me.0 seat.new.me.0) }
+    ensures done { OnOk result ((k : ℕ) → done_times seat.new.me.0.moves k ≡ done_times seat.old.me.0.moves k) }
 {
     for k in 0..shared.caller_count(m) {
         let edge = shared.caller(m, k);
@@ -127,12 +131,13 @@ where
     Ok(())
 }
 
-// works one module of the queue, which was taken out of it
-fn work_module<P: Pieces, W: Work<P>>(
+// works one module of the queue, which was taken out of it, once the gate was told of it
+fn work_module<P: Pieces, W: Work<P>, G: Gate>(
     shared: &Shared<P>,
     alloc: Global,
     seat: &mut Seat<Slot<P::Body>, View<P>>,
     work: &W,
+    gate: &mut G,
     queue: &mut Vec<u32>,
     m: u32,
 ) -> Result<(), AllocError>
@@ -146,22 +151,25 @@ where
     ensures between { OnOk result (IsBetween (callees_in shared.now.plan) seat.new.me.0 queue.new.items) }
     ensures on { OnOk result (GoesOn seat.old.me.0 seat.new.me.0) }
     ensures less { OnOk result (open_modules (callees_in shared.now.plan) seat.new.me.0 < open_modules (callees_in shared.now.plan) seat.old.me.0) }
+    ensures visited { OnOk result (HasVisited (length (callees_in shared.now.plan)) seat.old.me.0 seat.new.me.0 (G.told gate.old) (G.told gate.new)) }
 {
     shared.look(seat);
     let body = shared.take_body(seat, m);
     let received = take_edges(shared, alloc, seat, m)?;
-    let body = work.work(alloc, &shared.plan, m, body, received)?;
+    gate.enter(m);
+    let body = work.work(alloc, &shared.plan, m, body, received, &*gate)?;
     let copies = copies_of(shared, alloc, work, m, &body)?;
     shared.put_done(seat, m, body);
     tell_callers(shared, seat, queue, m, copies)
 }
 
 // works the modules of the queue, and those that come to be owed meanwhile
-fn work_queue<P: Pieces, W: Work<P>>(
+fn work_queue<P: Pieces, W: Work<P>, G: Gate>(
     shared: &Shared<P>,
     alloc: Global,
     seat: &mut Seat<Slot<P::Body>, View<P>>,
     work: &W,
+    gate: &mut G,
     queue: &mut Vec<u32>,
 ) -> Result<(), AllocError>
 where
@@ -174,31 +182,34 @@ where
     ensures between { OnOk result (IsBetween (callees_in shared.now.plan) seat.new.me.0 []) }
     ensures queue { OnOk result (queue.new.items ≡ []) }
     ensures on { OnOk result (GoesOn seat.old.me.0 seat.new.me.0) }
+    ensures visited { OnOk result (HasVisited (length (callees_in shared.now.plan)) seat.old.me.0 seat.new.me.0 (G.told gate.old) (G.told gate.new)) }
 {
     while let Some(m) = queue.pop() {
-        work_module(shared, alloc, seat, work, queue, m)?;
+        work_module(shared, alloc, seat, work, gate, queue, m)?;
     }
     Ok(())
 }
 
 /// Draws leaves until there is none left, and works them and all that comes to be owed by it.
-pub(crate) fn worker<P: Pieces, W: Work<P>>(
+pub(crate) fn worker<P: Pieces, W: Work<P>, G: Gate + Drop>(
     shared: &Shared<P>,
     alloc: Global,
     mut seat: Seat<Slot<P::Body>, View<P>>,
     work: &W,
+    mut gate: G,
     mut queue: Vec<u32>,
-) -> Result<Seat<Slot<P::Body>, View<P>>, AllocError>
+) -> Result<(Seat<Slot<P::Body>, View<P>>, G), AllocError>
 where
     P::Body: Drop,
     requires ready { IsReady shared.now.table.shared.table_id shared.now.plan seat }
     requires empty { queue.items ≡ [] }
     requires lists { P.lists shared.now.plan.pieces (callees_in shared.now.plan) }
-    ensures { IfOk result (λ s. IsDone shared.now.table.shared.table_id shared.now.plan seat s 0) }
+    ensures done { IfOk result (λ r. IsDone shared.now.table.shared.table_id shared.now.plan seat r.0 0) }
+    ensures visited { IfOk result (λ r. HasVisited (length (callees_in shared.now.plan)) seat.me.0 r.0.me.0 (G.told gate) (G.told r.1)) }
 {
     while let Some(m) = shared.claim_leaf(&mut seat) {
         queue.push(m)?;
-        work_queue(shared, alloc, &mut seat, work, &mut queue)?;
+        work_queue(shared, alloc, &mut seat, work, &mut gate, &mut queue)?;
     }
-    Ok(seat)
+    Ok((seat, gate))
 }

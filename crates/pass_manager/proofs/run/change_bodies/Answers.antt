@@ -4,6 +4,7 @@ use Rattle.ir_store.specs.Designs.{modules_of}
 use Rattle.ir_store.proofs.ThreadBodies.{body_send}
 use Rattle.pass_manager.specs.Works.{IsFirst, IsMade}
 use Rattle.pass_manager.proofs.AllBodies.{all_made, each_first, count_taken, count_emptied}
+use Rattle.pass_manager.proofs.Visits.{visits_all}
 use Rattle.pass_manager.proofs.run.change_bodies.Goals as goal
 
 pub run_modules-requires-send-P-Body : goal.run_modules-requires-send-P-Body
@@ -21,8 +22,11 @@ pub put_bodies-requires : goal.put_bodies-requires
 put_bodies-requires g c =
     c.in_ok-done.ensures.len ∙ c.in_ok-callees.ensures.count ∙ sym (ap length c.in_ok-bodies.ensures.modules ∙ count_emptied (modules_of c.args.design.now))
 
-pub returns : goal.returns
-returns g c =
+pub returns-clause-visits : goal.returns-clause-visits
+returns-clause-visits g c = visits_all (modules_of c.args.design.now) _ _ _ c.in_ok-callees.ensures.count c.in_ok-done.ensures.visits
+
+pub returns-clause-made : goal.returns-clause-made
+returns-clause-made g c =
     all_made g.P.BodyPass.makes (modules_of c.args.design.now) (modules_of c.take_bodies.new.design) (modules_of c.put_bodies.new.design) c.in_ok-bodies.bodies.items c.in_ok-done.done.items
     c.in_ok-bodies.ensures.bodies c.in_ok-bodies.ensures.modules
     (c.in_ok-done.ensures.len ∙ c.in_ok-callees.ensures.count ∙ sym (count_taken (modules_of c.args.design.now) c.in_ok-bodies.bodies.items c.in_ok-bodies.ensures.bodies))

@@ -15,6 +15,7 @@ loop-k-preserved g c = record {
   many = copies-fewer c.loop-k.copies.items c.next_copy-copy.new.copies.items c.next_copy-copy.result c.loop-k.k _ c.loop-k.invariant.many c.next_copy-copy.ensures;
   each = copies-left _ c.loop-k.copies.items c.next_copy-copy.new.copies.items c.next_copy-copy.result c.loop-k.invariant.each c.next_copy-copy.ensures;
   on = goes-then _ _ _ c.loop-k.invariant.on c.in_ok-tell.ensures.on;
+  done = λ n. c.in_ok-tell.ensures.done n ∙ c.loop-k.invariant.done n;
 }
 
 pub tell-requires-clause-copied : goal.tell-requires-clause-copied

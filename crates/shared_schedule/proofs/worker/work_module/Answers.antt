@@ -1,8 +1,9 @@
-use Rattle.std.proofs.Common.{◌∷◌, ◌++◌, [], map, get_or, ap, sym, subst, ◌∙◌}
+use Rattle.std.proofs.Common.{◌∷◌, ◌++◌, [], map, length, get_or, ap, sym, subst, ◌∙◌}
 use Rattle.shared_schedule.specs.declared.view.Hold.TheVariants.{Begun, Over}
 use Rattle.shared_schedule.specs.Views.{callees_in, last_move, is_over, has_edge}
 use Rattle.shared_schedule.specs.Working.{IsBetween, GoesOn}
 use Rattle.shared_schedule.proofs.Working.{between-due, worked-on, done-telling, goes-then, less-open, move-here, on-ok}
+use Rattle.shared_schedule.proofs.Visiting.{visited-one}
 use Rattle.shared_schedule.proofs.worker.work_module.Goals as goal
 
 pub take_body-body-requires-clause-within : goal.take_body-body-requires-clause-within
@@ -65,3 +66,13 @@ returns-clause-less g c =
     less-open callees c.args.seat.now.me.0 c.tell_callers.new.seat.me.0 c.args.m all.over due.1 (ap is_over due.0)
     (on.over c.args.m (ap (λ ms. is_over (last_move ms c.args.m)) worked.1 ∙ ap is_over (move-here c.args.m Over ((c.args.m, Begun) ∷ c.look.new.seat.me.0.moves)))))
     c.tell_callers.ensures.on
+
+pub returns-clause-visited : goal.returns-clause-visited
+returns-clause-visited g c =
+    let callees = callees_in c.args.shared.now.plan in
+    let due = between-due callees c.args.seat.now.me.0 c.args.queue.now.items c.args.m c.requires.between in
+    let worked = worked-on c.look.new.seat.me.0 c.take_body-body.new.seat.me.0 c.take_edges.new.seat.me.0 c.put_done.new.seat.me.0 c.args.m (ap (λ v. last_move v.moves c.args.m) c.look.ensures.same ∙ due.0)
+    c.take_body-body.ensures.begun c.in_ok-received.ensures.emptied.same c.put_done.ensures.over in
+    on-ok c.tell_callers.result (λ same. visited-one (length callees) c.args.seat.now.me.0 c.put_done.new.seat.me.0 c.tell_callers.new.seat.me.0 c.args.m _ _ due.1
+    (worked.1 ∙ ap (λ v. (c.args.m, Over) ∷ (c.args.m, Begun) ∷ v.moves) c.look.ensures.same) c.enter.ensures same)
+    c.tell_callers.ensures.done

@@ -2,6 +2,7 @@ use Rattle.std.proofs.Common.{◌∷◌, ◌++◌, [], ap, sym, subst, ◌∙◌
 use Rattle.shared_schedule.specs.Views.{callees_in}
 use Rattle.shared_schedule.specs.Working.{IsBetween}
 use Rattle.shared_schedule.proofs.Working.{drawn-between, drawn-less}
+use Rattle.shared_schedule.proofs.Visiting.{visited-then, drawn-visited}
 use Rattle.shared_schedule.proofs.worker.worker.Goals as goal
 
 pub work_queue-requires-clause-between : goal.work_queue-requires-clause-between
@@ -22,6 +23,8 @@ loop-m-preserved g c =
       queue = c.in_ok-work_queue.ensures.queue;
       splits = less.1.splits ∙ c.loop-m.invariant.splits;
       shares = less.1.shares ∙ c.loop-m.invariant.shares;
+      visited = visited-then _ _ _ _ _ _ _ c.loop-m.invariant.visited
+          (visited-then _ _ _ _ _ _ _ (drawn-visited _ c.loop-m.seat.me.0 c.claim_leaf.new.seat.me.0 c.in-Some.m _ c.in-Some.ensures.drawn) c.in_ok-work_queue.ensures.visited);
     }
 
 pub loop-m-smaller : goal.loop-m-smaller
