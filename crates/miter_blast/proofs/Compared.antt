@@ -2,7 +2,7 @@
 use Rattle.std.proofs.Common.{◌≡◌, refl, sym, ap, ap₂, subst, ◌∙◌, ℕ, ◌+◌, ◌<◌, ◌≤◌, Bool, true, false, cond, List, [], ◌∷◌, ◌++◌, map, length, slice_get, Some, min, arith}
 use Rattle.std.specs.List.{filter, flat_map}
 use mathlib.Core.Path.{subst₂}
-use Rattle.diag.specs.declared.cause.Cause.TheVariants.{RegistersDiffer, TooManyGates}
+use Rattle.diag.specs.declared.cause.Cause.TheVariants.{TooManyGates}
 use Rattle.hw_model.specs.Types.{Name, width, leaves}
 use Rattle.hw_model.specs.Design.{Op, Module, Design, find_module, is_register, result_type}
 use Rattle.hw_model.specs.Flat.{Slot, input_width, width_of, held_width, state}
@@ -29,7 +29,7 @@ use Rattle.miter_blast.proofs.ComparedCopies.{copies_alike}
 use Rattle.miter_blast.specs.BodyPrices.{body_price}
 use Rattle.miter_blast.proofs.PricedBodies.{price_of_body}
 use Rattle.miter_blast.specs.Building.{most_gates, modules_price, pair_price, AreReady, IsBuilt}
-use Rattle.miter_blast.specs.Comparisons.{IsPriceOf, IsComparisonRefusal, IsRefusedComparison, IsComparison, no_pair, registers as registers_apart, price as price_above}
+use Rattle.miter_blast.specs.Comparisons.{IsPriceOf, IsComparisonRefusal, IsRefusedComparison, IsComparison, no_pair, price as price_above}
 use Rattle.miter_blast.specs.Leaves.{held_widths, input_widths}
 use Rattle.miter_blast.specs.MiterForms.{MiterForm}
 use Rattle.miter_blast.specs.Pairs.{IsPair, at_module, IsRefusedPair}
@@ -122,16 +122,16 @@ module _ (d : Design) (s : Name) (i : ℕ) (m : Module) (accepted : IsAccepted d
 
 module _ (d : Design) (a : Name) (e : Design) (b : Name) (i j : ℕ) (pair : IsPair d a e b i j) (d_accepted : IsAccepted d) (d_printable : Printable d) (e_accepted : IsAccepted e) (e_printable : Printable e)
     (c : Design) (c_copied : IsFlatCopyAt d i c) (f : Design) (f_copied : IsFlatCopyAt e j f) where
-  abbrev first_keeps : KeepsFlat d pair.left c
+  abbrev pub first_keeps : KeepsFlat d pair.left c
   first_keeps = keeps d a i pair.left d_accepted d_printable pair.left_at pair.found.one c c_copied
 
-  abbrev second_keeps : KeepsFlat e pair.right f
+  abbrev pub second_keeps : KeepsFlat e pair.right f
   second_keeps = keeps e b j pair.right e_accepted e_printable pair.right_at pair.found.two f f_copied
 
-  abbrev one : Module
+  abbrev pub one : Module
   one = first_keeps.one
 
-  abbrev two : Module
+  abbrev pub two : Module
   two = second_keeps.one
 
   abbrev pub first_one : Module
@@ -146,17 +146,7 @@ module _ (d : Design) (a : Name) (e : Design) (b : Name) (i j : ℕ) (pair : IsP
   pub second_one_is : f ≡ second_one ∷ []
   second_one_is = second_keeps.is_one
 
-  first_held : held_widths one.body ≡ register_widths d a
-  first_held = copy_held d a i pair.left d_accepted d_printable pair.left_at pair.found.one c c_copied one first_keeps.is_one
-
-  second_held : held_widths two.body ≡ register_widths e b
-  second_held = copy_held e b j pair.right e_accepted e_printable pair.right_at pair.found.two f f_copied two second_keeps.is_one
-
-  -- registers differ
-  pub refused_registers : (held_widths one.body ≡ held_widths two.body → ⊥) → IsComparisonRefusal d a e b (at_module 1 pair.right.location RegistersDiffer)
-  refused_registers apart = registers_apart pair.left pair.right pair.found pair.ports (λ same. apart (first_held ∙ same ∙ sym second_held))
-
-  module _ (same : held_widths one.body ≡ held_widths two.body) where
+  module _ (same : register_widths d a ≡ register_widths e b) where
     abbrev comparable : AreComparable d a e b
     comparable = record {
       one = pair.left;
@@ -165,7 +155,7 @@ module _ (d : Design) (a : Name) (e : Design) (b : Name) (i j : ℕ) (pair : IsP
       two_found = pair.found.two;
       inputs = pair.ports.0;
       outputs = pair.ports.1;
-      held = sym first_held ∙ same ∙ second_held;
+      held = same;
     }
 
     abbrev first_copy : IsFlatCopy d a c
@@ -207,7 +197,7 @@ module _ (d : Design) (a : Name) (e : Design) (b : Name) (i j : ℕ) (pair : IsP
 
     -- ---- the price
 
-    price_is : pair_price c f ≡ comparison_price c a one f b two
+    pub price_is : pair_price c f ≡ comparison_price c a one f b two
     price_is =
         let lists : pair_price c f ≡ modules_price one two = ap₂ (λ x y. pair_price x y) first_keeps.is_one second_keeps.is_one in
         let own : copy_price c a one ≡ body_price one.ports one.body =
@@ -229,6 +219,10 @@ module _ (d : Design) (a : Name) (e : Design) (b : Name) (i j : ℕ) (pair : IsP
       second_is = second_keeps.is_one;
       is = price_is;
     }
+
+    -- a price that is not more is too high
+    pub refused_least : (least : ℕ) → least ≤ pair_price c f → most_gates < least → IsComparisonRefusal d a e b (at_module 0 pair.left.location TooManyGates)
+    refused_least least low many = price_above pair.left pair.right pair.found comparable (pair_price c f) priced (omega (arith, low, many))
 
     pub refused_price : (p : ℕ) → p ≡ min (pair_price c f) 18446744073709551615 → most_gates < p → IsComparisonRefusal d a e b (at_module 0 pair.left.location TooManyGates)
     refused_price p is many = price_above pair.left pair.right pair.found comparable (pair_price c f) priced (omega (arith, is, many))

@@ -18,6 +18,11 @@ pub mod CopyWidths
 pub mod ComparedCopies
 pub mod LevelSteps
 pub mod RegisterCosts
+pub mod RegisterLeaves
+pub mod CopyExists
+pub mod LeastPrices
+pub mod OutputBits
+pub mod EarlyRefusals
 pub mod PricedBodies
 pub mod ResultPrices
 pub mod CappedSums

@@ -8,4 +8,5 @@ pub mod Formulas
 pub mod FlatCopy
 pub mod Comparable
 pub mod ComparisonPrices
+pub mod LightPairs
 pub mod BodyPrices

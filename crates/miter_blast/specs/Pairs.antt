@@ -62,3 +62,7 @@ IsRefusedPair d a e b NoMemory = Unit {0}
 -- a fact holds exactly where a test does
 abbrev pub Tells : Bool → Type 0 → Type 0
 Tells b P = MatchBool b P (P → ⊥)
+
+-- modules of some symbols are at these positions, with the same ports
+abbrev pub HasPair : Design → Design → ℕ → ℕ → Type 0
+HasPair d e i j = (a : Name) × (b : Name) × IsPair d a e b i j

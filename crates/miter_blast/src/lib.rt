@@ -8,6 +8,7 @@ pub mod comparing;
 mod comparison_laws;
 pub mod copies;
 mod copy_laws;
+mod early;
 pub mod fail;
 mod formula;
 pub mod input;

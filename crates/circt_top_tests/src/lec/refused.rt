@@ -207,3 +207,47 @@ fn what_takes_too_many_gates_is_refused(rt: HostRuntime) -> Result<(), Fail> {
     assert!(rt; chains(&rt, PRODUCTS, 1, refused)?);
     Ok(())
 }
+
+/// How many modules have two instances of the one before. The last one has 2^21 times 32 registers of 128 bits: of the 2^33
+/// bits each takes 4 gates, and there are more bits than a number of 32 bits can say.
+const LEVELS: u32 = 21;
+
+// An instance of the module of a number.
+fn push_instance(
+    text: &mut String,
+    alloc: Global,
+    name: &str,
+    number: u32,
+) -> Result<(), AllocError> {
+    let line = format!(in alloc;
+        "  hw.instance \"{name}\" @M{number}(clk: %clk: !seq.clock) -> ()\n"
+    )?;
+    text.push_str(line.as_str())
+}
+
+// A module of arrays of registers, and so many more, each with two instances of the one before.
+fn push_levels(text: &mut String, alloc: Global) -> Result<(), AllocError> {
+    text.push_str("hw.module @M0(in %clk : !seq.clock) {\n")?;
+    text.push_str("  %r = seq.compreg %r, %clk : !hw.array<32xi128>\n  hw.output\n}\n")?;
+    for before in 0..LEVELS {
+        let number = before + 1;
+        let head = format!(in alloc; "hw.module @M{number}(in %clk : !seq.clock) {{\n")?;
+        text.push_str(head.as_str())?;
+        push_instance(text, alloc, "a", before)?;
+        push_instance(text, alloc, "b", before)?;
+        text.push_str("  hw.output\n}\n")?;
+    }
+    Ok(())
+}
+
+#[test]
+fn registers_of_many_instances_are_counted_without_copies(rt: HostRuntime) -> Result<(), Fail> {
+    let alloc = rt.alloc();
+    let mut text = String::from_str(alloc, "")?;
+    push_levels(&mut text, alloc)?;
+    let run = run_on(&rt, "lec f.mlir -c1 M21 -c2 M21", text.as_str(), "")?;
+    let refused = "f.mlir:105:1: error: 'hw.module' L4: too many gates\n";
+    assert_eq!(rt; run.code, 1);
+    assert!(rt; run.err.contents() == refused.as_bytes());
+    Ok(())
+}
