@@ -195,7 +195,7 @@ fn is_cut_at(
     piece: usize,
 ) -> Result<bool, AllocError> {
     let run = run_long(rt, LONG_TEXT, "", &[piece as u64])?;
-    Ok(run.code == 6 && text.get(..piece * PIECE) == Some(run.out.contents()))
+    Ok(run.code == 6 && text.get(..piece.saturating_mul(PIECE)) == Some(run.out.contents()))
 }
 
 // The first piece of a long text before which other bytes go out where it fails. A text of one piece has none that is right.
