@@ -119,8 +119,8 @@ def outputs(case):
 def inputs(case):
     note("the input is a folder", (5, b"", b"circt: cannot read folder\n"), case.run("opt folder"))
     note("the input is missing", (5, b"", b"circt: cannot read none.mlir\n"), case.run("opt none.mlir"))
-    note("no descriptor is left", (5, b"", b"circt: cannot read adder.mlir\n"),
-         case.run("opt adder.mlir", preexec_fn=limit(resource.RLIMIT_NOFILE, 3)))
+    note("no descriptor is left for the second file", (5, b"", b"circt: cannot read two.mlir\n"),
+         without_descriptors(case, "lec - two.mlir -c1 p -c2 q", TWO))
     note("the input is closed", (5, b"circt: cannot read <stdin>\n"), case.redirected("opt", "<&-"))
     whole = case.run("opt adder.mlir")
     for length in (0, 50, 103, len(ADDER)):
@@ -142,6 +142,16 @@ def stopped(case, line, text):
         child.send_signal(signal.SIGSTOP)
         child.send_signal(signal.SIGCONT)
     out, message = child.communicate(timeout=SECONDS)
+    return child.returncode, out, message
+
+
+def without_descriptors(case, line, text):
+    """A run that may open no more files once it waits for its standard input."""
+    child = subprocess.Popen([case.program, *line.split()], cwd=case.folder, stdin=subprocess.PIPE, stdout=subprocess.PIPE,
+                             stderr=subprocess.PIPE)
+    time.sleep(1)
+    resource.prlimit(child.pid, resource.RLIMIT_NOFILE, (3, 3))
+    out, message = child.communicate(text, timeout=SECONDS)
     return child.returncode, out, message
 
 

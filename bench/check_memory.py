@@ -104,7 +104,7 @@ class Question:
     def count(self):
         with tempfile.NamedTemporaryFile() as file:
             self.run({"COUNT_FILE": file.name})
-            return int(file.read())
+            return int.from_bytes(file.read(), sys.byteorder)
 
     def files_are_kept(self, after):
         """Whether the files are as they were; of a proof the first one may be whole."""

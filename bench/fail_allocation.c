@@ -4,7 +4,7 @@
 
    FAIL_AT=N      the Nth alone is refused
    FAIL_FROM=N    the Nth and all that follow are
-   COUNT_FILE=F   at the end their number is written into the file F
+   COUNT_FILE=F   their number is kept in the file F, as eight bytes in the machine's order
 
    It stands before the allocator of the GNU C library, whose own names it calls. What the loader asks for before the library is
    started is not counted. */
@@ -12,8 +12,8 @@
 #include <fcntl.h>
 #include <stdatomic.h>
 #include <stddef.h>
-#include <stdio.h>
 #include <stdlib.h>
+#include <sys/mman.h>
 #include <unistd.h>
 
 extern void *__libc_malloc(size_t size);
@@ -21,7 +21,8 @@ extern void *__libc_calloc(size_t count, size_t size);
 extern void *__libc_realloc(void *old, size_t size);
 extern void *__libc_memalign(size_t alignment, size_t size);
 
-static atomic_ulong asked;
+static atomic_ulong own;
+static atomic_ulong *asked = &own;
 static unsigned long at, from;
 static int started;
 
@@ -30,27 +31,28 @@ static unsigned long number_of(const char *name) {
     return text ? strtoul(text, NULL, 10) : 0;
 }
 
+/* The program may end without the library's exit, so the count stands in a file that is mapped. */
+static void count_in(const char *name) {
+    int file = open(name, O_RDWR | O_CREAT, 0644);
+    if (file < 0 || ftruncate(file, sizeof own) != 0) _exit(99);
+    void *mapped = mmap(NULL, sizeof own, PROT_READ | PROT_WRITE, MAP_SHARED, file, 0);
+    if (mapped == MAP_FAILED) _exit(99);
+    close(file);
+    asked = mapped;
+    atomic_store(asked, 0);
+}
+
 __attribute__((constructor)) static void start(void) {
+    const char *name = getenv("COUNT_FILE");
+    if (name) count_in(name);
     at = number_of("FAIL_AT");
     from = number_of("FAIL_FROM");
     started = 1;
 }
 
-__attribute__((destructor)) static void write_count(void) {
-    const char *name = getenv("COUNT_FILE");
-    char digits[24];
-    started = 0;
-    if (!name) return;
-    int file = open(name, O_WRONLY | O_CREAT | O_TRUNC, 0644);
-    if (file < 0) return;
-    int length = snprintf(digits, sizeof digits, "%lu\n", atomic_load(&asked));
-    if (write(file, digits, (size_t)length) != length) _exit(99);
-    close(file);
-}
-
 static int is_refused(void) {
     if (!started) return 0;
-    unsigned long number = atomic_fetch_add(&asked, 1) + 1;
+    unsigned long number = atomic_fetch_add(asked, 1) + 1;
     if (number != at && (from == 0 || number < from)) return 0;
     errno = ENOMEM;
     return 1;
