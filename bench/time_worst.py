@@ -5,16 +5,20 @@
 
 Each text is about so many MB long: a body in reverse (each operation uses the one after it), ports, one long name, arrays in arrays,
 modules whose outputs depend on many inputs, a chain of operations, many small modules. Where the text has no module that a command
-may take (a design whose weight is too great is refused), the row says so. A row for each text and size, with seconds of the processor
-and MB of peak memory for each command.
+may take (a design whose weight is too great is refused), or a run wants more than 8 GB, its status stands behind its cost. A row for
+each text and size, with seconds of the processor and MB of peak memory for each command, of which those of this script are the least.
 """
 import os
+import resource
 import subprocess
 import sys
 import tempfile
 
 sys.dont_write_bytecode = True
 import support
+
+# What a run may take, in bytes.
+MEMORY = 8 << 30
 
 COMMANDS = [
     ("opt", "opt"),
@@ -28,10 +32,10 @@ COMMANDS = [
 def reverse(size, write):
     """Each operation uses the one after it."""
     count = size // 30
-    write("hw.module @T(in %a : i8, out o : i8) {\n  hw.output %0 : i8\n")
+    write("hw.module @T(in %a : i8, out o : i8) {\n")
     for number in range(count):
         write(f"  %{number} = comb.sub %{number + 1}, %a : i8\n")
-    write(f"  %{count} = comb.sub %a, %a : i8\n}}\n")
+    write(f"  %{count} = comb.sub %a, %a : i8\n  hw.output %0 : i8\n}}\n")
 
 
 def ports(size, write):
@@ -51,7 +55,7 @@ def name(size, write):
 
 def nesting(size, write):
     """Arrays in arrays, as many as there may be by weight, over and over."""
-    ty = "!hw.array<1x" * 60 + "i8" + ">" * 60
+    ty = "!hw.array<1x" * 30 + "i8" + ">" * 30
     write(f"hw.module @T(in %a : {ty}, out o : {ty}) {{\n  hw.output %a : {ty}\n}}\n")
     for number in range(size // (3 * len(ty))):
         write(f"hw.module @N{number}(in %a : {ty}, out o : {ty}) {{\n  hw.output %a : {ty}\n}}\n")
@@ -87,12 +91,17 @@ def modules(size, write):
 TEXTS = [reverse, ports, name, nesting, dependence, chain, modules]
 
 
+def limit_memory():
+    resource.setrlimit(resource.RLIMIT_AS, (MEMORY, MEMORY))
+
+
 def cost(program, words, text, rounds):
     """What a command costs on a text, with the status that it ends with where that is not 0."""
     best, status = None, 0
     for _ in range(rounds):
         with open(text, "rb") as source:
-            child = subprocess.Popen([program, *words.split()], stdin=source, stdout=subprocess.DEVNULL, stderr=subprocess.DEVNULL)
+            child = subprocess.Popen([program, *words.split()], stdin=source, stdout=subprocess.DEVNULL, stderr=subprocess.DEVNULL,
+                                     preexec_fn=limit_memory)
             _, ended, usage = os.wait4(child.pid, 0)
         child.returncode = status = os.waitstatus_to_exitcode(ended)
         spent = usage.ru_utime + usage.ru_stime, usage.ru_maxrss / 1024
