@@ -140,12 +140,6 @@ module _ (d : Design) (a : Name) (e : Design) (b : Name) (i j : ℕ) (pair : IsP
   pub first_one_is : c ≡ first_one ∷ []
   first_one_is = first_keeps.is_one
 
-  abbrev pub second_one : Module
-  second_one = two
-
-  pub second_one_is : f ≡ second_one ∷ []
-  second_one_is = second_keeps.is_one
-
   module _ (same : register_widths d a ≡ register_widths e b) where
     abbrev comparable : AreComparable d a e b
     comparable = record {

@@ -1,5 +1,5 @@
 -- The widths of the leaves of a module's registers are those of its body, one operation after another.
-use Rattle.std.proofs.Common.{◌≡◌, ℕ, zero, suc, cond, List, [], ◌∷◌, ◌++◌, map, slice_get, Option, Some, None, refl, sym, ap, ap₂, ◌∙◌, append_assoc, option_map}
+use Rattle.std.proofs.Common.{◌≡◌, ℕ, zero, suc, cond, List, [], ◌∷◌, ◌++◌, map, slice_get, Option, Some, None, refl, sym, ap, ap₂, ◌∙◌, append_assoc, append-nil, option_map}
 use Rattle.std.specs.List.{flat_map}
 use Rattle.std.proofs.lemmas.List.{map-append}
 use Rattle.hw_model.specs.Types.{Name, HwType, width, leaves}
@@ -24,17 +24,13 @@ leaves_append (s ∷ xs) ys =
     ∙ sym (append_assoc (map width_of (leaf_types (result_type s.op 0))) (slots_leaves xs) (slots_leaves ys))
     ∙ ap (λ ws. ws ++ slots_leaves ys) (sym (map-append width_of (leaf_types (result_type s.op 0)) (flat_map leaf_types (map (λ (r : Slot). result_type r.op 0) xs))))
 
-no_more : {A : Type 0} (xs : List A) → xs ++ [] ≡ xs
-no_more [] = refl
-no_more (x ∷ xs) = ap (λ ys. x ∷ ys) (no_more xs)
-
 some_widths : (ts : List HwType) → map width_of (map (λ (u : HwType). Some u) ts) ≡ map width ts
 some_widths [] = refl
 some_widths (t ∷ ts) = ap (λ ws. width t ∷ ws) (some_widths ts)
 
 -- those of one register
 one_register : (p : Path) (o : Op) → slots_leaves (record { path = p; op = o } ∷ []) ≡ first_widths o.results
-one_register p o = ap (map width_of) (no_more (leaf_types (result_type o 0))) ∙ go o.results
+one_register p o = ap (map width_of) (append-nil (leaf_types (result_type o 0))) ∙ go o.results
   where
     go : (rs : List OpResult) → map width_of (leaf_types (option_map (λ (r : OpResult). r.type) (slice_get rs 0))) ≡ first_widths rs
     go [] = refl

@@ -1,8 +1,8 @@
 -- The modules that a module reaches, in an order in which each stands after those that it instances.
-use Rattle.std.proofs.Common.{◌≡◌, ◌⊎◌, ℕ, zero, suc, ◌+◌, ◌<◌, Bool, true, false, cond, List, [], ◌∷◌, ◌++◌, length, map, take, slice_get, Some, refl, sym, ap, subst, ◌∙◌, inl, inr, arith}
+use Rattle.std.proofs.Common.{◌≡◌, ◌⊎◌, ℕ, zero, suc, ◌+◌, ◌<◌, Bool, true, false, cond, List, [], ◌∷◌, length, map, take, slice_get, Some, refl, sym, ap, subst, ◌∙◌, inl, inr, arith}
 use Rattle.std.specs.List.{filter}
 use Rattle.std.proofs.lemmas.List.{length-map}
-use Rattle.wiring.specs.Wiring.{In, Chain}
+use Rattle.wiring.specs.Wiring.{In}
 use Rattle.wiring.proofs.Chains.{Chain-append}
 use Rattle.hw_model.specs.Hierarchy.{callee_symbols}
 use Rattle.hw_model.specs.Design.{Module, Design}

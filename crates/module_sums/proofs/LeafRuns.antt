@@ -1,7 +1,7 @@
 -- The widths of leaves: of fields one after another, of operations, and of modules in a table.
-use Rattle.std.proofs.Common.{◌≡◌, ◌⊎◌, ℕ, zero, suc, ◌+◌, ◌<◌, ◌≤◌, Bool, true, false, cond, is_some, List, [], ◌∷◌, ◌++◌, length, map, take, get_or, set, slice_get, Option, Some, None, refl, sym, ap, ap₂, subst, ◌∙◌, inl, inr, arith}
-use Rattle.std.proofs.Common.{append_assoc, length-set}
-use Rattle.std.proofs.lemmas.List.{map-append, map_more, take_all, take_more, length-map}
+use Rattle.std.proofs.Common.{◌≡◌, ℕ, zero, suc, ◌+◌, ◌<◌, ◌≤◌, Bool, true, false, cond, is_some, List, [], ◌∷◌, ◌++◌, length, map, take, get_or, set, slice_get, Option, Some, None, refl, sym, ap, ap₂, subst, ◌∙◌, inl, arith}
+use Rattle.std.proofs.Common.{append_assoc, append-nil, length-set}
+use Rattle.std.proofs.lemmas.List.{map-append, map_more, take_all, length-map}
 use Rattle.std.proofs.lemmas.Option.{slice_get-get_or}
 use Rattle.wiring.specs.Wiring.{In}
 use Rattle.wiring.proofs.Lists.{take-suc_some}
@@ -16,8 +16,6 @@ use Rattle.hw_model.specs.Design.{OpResult, Op, Module, Design, register_form, i
 use Rattle.hw_model.specs.Hierarchy.{callee_symbols, called_by, HasNoRecursion}
 use Rattle.hw_model.specs.Sound.{body_of}
 use Rattle.hw_model.proofs.FieldSums.{type_field, fields_open}
-use Rattle.hw_model.proofs.Sorts.{Sort, sort_of}
-use Rattle.hw_model.proofs.Sorts.Sort.{a_register, an_instance, an_output, a_made}
 use Rattle.ir_store.specs.Designs.{StoredModule, numbered_module}
 use Rattle.ir_store.specs.Numbered.{ops_by_position}
 use Rattle.ir_store.proofs.StoredModules.{stored_at}
@@ -28,7 +26,7 @@ use Rattle.run_lists.specs.Runs.{expanded, many, AreApart, AreRunsOf}
 use Rattle.run_lists.specs.declared.runs.Run.{Run}
 use Rattle.run_lists.specs.declared.runs.RunList.{RunList}
 use Rattle.module_sums.specs.Sums.{kept_by, IsBelow}
-use Rattle.module_sums.specs.RegisterWidths.{first_widths, called_widths, kind_widths, body_widths, widths_of, leaf_widths, widths_in, kept_at, kept_widths, AreAllApart, AreEmpty, AreRegisterRuns}
+use Rattle.module_sums.specs.RegisterWidths.{first_widths, called_widths, kind_widths, body_widths, widths_of, widths_in, kept_at, kept_widths, AreAllApart, AreEmpty, AreRegisterRuns}
 use Rattle.module_sums.proofs.Tables.{IsKept, kept_more}
 
 -- ---- types
@@ -49,11 +47,7 @@ abbrev pub field_widths : List NamedType → List ℕ
 field_widths fs = map width (leaves_of_fields (fields_of fs))
 
 fields_more : (fs : List NamedType) (f : NamedType) → field_widths (fs ++ f ∷ []) ≡ field_widths fs ++ map width (leaves f.type)
-fields_more [] f = ap (map width) (no_more (leaves f.type))
-  where
-    no_more : (ts : List HwType) → ts ++ [] ≡ ts
-    no_more [] = refl
-    no_more (t ∷ ts) = ap (λ us. t ∷ us) (no_more ts)
+fields_more [] f = ap (map width) (append-nil (leaves f.type))
 fields_more (g ∷ fs) f =
     map-append width (leaves g.type) (leaves_of_fields (fields_of (fs ++ f ∷ [])))
     ∙ ap (λ ws. map width (leaves g.type) ++ ws) (fields_more fs f)
@@ -105,11 +99,7 @@ pub body_more : (inner : Name → List ℕ) (os : List Op) (j : ℕ) (o : Op) (n
 body_more inner os j o now next at before made =
     let longer : take (j + 1) os ≡ take j os ++ o ∷ [] = (let e : j + 1 ≡ suc j = omega arith in ap (λ n. take n os) e) ∙ take-suc_some os j o at in
     made ∙ ap (λ ws. ws ++ kind_widths inner o.kind o.results) before
-    ∙ sym (ap (body_widths inner) longer ∙ body_append inner (take j os) (o ∷ []) ∙ ap (λ ws. body_widths inner (take j os) ++ ws) (no_more (kind_widths inner o.kind o.results)))
-  where
-    no_more : (ws : List ℕ) → ws ++ [] ≡ ws
-    no_more [] = refl
-    no_more (w ∷ ws) = ap (λ us. w ∷ us) (no_more ws)
+    ∙ sym (ap (body_widths inner) longer ∙ body_append inner (take j os) (o ∷ []) ∙ ap (λ ws. body_widths inner (take j os) ++ ws) (append-nil (kind_widths inner o.kind o.results)))
 
 pub body_all : (inner : Name → List ℕ) (os : List Op) (j : ℕ) (now : List ℕ) → length os ≤ j → now ≡ body_widths inner (take j os) → now ≡ body_widths inner os
 body_all inner os j now all is = is ∙ ap (body_widths inner) (take_all j os all)
@@ -120,11 +110,6 @@ pub kept_some : (table : List RunList) (i : ℕ) (r : RunList) → slice_get tab
 kept_some [] i r at = cc
 kept_some (x ∷ table) zero r at = let same : x ≡ r = cc in ap (λ (y : RunList). expanded y.runs.items) same
 kept_some (x ∷ table) (suc i) r at = kept_some table i r at
-
-pub kept_none : (table : List RunList) (i : ℕ) → slice_get table i ≡ None → kept_at table i ≡ []
-kept_none [] i at = refl
-kept_none (x ∷ table) zero at = cc
-kept_none (x ∷ table) (suc i) at = kept_none table i at
 
 pub apart_at : (table : List RunList) → AreAllApart table → (i : ℕ) (r : RunList) → slice_get table i ≡ Some r → AreApart r.runs.items
 apart_at [] are i r at = cc

@@ -1,5 +1,5 @@
 -- What is kept of modules one after another, each after those that it instances, is what they have.
-use Rattle.std.proofs.Common.{◌≡◌, ◌⊎◌, ℕ, zero, suc, ◌+◌, ◌<◌, ◌≤◌, ◌≢◌, Bool, true, false, eqb, List, [], ◌∷◌, ◌++◌, length, map, take, get_or, set, slice_get, Option, Some, None, refl, sym, ap, subst, ◌∙◌, inl, inr, arith}
+use Rattle.std.proofs.Common.{◌≡◌, ◌⊎◌, ℕ, zero, suc, ◌+◌, ◌<◌, ◌≤◌, ◌≢◌, Bool, true, false, eqb, List, [], ◌∷◌, length, map, take, get_or, set, slice_get, Option, Some, None, refl, sym, ap, subst, ◌∙◌, inl, inr, arith}
 use Rattle.std.proofs.lemmas.List.{take_more, length-map, get_or-set_same, get_or-set_other}
 use Rattle.std.proofs.lemmas.Bool.{eqb-true, eqb-false}
 use Rattle.std.proofs.lemmas.Option.{slice_get_within, slice_get-get_or}
@@ -42,11 +42,6 @@ module _ {A : Type 0} (of : (Name → A) → Option Module → A) (none : A)
       where
         rank : (t : Name) → h t ≤ suc (length d)
         rank t = subst (λ k. h t ≤ suc k) (length-map d (λ (m : Module). m.symbol)) (height-le (calls d) (map (λ (m : Module). m.symbol) d) (calls_within d) h height t)
-
-    pub steady_depth : (n : ℕ) (s : Name) → h s ≤ n → to_depth of none n d s ≡ summed of none d s
-    steady_depth n s low =
-        let bound : h s ≤ suc (length d) = subst (λ k. h s ≤ suc k) (length-map d (λ (m : Module). m.symbol)) (height-le (calls d) (map (λ (m : Module). m.symbol) d) (calls_within d) h height s) in
-        steady n (suc (length d)) s low bound
 
   -- what a module has, by what those have that it instances
   pub sum_opens : (d : Design) → HasNoRecursion d → (s : Name) → summed of none d s ≡ of (summed of none d) (find_module d s)

@@ -1,5 +1,5 @@
 -- The widths of the leaves of the registers of a module and of all that it instances, in the order of its content.
-use Rattle.std.specs.Prelude.{◌≡◌, ℕ, zero, suc, Bool, cond, is_some, List, [], ◌∷◌, ◌++◌, Option, Some, None, length, map, slice_get, get_or}
+use Rattle.std.specs.Prelude.{◌≡◌, ℕ, zero, suc, cond, is_some, List, [], ◌∷◌, ◌++◌, Option, Some, None, map, slice_get, get_or}
 use Rattle.hw_model.specs.Types.{Name, width, leaves}
 use Rattle.hw_model.specs.Kinds.{Kind, Instance}
 use Rattle.hw_model.specs.Design.{OpResult, Op, Module, Design, register_form, instance_in}
@@ -7,7 +7,7 @@ use Rattle.ir_store.specs.Designs.{StoredModule}
 use Rattle.run_lists.specs.Runs.{expanded, AreApart, AreRunsOf}
 use Rattle.run_lists.specs.declared.runs.Run.{Run}
 use Rattle.run_lists.specs.declared.runs.RunList.{RunList}
-use Rattle.module_sums.specs.Sums.{summed, kept, kept_by}
+use Rattle.module_sums.specs.Sums.{summed, kept_by}
 
 -- those of the leaves of the first of results
 abbrev pub first_widths : List OpResult → List ℕ

@@ -1,5 +1,5 @@
 -- What a module has by what the modules have that it instances.
-use Rattle.std.specs.Prelude.{◌≡◌, ℕ, zero, suc, ◌<◌, List, [], ◌∷◌, Option, Some, None, length, map, take, slice_get, get_or}
+use Rattle.std.specs.Prelude.{◌≡◌, ℕ, zero, suc, ◌<◌, List, Option, Some, None, length, take, slice_get, get_or}
 use Rattle.wiring.specs.Wiring.{In}
 use Rattle.hw_model.specs.Types.{Name}
 use Rattle.hw_model.specs.Design.{Module, Design, find_module}

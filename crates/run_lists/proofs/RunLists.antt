@@ -1,7 +1,8 @@
 -- Runs added at the end, and that runs are told by their numbers.
 use Rattle.std.proofs.Common.{◌≡◌, ℕ, zero, suc, ◌+◌, ◌*◌, ◌<◌, ◌≤◌, Bool, true, false, min, List, [], ◌∷◌, ◌++◌, take, length, replicate, get_or, refl, sym, ap, ap₂, subst, ◌∙◌, arith, append_assoc, append-nil}
-use Rattle.std.proofs.lemmas.List.{replicate-append-replicate, take_more, take_all}
+use Rattle.std.proofs.lemmas.List.{replicate-append-replicate, take_more}
 use Rattle.wiring.specs.Lists.{total}
+use Rattle.wiring.proofs.Totals.{total-append}
 use Rattle.run_lists.specs.Runs.{expanded, many, BeginsApart, AreApart, Tells}
 use Rattle.run_lists.specs.declared.runs.Run.{Run}
 
@@ -136,10 +137,6 @@ many_more (suc k) xs = append_assoc xs (many k xs) xs ∙ ap (λ ns. xs ++ ns) (
 
 -- ---- sums
 
-total_append : (xs ys : List ℕ) → total (xs ++ ys) ≡ total xs + total ys
-total_append [] ys = omega arith
-total_append (x ∷ xs) ys = let rest : total (xs ++ ys) ≡ total xs + total ys = total_append xs ys in omega arith
-
 total_replicate : (c n : ℕ) → total (replicate c n) ≡ n * c
 total_replicate zero n = grind arith
 total_replicate (suc c) n = let rest : total (replicate c n) ≡ n * c = total_replicate c n in go (total (replicate c n)) (n * c) (n * suc c) rest (grow n c)
@@ -152,7 +149,7 @@ total_replicate (suc c) n = let rest : total (replicate c n) ≡ n * c = total_r
 
 pub total_more : (xs : List Run) (r : Run) → total (expanded (xs ++ r ∷ [])) ≡ total (expanded xs) + r.number * r.count
 total_more xs r =
-    ap total (expanded_append xs (r ∷ [])) ∙ total_append (expanded xs) (expanded (r ∷ []))
+    ap total (expanded_append xs (r ∷ [])) ∙ total-append (expanded xs) (expanded (r ∷ []))
     ∙ ap (λ n. total (expanded xs) + n) (ap total (append-nil (replicate r.count r.number)) ∙ total_replicate r.count r.number)
 
 -- ---- run by run
@@ -172,9 +169,6 @@ pushed_more old now next rs i below d r is before made =
     made ∙ ap (λ ns. ns ++ expanded (r ∷ [])) before ∙ append_assoc old (expanded (take i rs)) (expanded (r ∷ []))
     ∙ ap (λ ns. old ++ ns) (sym (ap expanded (taken_more rs i below d r is) ∙ expanded_append (take i rs) (r ∷ [])))
 
-pub pushed_all : (old now : List ℕ) (rs : List Run) (i : ℕ) → length rs ≤ i → now ≡ old ++ expanded (take i rs) → now ≡ old ++ expanded rs
-pushed_all old now rs i all is = is ∙ ap (λ xs. old ++ expanded xs) (take_all i rs all)
-
 pub summed_more : (rs : List Run) (i sum product next m : ℕ) → i < length rs → (d r : Run) → r ≡ get_or rs i d → sum ≡ min (total (expanded (take i rs))) m
     → product ≡ min (r.number * r.count) m → next ≡ min (sum + product) m → next ≡ min (total (expanded (take (i + 1) rs))) m
 summed_more rs i sum product next m below d r is before one made =
@@ -184,9 +178,6 @@ summed_more rs i sum product next m below d r is before one made =
   where
     go : (a b c : ℕ) → a ≡ b + c → sum ≡ min b m → product ≡ min c m → next ≡ min a m
     go a b c x y z = omega arith
-
-pub summed_all : (rs : List Run) (i sum m : ℕ) → length rs ≤ i → sum ≡ min (total (expanded (take i rs))) m → sum ≡ min (total (expanded rs)) m
-summed_all rs i sum m all is = is ∙ ap (λ xs. min (total (expanded xs)) m) (take_all i rs all)
 
 pub copied_more : (xs now next : List ℕ) (k : ℕ) → now ≡ many k xs → next ≡ now ++ xs → next ≡ many (k + 1) xs
 copied_more xs now next k before made = made ∙ ap (λ ns. ns ++ xs) before ∙ many_more k xs

@@ -1,10 +1,7 @@
-use Rattle.std.proofs.Common.{◌≡◌, ◌<◌, length, map, refl, subst, arith}
+use Rattle.std.proofs.Common.{◌<◌, length, refl, subst, arith}
 use Rattle.std.proofs.lemmas.List.{length-map}
 use Rattle.std.proofs.lemmas.Option.{slice_get_read}
-use Rattle.hw_model.specs.Design.{Module}
-use Rattle.hw_model.specs.Hierarchy.{callee_symbols}
-use Rattle.ir_store.specs.Designs.{design_of, modules_of, module_of, numbered_module}
-use Rattle.design_cycles.specs.Calls.{symbols_in, numbers_of, call_lists}
+use Rattle.ir_store.specs.Designs.{modules_of, module_of, numbered_module}
 use Rattle.module_sums.specs.RegisterWidths.{AreEmpty}
 use Rattle.module_sums.proofs.LeafRuns.{filled_first, filled_more, filled_all, number_within, top_within}
 use Rattle.module_sums.proofs.registers.register_runs.Goals as goal
