@@ -12,6 +12,8 @@ mod invocations;
 #[cfg(test)]
 mod lines;
 #[cfg(test)]
+mod lowerings;
+#[cfg(test)]
 mod memory;
 #[cfg(test)]
 mod named_files;

@@ -1,6 +1,7 @@
 //! Lines of words for the program, and what each of them says.
 use command_line::invocation::{Invocation, LineFail, Work, read_line};
 use command_line::usage::UsageKind;
+use lowering_options::lowering::Lowering;
 use pass_pipeline::pass::Pass;
 use std::alloc::{AllocError, Global};
 use std::process::Abort;
@@ -32,6 +33,8 @@ pub enum Said {
     TwoPasses(Pass, Pass),
     /// A command for work on the pieces of the input, or for other work.
     Pieces(bool),
+    /// A command for Verilog with zero extensions as their operand alone where they may be, or with all zeros.
+    Bare(bool),
     /// A command for the summary of a design that is generated without an input.
     Summary { seed: u32, count: u32 },
     /// A command for Verilog of one.
@@ -63,7 +66,7 @@ pub fn words_of(alloc: Global, line: &str) -> Result<Vec<String>, AllocError> {
 // Whether a work is on these passes.
 fn is_on(work: &Work, passes: &[Pass]) -> bool {
     match work {
-        Work::Mlir(given) | Work::MlirPieces(given) | Work::Verilog(given) => {
+        Work::Mlir(given) | Work::MlirPieces(given) | Work::Verilog(given, _) => {
             given.as_slice() == passes
         }
         Work::GeneratedSummary(_)
@@ -77,6 +80,15 @@ fn is_on(work: &Work, passes: &[Pass]) -> bool {
 fn is_on_pieces(work: &Work) -> bool {
     match work {
         Work::MlirPieces(_) => true,
+        _ => false,
+    }
+}
+
+// Whether a work is Verilog with zero extensions as their operand alone where they may be, or with all zeros.
+fn is_written(work: &Work, bare: bool) -> bool {
+    match work {
+        Work::Verilog(_, Lowering::ImplicitExtension) => bare,
+        Work::Verilog(_, Lowering::Plain) => !bare,
         _ => false,
     }
 }
@@ -111,6 +123,7 @@ fn is_command(invocation: &Invocation, said: &Said) -> bool {
         Said::OnePass(pass) => is_on(&invocation.work, &[*pass]),
         Said::TwoPasses(first, second) => is_on(&invocation.work, &[*first, *second]),
         Said::Pieces(are_pieces) => is_on_pieces(&invocation.work) == *are_pieces,
+        Said::Bare(bare) => is_written(&invocation.work, *bare),
         Said::Summary { seed, count } => is_summary(invocation, *seed, *count),
         Said::Verilog { seed, count } => is_verilog(invocation, *seed, *count),
     }

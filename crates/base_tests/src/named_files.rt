@@ -60,7 +60,7 @@ const NAMED: [Named; 7] = [
 // Whether a work translates.
 fn is_translation(work: &Work) -> bool {
     match work {
-        Work::Verilog(_) => true,
+        Work::Verilog(_, _) => true,
         _ => false,
     }
 }

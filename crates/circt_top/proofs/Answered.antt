@@ -27,6 +27,7 @@ use Rattle.lrat_text.proofs.Verifying.{none_verified, verified_none}
 use Rattle.circt_top.specs.Accepting.{Accepted, IsRefused, IsRefusedIn, first_input, unread, unaccepted}
 use Rattle.circt_top.specs.Reprint.{IsReprint}
 use Rattle.circt_top.specs.PieceReprint.{IsReprintOfPieces, IsRefusedInPieces}
+use Rattle.lowering_options.specs.declared.lowering.Lowering.{Lowering}
 use Rattle.circt_top.specs.Translation.{IsTranslation}
 use Rattle.circt_top.specs.Comparing.{last_input, last_number, AreTaken, in_pair, IsRefusedPair, IsSame, IsDifference, IsGivenUp}
 use Rattle.circt_top.specs.Comparing.IsRefusedPair.{first as of_first, last as of_last, pair as of_pair}
@@ -124,8 +125,9 @@ reprint_whole passes bytes source text same is = record {
   laid_out = is.laid_out;
 }
 
-translation_whole : (passes : List Pass) (bytes source text : List ℕ) → read source ≡ read bytes → IsTranslation passes source text → IsTranslation passes bytes text
-translation_whole passes bytes source text same is = record { design = is.design; accepted = accepted_whole bytes source is.design same is.accepted; translated = is.translated }
+translation_whole : (passes : List Pass) (options : Lowering) (bytes source text : List ℕ) → read source ≡ read bytes → IsTranslation passes options source text
+    → IsTranslation passes options bytes text
+translation_whole passes options bytes source text same is = record { design = is.design; accepted = accepted_whole bytes source is.design same is.accepted; translated = is.translated }
 
 -- pieces of a prefix that is not too long are those of the whole
 pieces_whole : (passes : List Pass) (bytes source text : List ℕ) → source ≡ take read_limit bytes → IsReprintOfPieces passes source text → IsReprintOfPieces passes bytes text
@@ -262,7 +264,7 @@ module _ (contents sources : List (List ℕ)) (are : sources ≡ prefixes conten
   text_whole : (work : Work) (text : List ℕ) → IsText work sources text → IsText work contents text
   text_whole (mlir passes) text is = reprint_whole passes (first_input contents) (first_input sources) text first_read is
   text_whole (mlir_pieces passes) text is = pieces_whole passes (first_input contents) (first_input sources) text inputs_prefix is
-  text_whole (verilog passes) text is = translation_whole passes (first_input contents) (first_input sources) text first_read is
+  text_whole (verilog passes options) text is = translation_whole passes options (first_input contents) (first_input sources) text first_read is
   text_whole (generated_summary seed count) text is = is
   text_whole (generated_verilog seed count) text is = is
   text_whole (comparison left right limit proof) text is = absurd is
@@ -271,7 +273,7 @@ module _ (contents sources : List (List ℕ)) (are : sources ≡ prefixes conten
   refusal_whole : (work : Work) (r : Refusal) → IsRefusedBy work sources r → IsRefusedBy work contents r
   refusal_whole (mlir passes) r is = refused_in_again 0 (first_input contents) (first_input sources) r first_read is
   refusal_whole (mlir_pieces passes) r is = refused_pieces_whole (first_input contents) (first_input sources) r inputs_prefix is
-  refusal_whole (verilog passes) r is = refused_in_again 0 (first_input contents) (first_input sources) r first_read is
+  refusal_whole (verilog passes options) r is = refused_in_again 0 (first_input contents) (first_input sources) r first_read is
   refusal_whole (generated_summary seed count) r is = absurd is
   refusal_whole (generated_verilog seed count) r is = absurd is
   refusal_whole (comparison left right limit proof) r is = refused_pair_whole left right r is
@@ -292,7 +294,7 @@ module _ (contents sources : List (List ℕ)) (are : sources ≡ prefixes conten
   output_whole (comparison left right limit proof) verdict t is = finding_whole left right limit proof verdict t is
   output_whole (mlir passes) verdict t is = given_whole (mlir passes) verdict t is
   output_whole (mlir_pieces passes) verdict t is = given_whole (mlir_pieces passes) verdict t is
-  output_whole (verilog passes) verdict t is = given_whole (verilog passes) verdict t is
+  output_whole (verilog passes options) verdict t is = given_whole (verilog passes options) verdict t is
   output_whole (generated_summary seed count) verdict t is = given_whole (generated_summary seed count) verdict t is
   output_whole (generated_verilog seed count) verdict t is = given_whole (generated_verilog seed count) verdict t is
   output_whole proof_check verdict t is = given_whole proof_check verdict t is

@@ -79,7 +79,7 @@ can_be left right contents d e taken are paid =
 pub answered_unrefused : (work : Work) (contents : List (List ℕ)) (r : Refusal) → IsAnswered work contents → IsAnswer work contents (refuses r) → ⊥
 answered_unrefused (mlir passes) contents r a is = unrefused_in 0 (first_input contents) a.0 r a.1 is
 answered_unrefused (mlir_pieces passes) contents r a is = pieces_unrefused (first_input contents) r a is
-answered_unrefused (verilog passes) contents r a is = unrefused_in 0 (first_input contents) a.0 r a.1 is
+answered_unrefused (verilog passes options) contents r a is = unrefused_in 0 (first_input contents) a.0 r a.1 is
 answered_unrefused (generated_summary seed count) contents r a is = is
 answered_unrefused (generated_verilog seed count) contents r a is = is
 answered_unrefused (comparison left right limit proof) contents r a is = pair_unrefused left right contents r a is
@@ -90,7 +90,7 @@ text_answered : (work : Work) (contents : List (List ℕ)) (text : List ℕ) →
 text_answered (mlir passes) contents text is = (is.design, is.accepted)
 text_answered (mlir_pieces passes) contents text is =
     record { short = is.short; each = printed_accepted passes (pieces_of (first_input contents)) is.printed.texts is.printed.each }
-text_answered (verilog passes) contents text is = (is.design, is.accepted)
+text_answered (verilog passes options) contents text is = (is.design, is.accepted)
 text_answered (generated_summary seed count) contents text is = tt
 text_answered (generated_verilog seed count) contents text is = tt
 text_answered (comparison left right limit proof) contents text is = absurd is
@@ -105,7 +105,7 @@ given_answered work contents (unknown log) t is = absurd is
 pub made_answered : (work : Work) (contents : List (List ℕ)) (verdict : Verdict) (t : Texts) → IsAnswer work contents (prints verdict t) → IsAnswered work contents
 made_answered (mlir passes) contents verdict t is = given_answered (mlir passes) contents verdict t is
 made_answered (mlir_pieces passes) contents verdict t is = given_answered (mlir_pieces passes) contents verdict t is
-made_answered (verilog passes) contents verdict t is = given_answered (verilog passes) contents verdict t is
+made_answered (verilog passes options) contents verdict t is = given_answered (verilog passes options) contents verdict t is
 made_answered (generated_summary seed count) contents verdict t is = tt
 made_answered (generated_verilog seed count) contents verdict t is = tt
 made_answered proof_check contents verdict t is = given_answered proof_check contents verdict t is
@@ -119,7 +119,7 @@ made_answered (comparison left right limit proof) contents (unknown log) t is =
 pub text_answers : (work : Work) (contents : List (List ℕ)) (text : List ℕ) → IsText work contents text → IsAnswer work contents (prints given (alone text))
 text_answers (mlir passes) contents text is = (refl, is)
 text_answers (mlir_pieces passes) contents text is = (refl, is)
-text_answers (verilog passes) contents text is = (refl, is)
+text_answers (verilog passes options) contents text is = (refl, is)
 text_answers (generated_summary seed count) contents text is = (refl, is)
 text_answers (generated_verilog seed count) contents text is = (refl, is)
 text_answers (comparison left right limit proof) contents text is = absurd is
@@ -142,7 +142,7 @@ pub files_named : (work : Work) (contents : List (List ℕ)) (verdict : Verdict)
     → (names_in t.files ≡ []) ⊎ (names_in t.files ≡ files_before work)
 files_named (mlir passes) contents verdict t is = none_named t.files [] (given_files (mlir passes) contents verdict t is)
 files_named (mlir_pieces passes) contents verdict t is = none_named t.files [] (given_files (mlir_pieces passes) contents verdict t is)
-files_named (verilog passes) contents verdict t is = none_named t.files [] (given_files (verilog passes) contents verdict t is)
+files_named (verilog passes options) contents verdict t is = none_named t.files [] (given_files (verilog passes options) contents verdict t is)
 files_named (generated_summary seed count) contents verdict t is = none_named t.files [] (given_files (generated_summary seed count) contents verdict t is)
 files_named (generated_verilog seed count) contents verdict t is = none_named t.files [] (given_files (generated_verilog seed count) contents verdict t is)
 files_named proof_check contents verdict t is = none_named t.files [] (given_files proof_check contents verdict t is)

@@ -13,6 +13,7 @@ use Rattle.pass_manager.specs.Lowering.{lowered_aggregates}
 use Rattle.export_verilog.specs.Aggregates.{HasNoAggregates}
 use Rattle.export_verilog.specs.Behaviour.{BehavesAs}
 use Rattle.export_verilog.specs.Exportable.{IsExportable}
+use Rattle.lowering_options.specs.declared.lowering.Lowering.{Lowering}
 use Rattle.export_verilog.specs.Layout.{verilog_text}
 use Rattle.export_verilog.specs.Room.{HasRoomToExport}
 use Rattle.mlir_reader.specs.Reading.{text_limit, read}
@@ -86,7 +87,7 @@ module _ (printing : PrintingLaws) (designs : DesignLaws) (results : ResultLaws)
 -- what the laws of the export say
 pub record ExportLaws : Type 0 where
   pub exportable : (d : Design) → IsAccepted d → HasNoAggregates d → HasRoomToExport d → IsExportable d
-  pub behaves : (d : Design) → IsExportable d → BehavesAs (verilog_text d) d
+  pub behaves : (options : Lowering) (d : Design) → IsExportable d → BehavesAs (verilog_text options d) d
 
 -- what the law of lowering says
 pub record LoweringLaws : Type 0 where
@@ -99,12 +100,12 @@ lowered_none results lowering passes d e f accepted shown is lowered =
     ap has_aggregates lowered ∙ lowering.none_left e after.accepted after.printable
 
 -- what passes and then the lowering made of an accepted design, exported, is its translation
-pub exported : ExportLaws → ResultLaws → (passes : List Pass) (d f : Design) → IsAccepted d → Printable d → IsResult (exported_passes passes) d f → HasNoAggregates f → HasRoomToExport f
-    → (text : List ℕ) → text ≡ verilog_text f → IsTranslatedFrom passes d f text
-exported laws results passes d f accepted shown all none room text laid =
+pub exported : ExportLaws → ResultLaws → (passes : List Pass) (options : Lowering) (d f : Design) → IsAccepted d → Printable d → IsResult (exported_passes passes) d f → HasNoAggregates f → HasRoomToExport f
+    → (text : List ℕ) → text ≡ verilog_text options f → IsTranslatedFrom passes options d f text
+exported laws results passes options d f accepted shown all none room text laid =
     let after : IsAfter (exported_passes passes) d f = results.after (exported_passes passes) d f accepted shown all in
     let kept = partners (exported_passes passes) d f accepted after in
-    let behaves : BehavesAs text f = subst (λ t. BehavesAs t f) (sym laid) (laws.behaves f (laws.exportable f after.accepted none room)) in
+    let behaves : BehavesAs text f = subst (λ t. BehavesAs t f) (sym laid) (laws.behaves options f (laws.exportable f after.accepted none room)) in
     record {
       translated = record {
         behaves_as_source = behaves_as_source (exported_passes passes) d f text kept behaves;

@@ -46,7 +46,7 @@ pub data Answer : Type 0 where
 abbrev pub IsText : Work → List (List ℕ) → List ℕ → Type 0
 IsText (mlir passes) contents text = IsReprint passes (first_input contents) text
 IsText (mlir_pieces passes) contents text = IsReprintOfPieces passes (first_input contents) text
-IsText (verilog passes) contents text = IsTranslation passes (first_input contents) text
+IsText (verilog passes options) contents text = IsTranslation passes options (first_input contents) text
 IsText (generated_summary seed count) contents text = IsSummary seed count text
 IsText (generated_verilog seed count) contents text = IsGenerated seed count text
 IsText (comparison left right limit proof) contents text = ⊥
@@ -56,7 +56,7 @@ IsText proof_check contents text = IsVerifiedProof contents text
 abbrev pub IsRefusedBy : Work → List (List ℕ) → Refusal → Type 0
 IsRefusedBy (mlir passes) contents r = IsRefusedIn 0 (first_input contents) r
 IsRefusedBy (mlir_pieces passes) contents r = IsRefusedInPieces (first_input contents) r
-IsRefusedBy (verilog passes) contents r = IsRefusedIn 0 (first_input contents) r
+IsRefusedBy (verilog passes options) contents r = IsRefusedIn 0 (first_input contents) r
 IsRefusedBy (generated_summary seed count) contents r = ⊥
 IsRefusedBy (generated_verilog seed count) contents r = ⊥
 IsRefusedBy (comparison left right limit proof) contents r = IsRefusedPair left right contents r
@@ -88,7 +88,7 @@ IsAnswer work contents (refuses r) = IsRefusedBy work contents r
 abbrev pub IsAnswered : Work → List (List ℕ) → Type 0
 IsAnswered (mlir passes) contents = IsAcceptedText (first_input contents)
 IsAnswered (mlir_pieces passes) contents = IsAcceptedInPieces (first_input contents)
-IsAnswered (verilog passes) contents = IsAcceptedText (first_input contents)
+IsAnswered (verilog passes options) contents = IsAcceptedText (first_input contents)
 IsAnswered (generated_summary seed count) contents = Unit {0}
 IsAnswered (generated_verilog seed count) contents = Unit {0}
 IsAnswered (comparison left right limit proof) contents = CanBeCompared left right contents

@@ -13,6 +13,7 @@ use command_line::recipe::Recipe;
 use design_counts::public_register_count;
 use generator::generate;
 use io_edge::byte_text::Text;
+use lowering_options::lowering::Lowering;
 use op_verifier::Verified;
 use pass_manager::gate::Gate;
 use pass_pipeline::pass::Pass;
@@ -32,7 +33,7 @@ pub(crate) fn generate_verilog<R: Threads + Sync, G: Gate + Copy + Send>(
 {
     let verified = generate_design(means.alloc, recipe)?;
     let passes = generation_passes(means.alloc)?;
-    Ok(translate(means, verified, &passes)?)
+    Ok(translate(means, verified, &passes, Lowering::Plain)?)
 }
 
 /// The summary of the design of a recipe, and of what the passes make of it.
@@ -46,7 +47,7 @@ pub(crate) fn summarise<R: Threads + Sync, G: Gate + Copy + Send>(
     let counts = counts_of(verified.design());
     let passes = generation_passes(means.alloc)?;
     let made = exported_result(means, verified, &passes)?;
-    let verilog = export_made(means, &made)?;
+    let verilog = export_made(means, &made, Lowering::Plain)?;
     let summary = Summary {
         counts,
         registers: public_register_count(made.design()),

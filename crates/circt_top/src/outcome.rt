@@ -25,6 +25,7 @@ use diag::cause::Cause;
 use diag::refusal::{Location, OpName, Refusal};
 use hw_model::{heights_are_acyclic, locations_decide_nothing};
 use io_edge::byte_text::Text;
+use lowering_options::lowering::Lowering;
 use mlir_printer::design_text::print_and_drop;
 use mlir_printer::laws::what_is_printed_is_read_again;
 use mlir_reader::read::MOST_BYTES;
@@ -48,7 +49,9 @@ pub(crate) fn outcome<'a, R: Threads + Sync, G: Gate + Copy + Send>(
     match work {
         Work::Mlir(passes) => without_finding(print_whole(means, source, passes)),
         Work::MlirPieces(passes) => without_finding(print_pieces(means, source, passes)),
-        Work::Verilog(passes) => without_finding(translate_whole(means, source, passes)),
+        Work::Verilog(passes, options) => {
+            without_finding(translate_whole(means, source, passes, *options))
+        }
         Work::GeneratedSummary(recipe) => without_finding(summarise(means, *recipe)),
         Work::GeneratedVerilog(recipe) => without_finding(generate_verilog(means, *recipe)),
         Work::Verdict(pair) => compare(means.alloc, pair, sources),
@@ -84,16 +87,17 @@ fn print_whole<R: Threads + Sync, G: Gate + Copy + Send>(
     }
 }
 
-/// The Verilog of what passes make of the design that a text says.
+/// The Verilog of what passes make of the design that a text says, its expressions written as `options` say.
 fn translate_whole<R: Threads + Sync, G: Gate + Copy + Send>(
     means: &Means<'_, R, G>,
     source: &[u8],
     passes: &Pipeline,
+    options: Lowering,
 ) -> Result<Text, OutcomeFail>
-    ensures { (contents : List (List ℕ)) → first_input contents ≡ source.now → GivesText (verilog passes.now) contents result }
+    ensures { (contents : List (List ℕ)) → first_input contents ≡ source.now → GivesText (verilog passes.now options) contents result }
 {
     match accept(means.alloc, source) {
-        Ok(verified) => Ok(translate(means, verified, passes)?),
+        Ok(verified) => Ok(translate(means, verified, passes, options)?),
         Err(fail) => Err(fail.in_file(0)),
     }
 }

@@ -15,6 +15,7 @@ use export_verilog::{
     accepted_designs_are_exportable, exported_designs_behave, stored_designs_have_room,
 };
 use io_edge::byte_text::Text;
+use lowering_options::lowering::Lowering;
 use op_verifier::Verified;
 use pass_manager::gate::Gate;
 use pass_manager::run::{run_pipeline, with_lowered_aggregates};
@@ -72,30 +73,32 @@ pub(crate) fn exported_result<R: Threads + Sync, G: Gate + Copy + Send>(
     with_lowered_aggregates(means.alloc, made)
 }
 
-/// The Verilog of what passes and then the lowering of aggregates made of any verified design.
+/// The Verilog of what passes and then the lowering of aggregates made of any verified design, its expressions written as `options` say.
 pub(crate) fn export_made<R: Threads + Sync, G: Gate + Copy + Send>(
     means: &Means<'_, R, G>,
     made: &Verified,
+    options: Lowering,
 ) -> Result<Text, AllocError>
     requires { HasNoAggregates (design_of made.now.design) }
-    ensures { (passes : List Pass) (d : Design) → IsAccepted d → IsCanonical d → IsResult (exported_passes passes) d (design_of made.now.design) → IfOk result (IsTranslatedFrom passes d (design_of made.now.design)) }
+    ensures { (passes : List Pass) (d : Design) → IsAccepted d → IsCanonical d → IsResult (exported_passes passes) d (design_of made.now.design) → IfOk result (IsTranslatedFrom passes options d (design_of made.now.design)) }
 {
     what_is_canonical_is_printable();
     results_follow();
     accepted_designs_are_exportable();
     exported_designs_behave();
     stored_designs_have_room(made.design());
-    export(means.rt, means.alloc, made, means.workers.count)
+    export(means.rt, means.alloc, made, means.workers.count, options)
 }
 
-/// The Verilog of what passes make of a verified design, with its aggregates lowered.
+/// The Verilog of what passes make of a verified design, with its aggregates lowered, its expressions written as `options` say.
 pub(crate) fn translate<R: Threads + Sync, G: Gate + Copy + Send>(
     means: &Means<'_, R, G>,
     verified: Verified,
     passes: &Pipeline,
+    options: Lowering,
 ) -> Result<Text, AllocError>
-    ensures { IfOk result (IsTranslated passes.now (design_of verified.design)) }
+    ensures { IfOk result (IsTranslated passes.now options (design_of verified.design)) }
 {
     let made = exported_result(means, verified, passes)?;
-    export_made(means, &made)
+    export_made(means, &made, options)
 }

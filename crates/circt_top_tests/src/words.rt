@@ -48,7 +48,53 @@ const BAD: [&str; 37] = [
     "a.mlir",
 ];
 
-const GROUPS: [Group; 23] = [
+// A zero extension in a sum.
+const EXTENSION: &str = "hw.module @Sum(in %a : i8, in %b : i16, out c : i16) {
+  %z = hw.constant 0 : i8
+  %0 = comb.concat %z, %a : i8, i8
+  %1 = comb.add %0, %b : i16
+  hw.output %1 : i16
+}
+";
+
+// Its Verilog, without the zeros.
+const EXTENSION_BARE: &str = "module Sum(
+  input wire [7:0] a,
+  input wire [15:0] b,
+  output wire [15:0] c
+);
+  assign c = a + b;
+endmodule
+";
+
+const GROUPS: [Group; 25] = [
+    // Verilog is written as an option says that is known
+    Group {
+        words: &[
+            "translate --export-verilog --lowering-options=implicitExtension",
+            "translate a.mlir -export-verilog -lowering-options implicitExtension",
+        ],
+        input: EXTENSION,
+        failing: Failing::No,
+        code: 0,
+        out: EXTENSION_BARE,
+        err: "",
+        file: "x.v",
+        text: "old",
+    },
+    Group {
+        words: &[
+            "translate --export-verilog --lowering-options=explicit",
+            "translate b.mlir --export-verilog --lowering-options=explicit -o x.v",
+        ],
+        input: EXTENSION,
+        failing: Failing::No,
+        code: 2,
+        out: "",
+        err: "circt: usage: unknown lowering option\n",
+        file: "x.v",
+        text: "old",
+    },
     // words that are bad are told so, and no file is touched
     Group {
         words: &BAD,
@@ -102,6 +148,7 @@ const GROUPS: [Group; 23] = [
             "translate --export-verilog",
             "translate -export-verilog",
             "translate --export-verilog -",
+            "translate --export-verilog --lowering-options=",
             "translate a.mlir --export-verilog",
             "translate --export-verilog a.mlir",
             "translate - -o - --export-verilog",

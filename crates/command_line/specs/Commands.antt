@@ -23,6 +23,10 @@ pipeline_rule = record (new_rule (codes "pass-pipeline")) { long = Some (codes "
 abbrev pub passes_rule : Rule
 passes_rule = record (new_rule (codes "passes")) { long = Some (codes "passes") }
 
+-- `--lowering-options=TEXT`
+abbrev pub options_rule : Rule
+options_rule = record (new_rule (codes "lowering-options")) { long = Some (codes "lowering-options") }
+
 -- `--split-input-file`
 abbrev pub split_rule : Rule
 split_rule = record (new_rule (codes "split-input-file")) { long = Some (codes "split-input-file"); action = Some SetTrue }
@@ -85,9 +89,9 @@ with_common a = with_workers (with_rule (with_rule (with_rule (with_rule a file_
 abbrev pub opt_app : App
 opt_app = with_rule (with_common (new_app (codes "opt"))) split_rule
 
--- `translate [FILE] --export-verilog [-o FILE] [--pass-pipeline=TEXT] [--workers N] [--mlir-disable-threading]`
+-- `translate [FILE] --export-verilog [-o FILE] [--pass-pipeline=TEXT] [--workers N] [--mlir-disable-threading] [--lowering-options=TEXT]`
 abbrev pub translate_app : App
-translate_app = with_rule (with_common (new_app (codes "translate"))) export_rule
+translate_app = with_rule (with_rule (with_common (new_app (codes "translate"))) export_rule) options_rule
 
 -- `gen SEED N [--verilog] [-o FILE] [--workers N]`
 abbrev pub gen_app : App

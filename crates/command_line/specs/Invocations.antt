@@ -16,7 +16,7 @@ use Rattle.command_line.specs.declared.invocation.LineFail.TheVariants.{Usage, N
 abbrev pub work_of : Work → line.Work
 work_of (Mlir passes) = mlir passes
 work_of (MlirPieces passes) = mlir_pieces passes
-work_of (Verilog passes) = verilog passes
+work_of (Verilog passes lowering) = verilog passes lowering
 work_of (GeneratedSummary recipe) = generated_summary recipe.seed recipe.count
 work_of (GeneratedVerilog recipe) = generated_verilog recipe.seed recipe.count
 work_of (Verdict pair) = comparison (string_bytes pair.left) (string_bytes pair.right) pair.conflict_limit (option_map (λ p. string_bytes p.proof) pair.proof)

@@ -3,6 +3,9 @@ use Rattle.std.specs.Prelude.{ℕ, ◌-◌, ◌&&◌, Bool, true, false, cond, L
 use Rattle.std.specs.Str.{bytes_eq}
 use Rattle.std.specs.List.{cons_option}
 use Rattle.clap.specs.Words.{Row, Text, Kinds, first_of, fault_of, subcommand_of}
+use Rattle.lowering_options.specs.declared.lowering.Lowering.{Lowering}
+use Rattle.lowering_options.specs.declared.lowering.Lowering.TheVariants.{Plain}
+use Rattle.lowering_options.specs.Options.{lowering_named}
 use Rattle.pass_pipeline.specs.Pipelines.{passes}
 use Rattle.pass_pipeline.specs.declared.pass.Pass.{Pass}
 use Rattle.pass_pipeline.specs.declared.pipeline.PipelineFail.{PipelineFail}
@@ -11,9 +14,9 @@ use Rattle.command_line.specs.Normal.{normal}
 use Rattle.command_line.specs.Commands.{circt_app}
 use Rattle.command_line.specs.Numbers.{number_between}
 use Rattle.command_line.specs.declared.usage.UsageKind.{UsageKind}
-use Rattle.command_line.specs.declared.usage.UsageKind.TheVariants.{Words, TwoPipelines, NoTranslation, Pipeline, StdinTwice}
+use Rattle.command_line.specs.declared.usage.UsageKind.TheVariants.{Words, TwoPipelines, NoTranslation, Pipeline, Lowering as UnknownLowering, StdinTwice}
 
--- what is made of the inputs: MLIR text, or Verilog, of the design that passes make of the one that is read; or MLIR text of the
+-- what is made of the inputs: MLIR text, or Verilog written in one of two ways, of the design that passes make of the one that is read; or MLIR text of the
 -- designs that they make of those of the pieces of an input; or, without an input, a summary, or Verilog, of the design that is
 -- generated from a seed with so many modules; or a verdict on the module of a name of the first input and that of another of the last one,
 -- with so many learnt clauses at most, and a proof of it in the file of a name where one is given; or a verdict on the proof that is the
@@ -21,7 +24,7 @@ use Rattle.command_line.specs.declared.usage.UsageKind.TheVariants.{Words, TwoPi
 pub data Work : Type 0 where
   mlir : List Pass → Work
   mlir_pieces : List Pass → Work
-  verilog : List Pass → Work
+  verilog : List Pass → Lowering → Work
   generated_summary : ℕ → ℕ → Work
   generated_verilog : ℕ → ℕ → Work
   comparison : Text → Text → ℕ → Option Text → Work
@@ -129,6 +132,21 @@ abbrev pub mlir_work : Bool → List Pass → Work
 mlir_work true passes = mlir_pieces passes
 mlir_work false passes = mlir passes
 
+-- the way in which Verilog is written: the one that is named, and the plain one where nothing is said
+abbrev pub lowering_in : Option Text → Option Lowering
+lowering_in None = Some Plain
+lowering_in (Some text) = lowering_named text
+
+-- Verilog of what passes make, written in this way, or no such way is known
+abbrev pub on_lowering : List Pass → Option Lowering → Result Work UsageKind
+on_lowering passes None = Err UnknownLowering
+on_lowering passes (Some lowering) = Ok (verilog passes lowering)
+
+-- the work of `translate`: a bad pipeline is wrong before a way that is not known
+abbrev pub verilog_work : Option Lowering → Result (List Pass) UsageKind → Result Work UsageKind
+verilog_work lowering (Ok ps) = on_lowering ps lowering
+verilog_work lowering (Err kind) = Err kind
+
 -- the number from one to another that an argument says
 abbrev pub number_in : ℕ → ℕ → Option Text → Option ℕ
 number_in least most None = None
@@ -182,12 +200,14 @@ lec_work rows = by_limit rows (limit_in (first_of (codes "conflict-limit") rows)
 abbrev pub check_work : List Row → Result Work UsageKind
 check_work rows = cond (is_stdin_twice rows) (Err StdinTwice) (Ok proof_check)
 
--- the work of a command that takes passes: passes given in two ways are wrong first, then a missing translation, then a bad pipeline
+-- the work of a command that takes passes: passes given in two ways are wrong first, then a missing translation, then a bad pipeline, then
+-- a way of writing Verilog that is not known
 abbrev pub passes_work : List Pass → Text → List Row → Result Work UsageKind
 passes_work offered name rows =
     cond (is_given_twice rows) (Err TwoPipelines)
     (cond (bytes_eq name (codes "opt")) (on_passes (mlir_work (is_flagged (codes "split-input-file") rows)) (passes_in offered rows))
-    (cond (is_flagged (codes "export-verilog") rows) (on_passes verilog (passes_in offered rows)) (Err NoTranslation)))
+    (cond (is_flagged (codes "export-verilog") rows)
+    (verilog_work (lowering_in (first_of (codes "lowering-options") rows)) (passes_in offered rows)) (Err NoTranslation)))
 
 -- the work of a command of this name
 abbrev pub work_in : List Pass → Text → List Row → Result Work UsageKind

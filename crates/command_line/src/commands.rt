@@ -73,6 +73,13 @@ const EXPORT: Argument = Argument {
     is_required: false,
 };
 
+// `[--lowering-options=TEXT]`
+const LOWERING: Argument = Argument {
+    id: "lowering-options",
+    form: Form::Named,
+    is_required: false,
+};
+
 // `SEED`
 const SEED: Argument = Argument {
     id: "seed",
@@ -150,7 +157,9 @@ const SUBCOMMANDS: [Subcommand; 5] = [
     },
     Subcommand {
         name: "translate",
-        arguments: &[FILE, OUTPUT, PIPELINE, PASSES, WORKERS, THREADING, EXPORT],
+        arguments: &[
+            FILE, OUTPUT, PIPELINE, PASSES, WORKERS, THREADING, EXPORT, LOWERING,
+        ],
     },
     Subcommand {
         name: "gen",

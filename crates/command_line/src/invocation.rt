@@ -1,12 +1,12 @@
 //! What the words of a command line say.
 ghost use Rattle.std.specs.List.{cons_option};
 ghost use Rattle.std.specs.Prelude.{◌≡◌, IfOk, IfErr, OnOk, ◌≤◌, ◌++◌, map, string_bytes, option_map, codes, [], Ok, Err};
-ghost use Rattle.clap.specs.Words.{found_of, rows_of, fault_of, subcommand_of, subcommand_rows_of};
+ghost use Rattle.clap.specs.Words.{found_of, rows_of, first_of, fault_of, subcommand_of, subcommand_rows_of};
 ghost use Rattle.pass_pipeline.specs.Pipelines.{passes};
 ghost use Rattle.command_line.specs.Commands.{circt_app};
 ghost use Rattle.command_line.specs.Making.{IsMade};
-ghost use Rattle.command_line.specs.Line.Work.{verilog};
-ghost use Rattle.command_line.specs.Line.{line, parse, require_subcommand, with_files, on_passes, inputs_in, output_in, items_text, in_items, in_pipeline, in_list, passes_in, mlir_work, generated_work, gen_work, second_in, lec_work, check_work, passes_work, work_in, is_flagged, command_in};
+ghost use Rattle.command_line.specs.Line.{line, parse, require_subcommand, with_files, on_passes, on_lowering, inputs_in, output_in, items_text, in_items, in_pipeline, in_list};
+ghost use Rattle.command_line.specs.Line.{passes_in, mlir_work, generated_work, gen_work, second_in, lec_work, check_work, verilog_work, lowering_in, passes_work, work_in, is_flagged, command_in};
 ghost use Rattle.command_line.specs.Invocations.{work_of, Says, SaysWork, SaysPasses, IsFault};
 
 use crate::commands::circt_command;
@@ -15,12 +15,13 @@ use crate::normalise::{WordsFail, normalise};
 use crate::recipe::Recipe;
 use crate::usage::UsageKind;
 use crate::values::{
-    input_in, is_flagged, is_given_twice, is_stdin_twice, limit_in, name_in, number_in, output_in,
-    value, workers_in,
+    input_in, is_flagged, is_given_twice, is_stdin_twice, limit_in, lowering_in, name_in,
+    number_in, output_in, value, workers_in,
 };
 use crate::workers::Workers;
 use clap::error::ErrorKind;
 use clap::{ArgMatches, Command};
+use lowering_options::lowering::Lowering;
 use pass_pipeline::pass::Pass;
 use pass_pipeline::pipeline::{Pipeline, PipelineError, PipelineFail, read_pipeline};
 use std::alloc::{AllocError, Global};
@@ -35,8 +36,8 @@ pub enum Work {
     Mlir(Pipeline),
     /// MLIR text of the designs that these passes make of those of the pieces of an input.
     MlirPieces(Pipeline),
-    /// Verilog of the design that these passes make.
-    Verilog(Pipeline),
+    /// Verilog of the design that these passes make, written in this way.
+    Verilog(Pipeline, Lowering),
     /// A summary of the design that is generated from this recipe.
     GeneratedSummary(Recipe),
     /// Verilog of the design that is generated from this recipe.
@@ -87,7 +88,7 @@ impl From<AllocError> for LineFail {
 /// of 0 to 4294967295, or its number of modules none of 1 to 10000, or the conflict limit of `lec` none of
 /// 1 to 18446744073709551615; passes
 /// are given both by flags and by a pipeline, no translation is named, the text of a pipeline is
-/// none; `lec` or `check` names standard input twice.
+/// none, no way of writing Verilog has the name that is given; `lec` or `check` names standard input twice.
 pub fn read_words(alloc: Global, words: &[String], offered: &[Pass]) -> Result<Invocation, LineFail>
     ensures { Says (line offered.now (map string_bytes words.now)) result }
 {
@@ -352,11 +353,21 @@ fn opt_work(alloc: Global, matches: &ArgMatches<'_>, offered: &[Pass]) -> Result
 
 /// The work of `translate` to Verilog.
 fn verilog_work(alloc: Global, matches: &ArgMatches<'_>, offered: &[Pass]) -> Result<Work, LineFail>
-    ensures { SaysWork (on_passes verilog (passes_in offered.now (rows_of (found_of matches.now)))) result }
+    ensures { SaysWork (verilog_work (lowering_in (first_of (codes "lowering-options") (rows_of (found_of matches.now)))) (passes_in offered.now (rows_of (found_of matches.now)))) result }
 {
     match passes_in(alloc, matches, offered) {
-        Ok(passes) => Ok(Work::Verilog(passes)),
+        Ok(passes) => verilog_of(passes, lowering_in(matches)),
         Err(fail) => Err(fail),
+    }
+}
+
+/// Verilog of what passes make, written in this way, if it is known.
+fn verilog_of(passes: Pipeline, lowering: Option<Lowering>) -> Result<Work, LineFail>
+    ensures { SaysWork (on_lowering passes lowering) result }
+{
+    match lowering {
+        Some(lowering) => Ok(Work::Verilog(passes, lowering)),
+        None => Err(LineFail::Usage(UsageKind::Lowering)),
     }
 }
 
@@ -431,7 +442,7 @@ fn inputs_in(
     let mut inputs = Vec::new(alloc);
     match work {
         Work::GeneratedSummary(_) | Work::GeneratedVerilog(_) => {}
-        Work::Mlir(_) | Work::MlirPieces(_) | Work::Verilog(_) => {
+        Work::Mlir(_) | Work::MlirPieces(_) | Work::Verilog(_, _) => {
             inputs.push(String::from_str(alloc, input_in(matches))?)?;
         }
         Work::Verdict(_) | Work::ProofCheck => {

@@ -15,6 +15,8 @@ pub enum UsageKind {
     NoTranslation,
     /// The text of a pipeline is none. Offsets count its bytes.
     Pipeline(PipelineFail),
+    /// No way of writing Verilog has the name that is given.
+    Lowering,
     /// Standard input is named twice.
     StdinTwice,
 }
@@ -32,6 +34,7 @@ impl UsageKind {
             UsageKind::Pipeline(PipelineFail::UnknownPass(_)) => b"unknown pass",
             UsageKind::Pipeline(PipelineFail::WrongPlace(_)) => b"pass in the wrong place",
             UsageKind::Pipeline(PipelineFail::BadText(_)) => b"bad pipeline text",
+            UsageKind::Lowering => b"unknown lowering option",
             UsageKind::StdinTwice => b"standard input named twice",
         }
     }
@@ -47,7 +50,7 @@ impl UsageKind {
                 | PipelineFail::WrongPlace(at)
                 | PipelineFail::BadText(at),
             ) => Some(at),
-            UsageKind::StdinTwice => None,
+            UsageKind::Lowering | UsageKind::StdinTwice => None,
         }
     }
 }

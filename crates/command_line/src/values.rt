@@ -1,11 +1,12 @@
 //! What the arguments of a command say, one by one.
 ghost use Rattle.std.specs.Prelude.{◌≡◌, IfOk, IfSome, ◌≤◌, string_bytes, option_map, codes};
 ghost use Rattle.clap.specs.Words.{found_of, rows_of, first_of};
-ghost use Rattle.command_line.specs.Line.{input_in, output_in, is_given_twice, number_in, limit_in, name_in, is_dash, is_stdin_twice, is_flagged, workers_said, workers_in};
+ghost use Rattle.command_line.specs.Line.{input_in, output_in, is_given_twice, number_in, limit_in, name_in, is_dash, is_stdin_twice, is_flagged, workers_said, workers_in, lowering_in};
 
 use crate::numbers::number_between;
 use crate::workers::Workers;
 use clap::ArgMatches;
+use lowering_options::lowering::Lowering;
 use std::alloc::{AllocError, Global};
 
 /// How many clauses may be learnt where nothing is said.
@@ -53,6 +54,16 @@ pub(crate) fn limit_in(matches: &ArgMatches<'_>) -> Option<u64>
     match value(matches, "conflict-limit") {
         Some(text) => number_between(text, 1, u64::MAX),
         None => Some(USUAL_LIMIT),
+    }
+}
+
+/// The way in which Verilog is written, if it is known.
+pub(crate) fn lowering_in(matches: &ArgMatches<'_>) -> Option<Lowering>
+    ensures { result ≡ lowering_in (first_of (codes "lowering-options") (rows_of (found_of matches.now))) }
+{
+    match value(matches, "lowering-options") {
+        Some(text) => Lowering::named(text),
+        None => Some(Lowering::Plain),
     }
 }
 

@@ -8,6 +8,7 @@ use Rattle.verilog_model.specs.Tree.Block.{load, if_load, if_else, if_else_if, a
 use Rattle.verilog_model.specs.Tree.Item.{wire, reg, assign, always, instance}
 use Rattle.verilog_model.specs.Grammar.{direction}
 use Rattle.verilog_model.specs.Text.{expr_text}
+use Rattle.lowering_options.specs.declared.lowering.Lowering.{Lowering}
 use Rattle.export_verilog.specs.Exported.{tree_of}
 
 abbrev pub Text : Type 0
@@ -95,6 +96,6 @@ unfoldable pub tree_text : Tree → Text
 tree_text [] = []
 tree_text (m ∷ ms) = module_text m (further_text ms)
 
--- the text of a design
-unfoldable pub verilog_text : Design → Text
-verilog_text d = tree_text (tree_of d)
+-- the text of a design, however its expressions are written
+unfoldable pub verilog_text : Lowering → Design → Text
+verilog_text l d = tree_text (tree_of l d)

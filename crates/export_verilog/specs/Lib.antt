@@ -1,4 +1,5 @@
 -- The words of this crate's contracts.
+pub mod Lowerings
 pub mod Identifiers
 pub mod Exported
 pub mod Layout

@@ -13,22 +13,25 @@ use Rattle.verilog_expr.specs.Scopes.{scope_ports, scope_ops}
 use Rattle.verilog_expr.specs.Named.{named_of}
 use Rattle.verilog_expr.specs.declared.scope.Scope.{Scope}
 use Rattle.verilog_expr.specs.declared.value_names.ValueNames.{ValueNames}
+use Rattle.verilog_expr.specs.declared.extending.Extending.{Extending}
+use Rattle.lowering_options.specs.declared.lowering.Lowering.{Lowering}
+use Rattle.export_verilog.specs.Lowerings.{load_place, own_place}
 use Rattle.export_verilog.specs.Identifiers.{Emission, name_or_nothing}
 use Rattle.export_verilog.specs.Identifiers.Emission.{inline, as_wire, as_reg, as_instance}
 use Rattle.export_verilog.specs.Layout.{Text}
 use Rattle.export_verilog.specs.Written.{WrittenReset}
 
 -- the expression of a value
-abbrev pub value_expr : Scope → ValueNames → Ref → Expr
-value_expr s v r = expr_to (named_of v) (scope_ports s) (scope_ops s) (suc height_limit) r
+abbrev pub value_expr : Scope → ValueNames → Extending → Ref → Expr
+value_expr s v x r = expr_to (named_of v) (scope_ports s) (scope_ops s) (suc height_limit) x r
 
 -- the text of the expression of a value where it is used
-abbrev pub used_text : Scope → ValueNames → Ref → Text
-used_text s v r = expr_text (value_expr s v r) []
+abbrev pub used_text : Scope → ValueNames → Extending → Ref → Text
+used_text s v x r = expr_text (value_expr s v x r) []
 
 -- what is assigned to a value's own name
-abbrev pub defined_text : Scope → ValueNames → Ref → Text
-defined_text s v r = expr_text (own_expr (named_of v) (scope_ports s) (scope_ops s) (value_expr s v) r) []
+abbrev pub defined_text : Scope → ValueNames → Extending → Ref → Text
+defined_text s v x r = expr_text (own_expr (named_of v) (scope_ports s) (scope_ops s) (value_expr s v) x r) []
 
 -- the literal of the constant that a value is
 abbrev pub value_literal : Scope → Ref → Expr
@@ -38,8 +41,8 @@ abbrev pub literal_text : Scope → Ref → Text
 literal_text s r = expr_text (value_literal s r) []
 
 -- a reset whose parts are written
-abbrev pub reset_text : Scope → ValueNames → ResetBy → WrittenReset
-reset_text s v r = record { signal = used_text s v r.signal; value = used_text s v r.value }
+abbrev pub reset_text : Lowering → Scope → ValueNames → ResetBy → WrittenReset
+reset_text l s v r = record { signal = used_text s v (own_place l) r.signal; value = used_text s v (load_place l) r.value }
 
 -- an asynchronous reset, whose signal is written by its name and whose value by its literal
 abbrev pub async_text : Scope → ValueNames → ResetBy → WrittenReset

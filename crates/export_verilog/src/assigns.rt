@@ -7,11 +7,13 @@ ghost use Rattle.verilog_expr.specs.Named.{named_of};
 ghost use Rattle.export_verilog.specs.Exported.{expr_or_none};
 ghost use Rattle.export_verilog.specs.Identifiers.{name_or_nothing};
 ghost use Rattle.export_verilog.specs.Layout.{item_text};
+ghost use Rattle.export_verilog.specs.Lowerings.{load_place};
 ghost use Rattle.export_verilog.specs.Values.{value_expr};
 
 use crate::connections::operand_text;
 use crate::lines::push_assign;
 use crate::module_writer::ModuleWriter;
+use crate::places::load_place;
 use crate::values::{defined_text, name_text};
 use io_edge::byte_text::Text;
 use ir_store::operation::Value;
@@ -20,7 +22,7 @@ use std::alloc::AllocError;
 /// Adds the assignment of a value's own operation to its wire (IEEE 1364-2005, 6.1: continuous assignments). The error is
 /// out of memory.
 pub fn push_net(writer: &ModuleWriter<'_>, out: &mut Text, value: Value) -> Result<(), AllocError>
-    ensures { OnOk result (out.new ≡ out.old ++ item_text (assign (name_or_nothing (named_of writer.now.names.values (scope_ref writer.now.scope value))) (own_expr (named_of writer.now.names.values) (scope_ports writer.now.scope) (scope_ops writer.now.scope) (value_expr writer.now.scope writer.now.names.values) (scope_ref writer.now.scope value))) []) }
+    ensures { OnOk result (out.new ≡ out.old ++ item_text (assign (name_or_nothing (named_of writer.now.names.values (scope_ref writer.now.scope value))) (own_expr (named_of writer.now.names.values) (scope_ports writer.now.scope) (scope_ops writer.now.scope) (value_expr writer.now.scope writer.now.names.values) (load_place writer.now.options) (scope_ref writer.now.scope value))) []) }
 {
     let name = name_text(writer, value);
     let text = defined_text(writer, value)?;
@@ -37,9 +39,9 @@ pub fn push_output(
     number: usize,
     name: &[u8],
 ) -> Result<(), AllocError>
-    ensures { OnOk result (out.new ≡ out.old ++ item_text (assign name.now (expr_or_none (value_expr writer.now.scope writer.now.names.values) (map (scope_ref writer.now.scope) (drop number operands.now)))) []) }
+    ensures { OnOk result (out.new ≡ out.old ++ item_text (assign name.now (expr_or_none (value_expr writer.now.scope writer.now.names.values (load_place writer.now.options)) (map (scope_ref writer.now.scope) (drop number operands.now)))) []) }
 {
-    let text = operand_text(writer, operands, number)?;
+    let text = operand_text(writer, operands, number, load_place(writer.options))?;
     push_assign(out, name, text.as_bytes())?;
     Ok(())
 }

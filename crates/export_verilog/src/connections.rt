@@ -9,17 +9,20 @@ ghost use Rattle.verilog_model.specs.Text.{expr_text};
 ghost use Rattle.export_verilog.specs.Layout.{connection_text};
 ghost use Rattle.export_verilog.specs.Exported.{expr_or_none};
 ghost use Rattle.export_verilog.specs.Identifiers.{name_or_nothing};
+ghost use Rattle.export_verilog.specs.Lowerings.{own_place};
 ghost use Rattle.export_verilog.specs.Values.{value_expr};
 ghost use Rattle.export_verilog.specs.Written.{connections_left, written_connection};
 ghost use Rattle.export_verilog.specs.Joined.{connections_from};
 
 use crate::module_writer::ModuleWriter;
+use crate::places::own_place;
 use crate::ports::line_end;
 use crate::values::{name_text, used_text};
 use io_edge::byte_text::Text;
 use ir_store::design::Port;
 use ir_store::operation::{OpId, Value};
 use std::alloc::AllocError;
+use verilog_expr::extending::Extending;
 
 // One more where it is asked for.
 fn count_if(number: usize, more: bool) -> usize
@@ -29,17 +32,18 @@ fn count_if(number: usize, more: bool) -> usize
     if more { number + 1 } else { number }
 }
 
-// The text of an operand by its number; of one that is not there, that of no expression.
+// The text of an operand by its number, with zero extensions as `extending` says; of one that is not there, that of no expression.
 #[tactic(auto, unfolding(verilog_model::specs::Text::expr_text))]
 pub fn operand_text(
     writer: &ModuleWriter<'_>,
     operands: &[Value],
     number: usize,
+    extending: Extending,
 ) -> Result<Text, AllocError>
-    ensures { IfOk result (λ text. text ≡ expr_text (expr_or_none (value_expr writer.now.scope writer.now.names.values) (map (scope_ref writer.now.scope) (drop number operands.now))) []) }
+    ensures { IfOk result (λ text. text ≡ expr_text (expr_or_none (value_expr writer.now.scope writer.now.names.values extending) (map (scope_ref writer.now.scope) (drop number operands.now))) []) }
 {
     match operands.get(number) {
-        Some(value) => used_text(writer, *value),
+        Some(value) => used_text(writer, *value, extending),
         None => Text::of(writer.alloc, b"0'h0"),
     }
 }
@@ -63,12 +67,12 @@ fn joined_text(
     results: usize,
     inputs: usize,
 ) -> Result<Text, AllocError>
-    ensures { IfOk result (λ text. text ≡ cond is_output (name_or_nothing (named_of writer.now.names.values (result_ref (position_of (scope_ids writer.now.scope) id.index) results))) (expr_text (expr_or_none (value_expr writer.now.scope writer.now.names.values) (map (scope_ref writer.now.scope) (drop inputs operands.now))) [])) }
+    ensures { IfOk result (λ text. text ≡ cond is_output (name_or_nothing (named_of writer.now.names.values (result_ref (position_of (scope_ids writer.now.scope) id.index) results))) (expr_text (expr_or_none (value_expr writer.now.scope writer.now.names.values (own_place writer.now.options)) (map (scope_ref writer.now.scope) (drop inputs operands.now))) [])) }
 {
     if is_output {
         result_text(writer, id, results)
     } else {
-        operand_text(writer, operands, inputs)
+        operand_text(writer, operands, inputs, own_place(writer.options))
     }
 }
 
@@ -103,7 +107,7 @@ pub fn push_connections(
     port_names: &[Text],
 ) -> Result<(), AllocError>
     requires { length port_names.now ≡ length ports.now }
-    ensures { OnOk result (out.new ≡ out.old ++ connections_left (connections_from (value_expr writer.now.scope writer.now.names.values) (λ k. name_or_nothing (named_of writer.now.names.values (result_ref (position_of (scope_ids writer.now.scope) id.index) k))) 0 port_names.now (map port_of ports.now) (map (scope_ref writer.now.scope) operands.now)) []) }
+    ensures { OnOk result (out.new ≡ out.old ++ connections_left (connections_from (value_expr writer.now.scope writer.now.names.values (own_place writer.now.options)) (λ k. name_or_nothing (named_of writer.now.names.values (result_ref (position_of (scope_ids writer.now.scope) id.index) k))) 0 port_names.now (map port_of ports.now) (map (scope_ref writer.now.scope) operands.now)) []) }
 {
     let mut results: usize = 0;
     let mut inputs: usize = 0;

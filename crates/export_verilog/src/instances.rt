@@ -8,6 +8,7 @@ ghost use Rattle.verilog_expr.specs.Named.{named_of};
 ghost use Rattle.verilog_model.specs.Tree.Item.{instance};
 ghost use Rattle.export_verilog.specs.Layout.{item_text};
 ghost use Rattle.export_verilog.specs.Identifiers.{name_or_nothing};
+ghost use Rattle.export_verilog.specs.Lowerings.{own_place};
 ghost use Rattle.export_verilog.specs.Values.{value_expr};
 ghost use Rattle.export_verilog.specs.Written.{head_text, connections_end};
 ghost use Rattle.export_verilog.specs.Joined.{connections_from};
@@ -75,7 +76,7 @@ pub fn push_instance(
     head: &InstanceHead<'_>,
 ) -> Result<(), AllocError>
     requires { length port_names.now ≡ length ports.now }
-    ensures { OnOk result (out.new ≡ out.old ++ item_text (instance head.now.module.now head.now.name.now (connections_from (value_expr writer.now.scope writer.now.names.values) (λ k. name_or_nothing (named_of writer.now.names.values (result_ref (position_of (scope_ids writer.now.scope) id.index) k))) 0 port_names.now (map port_of ports.now) (map (scope_ref writer.now.scope) operands.now))) []) }
+    ensures { OnOk result (out.new ≡ out.old ++ item_text (instance head.now.module.now head.now.name.now (connections_from (value_expr writer.now.scope writer.now.names.values (own_place writer.now.options)) (λ k. name_or_nothing (named_of writer.now.names.values (result_ref (position_of (scope_ids writer.now.scope) id.index) k))) 0 port_names.now (map port_of ports.now) (map (scope_ref writer.now.scope) operands.now))) []) }
 {
     push_head(out, head.module, head.name)?;
     push_begin(out, ports.len() > 0)?;

@@ -20,6 +20,7 @@ mod module_writer;
 mod name_hints;
 mod named_design;
 mod op_names;
+mod places;
 mod ports;
 mod register_statements;
 mod statements;

@@ -56,7 +56,7 @@ fn push_all_declarations(writer: &ModuleWriter<'_>, out: &mut Text) -> Result<()
 
 // Adds the statements of all operations, in their order.
 fn push_all_statements(writer: &ModuleWriter<'_>, out: &mut Text) -> Result<(), AllocError>
-    ensures { OnOk result (out.new ≡ out.old ++ items_text (each (states (design_of writer.now.design.now.design.now) (scope_module writer.now.scope)) 0 (scope_ops writer.now.scope)) []) }
+    ensures { OnOk result (out.new ≡ out.old ++ items_text (each (states writer.now.options (design_of writer.now.design.now.design.now) (scope_module writer.now.scope)) 0 (scope_ops writer.now.scope)) []) }
 {
     for position in 0..writer.scope.count() {
         let op = writer.scope.op_at(position);
@@ -79,7 +79,7 @@ fn push_outputs(
     out: &mut Text,
     operands: &[Value],
 ) -> Result<(), AllocError>
-    ensures { OnOk result (out.new ≡ out.old ++ items_text (output_assigns (scope_module writer.now.scope) 0 (scope_ports writer.now.scope) (map (scope_ref writer.now.scope) operands.now)) []) }
+    ensures { OnOk result (out.new ≡ out.old ++ items_text (output_assigns writer.now.options (scope_module writer.now.scope) 0 (scope_ports writer.now.scope) (map (scope_ref writer.now.scope) operands.now)) []) }
 {
     let ports = writer.scope.ports();
     let mut number: usize = 0;
@@ -96,7 +96,7 @@ fn push_outputs(
 /// Adds the items of a module: the declarations in the order of its operations, then their statements, then an
 /// assignment to each output port. The error is out of memory.
 pub fn push_items(writer: &ModuleWriter<'_>, out: &mut Text) -> Result<(), AllocError>
-    ensures { OnOk result (out.new ≡ out.old ++ items_text (vitems (design_of writer.now.design.now.design.now) (scope_module writer.now.scope)) []) }
+    ensures { OnOk result (out.new ≡ out.old ++ items_text (vitems writer.now.options (design_of writer.now.design.now.design.now) (scope_module writer.now.scope)) []) }
 {
     push_all_declarations(writer, out)?;
     push_all_statements(writer, out)?;

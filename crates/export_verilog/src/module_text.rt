@@ -16,6 +16,7 @@ use crate::module_writer::ModuleWriter;
 use crate::named_design::NamedDesign;
 use crate::ports::push_ports;
 use io_edge::byte_text::Text;
+use lowering_options::lowering::Lowering;
 use std::alloc::{AllocError, Global};
 use verilog_expr::scope::Scope;
 use verilog_expr::wires::Wires;
@@ -23,7 +24,7 @@ use verilog_expr::wires::Wires;
 // Adds the text of a module under a name (IEEE 1364-2005, 12.1: modules).
 fn push_under(writer: &ModuleWriter<'_>, out: &mut Text, name: &[u8]) -> Result<(), AllocError>
     requires { AreNarrow (scope_ports writer.now.scope) }
-    ensures { OnOk result (out.new ≡ out.old ++ module_text (module_under (design_of writer.now.design.now.design.now) name.now (scope_module writer.now.scope)) []) }
+    ensures { OnOk result (out.new ≡ out.old ++ module_text (module_under writer.now.options (design_of writer.now.design.now.design.now) name.now (scope_module writer.now.scope)) []) }
 {
     out.push_bytes(b"module ")?;
     out.push_bytes(name)?;
@@ -49,10 +50,11 @@ pub fn push_module(
     out: &mut Text,
     all: &NamedDesign<'_>,
     number: u32,
+    options: Lowering,
 ) -> Result<(), AllocError>
     requires there { number < length (modules_of all.now.design.now) }
     requires writable { IsWritableDesign (design_of all.now.design.now) }
-    ensures { OnOk result ((m : Module) → slice_get (design_of all.now.design.now) number ≡ Some m → out.new ≡ out.old ++ module_text (vmodule (design_of all.now.design.now) m) []) }
+    ensures { OnOk result ((m : Module) → slice_get (design_of all.now.design.now) number ≡ Some m → out.new ≡ out.old ++ module_text (vmodule options (design_of all.now.design.now) m) []) }
 {
     let module = all.design.module(number);
     let ports = module.ports.ports.as_slice();
@@ -62,6 +64,7 @@ pub fn push_module(
     let writer = ModuleWriter {
         alloc,
         design: all,
+        options,
         scope,
         wires,
         names,

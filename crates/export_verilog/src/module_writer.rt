@@ -6,6 +6,7 @@ ghost use Rattle.export_verilog.specs.ScopeModules.{scope_module};
 
 use crate::module_names::ModuleNames;
 use crate::named_design::NamedDesign;
+use lowering_options::lowering::Lowering;
 use std::alloc::Global;
 use verilog_expr::scope::Scope;
 use verilog_expr::wires::Wires;
@@ -17,6 +18,8 @@ pub struct ModuleWriter<'m> {
     pub alloc: Global,
     /// The design, with the names of its modules and of their ports.
     pub design: &'m NamedDesign<'m>,
+    /// How expressions are written.
+    pub options: Lowering,
     /// The body, with its ports.
     pub scope: Scope<'m>,
     /// Which values have a wire.

@@ -8,11 +8,13 @@ ghost use Rattle.verilog_expr.specs.declared.scope.Scope.{Scope};
 ghost use Rattle.verilog_expr.specs.Named.{named_of};
 ghost use Rattle.export_verilog.specs.Layout.{item_text, items_text};
 ghost use Rattle.export_verilog.specs.Written.{written_block};
+ghost use Rattle.export_verilog.specs.Lowerings.{load_place, own_place};
 ghost use Rattle.export_verilog.specs.Values.{value_expr, value_literal, used_text, reset_text};
 ghost use Rattle.export_verilog.specs.Statements.{register_item, register_items};
 
 use crate::always_blocks::{Clocked, Reset, push_always, push_async};
 use crate::module_writer::ModuleWriter;
+use crate::places::{load_place, own_place};
 use crate::values::{literal_text, name_text, used_text};
 use hw_model::registers::{Register, ResetBy, async_reset_of, register_of};
 use io_edge::byte_text::Text;
@@ -44,7 +46,7 @@ fn push_reset<'t>(
     enable: Option<&'t [u8]>,
     reset: Option<ResetBy<Value>>,
 ) -> Result<(), AllocError>
-    ensures { OnOk result (out.new ≡ out.old ++ item_text (always clock.now (written_block target.now next.now (option_map (λ e. e.now) enable.entry) (option_map (reset_text writer.now.scope writer.now.names.values) (option_map (reset_by_of (scope_ref writer.now.scope)) reset)))) []) }
+    ensures { OnOk result (out.new ≡ out.old ++ item_text (always clock.now (written_block target.now next.now (option_map (λ e. e.now) enable.entry) (option_map (reset_text writer.now.options writer.now.scope writer.now.names.values) (option_map (reset_by_of (scope_ref writer.now.scope)) reset)))) []) }
 {
     match reset {
         None => push_always(
@@ -58,8 +60,8 @@ fn push_reset<'t>(
             },
         )?,
         Some(by) => {
-            let signal = used_text(writer, by.signal)?;
-            let value = used_text(writer, by.value)?;
+            let signal = used_text(writer, by.signal, own_place(writer.options))?;
+            let value = used_text(writer, by.value, load_place(writer.options))?;
             let written = Reset {
                 signal: signal.as_bytes(),
                 value: value.as_bytes(),
@@ -86,10 +88,10 @@ fn push_parts(
     target: &[u8],
     register: &Register<Value>,
 ) -> Result<(), AllocError>
-    ensures { OnOk result (out.new ≡ out.old ++ item_text (register_item (named_of writer.now.names.values) (value_expr writer.now.scope writer.now.names.values) (value_literal writer.now.scope) target.now None (register_of (scope_ref writer.now.scope) register.now)) []) }
+    ensures { OnOk result (out.new ≡ out.old ++ item_text (register_item (named_of writer.now.names.values) (value_expr writer.now.scope writer.now.names.values (own_place writer.now.options)) (value_expr writer.now.scope writer.now.names.values (load_place writer.now.options)) (value_literal writer.now.scope) target.now None (register_of (scope_ref writer.now.scope) register.now)) []) }
 {
     let clock = name_text(writer, register.clock);
-    let next = used_text(writer, register.next)?;
+    let next = used_text(writer, register.next, load_place(writer.options))?;
     match register.enable {
         None => push_reset(
             writer,
@@ -101,7 +103,7 @@ fn push_parts(
             register.reset,
         )?,
         Some(value) => {
-            let enable = used_text(writer, value)?;
+            let enable = used_text(writer, value, own_place(writer.options))?;
             push_reset(
                 writer,
                 out,
@@ -124,11 +126,11 @@ fn push_reset_parts(
     register: &Register<Value>,
     by: ResetBy<Value>,
 ) -> Result<(), AllocError>
-    ensures { OnOk result (out.new ≡ out.old ++ item_text (register_item (named_of writer.now.names.values) (value_expr writer.now.scope writer.now.names.values) (value_literal writer.now.scope) target.now (Some (reset_by_of (scope_ref writer.now.scope) by)) (register_of (scope_ref writer.now.scope) register.now)) []) }
+    ensures { OnOk result (out.new ≡ out.old ++ item_text (register_item (named_of writer.now.names.values) (value_expr writer.now.scope writer.now.names.values (own_place writer.now.options)) (value_expr writer.now.scope writer.now.names.values (load_place writer.now.options)) (value_literal writer.now.scope) target.now (Some (reset_by_of (scope_ref writer.now.scope) by)) (register_of (scope_ref writer.now.scope) register.now)) []) }
 {
     let clock = name_text(writer, register.clock);
     let signal = name_text(writer, by.signal);
-    let next = used_text(writer, register.next)?;
+    let next = used_text(writer, register.next, load_place(writer.options))?;
     let value = literal_text(writer, by.value)?;
     push_async(
         out,
@@ -149,7 +151,7 @@ fn push_item(
     register: &Register<Value>,
     by: Option<ResetBy<Value>>,
 ) -> Result<(), AllocError>
-    ensures { OnOk result (out.new ≡ out.old ++ item_text (register_item (named_of writer.now.names.values) (value_expr writer.now.scope writer.now.names.values) (value_literal writer.now.scope) target.now (option_map (reset_by_of (scope_ref writer.now.scope)) by) (register_of (scope_ref writer.now.scope) register.now)) []) }
+    ensures { OnOk result (out.new ≡ out.old ++ item_text (register_item (named_of writer.now.names.values) (value_expr writer.now.scope writer.now.names.values (own_place writer.now.options)) (value_expr writer.now.scope writer.now.names.values (load_place writer.now.options)) (value_literal writer.now.scope) target.now (option_map (reset_by_of (scope_ref writer.now.scope)) by) (register_of (scope_ref writer.now.scope) register.now)) []) }
 {
     match by {
         None => push_parts(writer, out, target, register)?,
@@ -167,7 +169,7 @@ pub fn push_register(
     target: &[u8],
     op: &Op<'_>,
 ) -> Result<(), AllocError>
-    ensures { OnOk result (out.new ≡ out.old ++ items_text (register_items (named_of writer.now.names.values) (value_expr writer.now.scope writer.now.names.values) (value_literal writer.now.scope) target.now (async_reset_in (op_read writer.now.scope op.now)) (register_in (op_read writer.now.scope op.now))) []) }
+    ensures { OnOk result (out.new ≡ out.old ++ items_text (register_items (named_of writer.now.names.values) (value_expr writer.now.scope writer.now.names.values (own_place writer.now.options)) (value_expr writer.now.scope writer.now.names.values (load_place writer.now.options)) (value_literal writer.now.scope) target.now (async_reset_in (op_read writer.now.scope op.now)) (register_in (op_read writer.now.scope op.now))) []) }
 {
     if let Some(register) = register_in(op) {
         push_item(writer, out, target, &register, async_reset_in(op))?;

@@ -110,7 +110,7 @@ fn push_call(
 ) -> Result<(), AllocError>
     requires there { slice_get (scope_ops writer.now.scope) position ≡ Some (op_read writer.now.scope op.now) }
     requires id { position_of (scope_ids writer.now.scope) id.index ≡ position }
-    ensures { OnOk result (out.new ≡ out.old ++ items_text (instance_of (design_of writer.now.design.now.design.now) (scope_module writer.now.scope) position (op_read writer.now.scope op.now) (instance_in (kind_of op.now.kind.now))) []) }
+    ensures { OnOk result (out.new ≡ out.old ++ items_text (instance_of writer.now.options (design_of writer.now.design.now.design.now) (scope_module writer.now.scope) position (op_read writer.now.scope op.now) (instance_in (kind_of op.now.kind.now))) []) }
 {
     if let OpKind::Instance(instance) = op.kind {
         let called = callee_of(writer.design, instance.symbol.as_bytes());
@@ -146,7 +146,7 @@ pub fn push_statements(
 ) -> Result<(), AllocError>
     requires there { slice_get (scope_ops writer.now.scope) position ≡ Some (op_read writer.now.scope op.now) }
     requires id { position_of (scope_ids writer.now.scope) id.index ≡ position }
-    ensures { OnOk result (out.new ≡ out.old ++ items_text (stated_as (design_of writer.now.design.now.design.now) (scope_module writer.now.scope) position (op_read writer.now.scope op.now) (emission_seen emission)) []) }
+    ensures { OnOk result (out.new ≡ out.old ++ items_text (stated_as writer.now.options (design_of writer.now.design.now.design.now) (scope_module writer.now.scope) position (op_read writer.now.scope op.now) (emission_seen emission)) []) }
 {
     let value = Value::Result(id, 0);
     match emission {

@@ -1,5 +1,5 @@
 -- What an assignment gives to a name: its own value, where the widths are the same, and always as many bits as the name has.
-use Rattle.std.proofs.Common.{◌≡◌, ℕ, zero, suc, ◌+◌, ◌-◌, ◌≤◌, max, Bool, true, false, cond, ◌&&◌, [], ◌∷◌, length, drop, replicate, ap, ◌∙◌, arith, length-append, length-drop}
+use Rattle.std.proofs.Common.{◌≡◌, ℕ, zero, suc, ◌+◌, ◌-◌, ◌≤◌, max, Bool, true, false, cond, ◌&&◌, [], ◌∷◌, length, drop, replicate, sym, ap, ◌∙◌, arith, length-append, length-drop}
 use Rattle.std.proofs.Math.ListN.{length-replicate}
 use Rattle.bits_core.specs.Word.{Word, number, bits, sign, flag, extract, copies, parity, bitwise}
 use Rattle.bits_core.proofs.Arithmetic.{length-add, length-sub, length-mul, length-quotient, length-rest, length-signed_quotient, length-signed_rest}
@@ -10,7 +10,8 @@ use Rattle.verilog_model.specs.Tree.{Operator, Expr}
 use Rattle.verilog_model.specs.Tree.Operator.{times, over, modulo, plus, minus, left_shift, right_shift, signed_right_shift, below, at_most, above, at_least, equals, differs, bit_and, bit_xor, bit_or}
 use Rattle.verilog_model.specs.Tree.Expr.{name, bit_select, part_select, literal, joined, repeated, as_signed, as_unsigned, paren, odd, binary, choice}
 use Rattle.verilog_model.specs.Expression.{is_signed, length_of, extend, is_true, compare_words, low_bits, value, values, own_value, assigned}
-use Rattle.verilog_expr.specs.Values.{HasBits}
+use Rattle.verilog_expr.specs.Values.{value_in, HasBits}
+use Rattle.verilog_expr.proofs.Own.{long_most, own_in}
 
 extended_long : (k : ℕ) (s : Bool) (x : Word) → k ≤ length (extend k s x)
 extended_long k s x = omega (arith, length-append (replicate (k - length x) (s && sign x)) x, length-replicate (k - length x) (s && sign x))
@@ -86,8 +87,12 @@ module _ (widths : Name → ℕ) (ρ : Name → Word) where
   low_all : (w : ℕ) (x : Word) → length x ≡ w → low_bits w x ≡ x
   low_all w x size = let none : length x - w ≡ 0 = omega arith in ap (λ n. drop n x) none
 
-  pub assigned_same : (w : ℕ) (e : Expr) → HasBits widths ρ w e → assigned widths ρ w e ≡ own_value widths ρ e
-  assigned_same w e has =
-      let long : length_of widths e ≡ w = has.long in
-      let wide : max w (length_of widths e) ≡ length_of widths e = omega arith in
-      ap (λ k. low_bits w (value widths ρ k (is_signed e) e)) wide ∙ low_all w (own_value widths ρ e) has.worth
+  -- an assignment to a name of w bits gives them the value of an expression that has no more
+  pub assigned_in : (given : Bool) (w : ℕ) (e : Expr) → HasBits widths ρ given w e → assigned widths ρ w e ≡ value_in widths ρ w e
+  assigned_in given w e has =
+      let most : length_of widths e ≤ w = long_most given w (length_of widths e) has.long in
+      let wide : max w (length_of widths e) ≡ w = omega arith in
+      ap (λ k. low_bits w (value widths ρ k (is_signed e) e)) wide ∙ low_all w (value_in widths ρ w e) has.worth
+
+  pub assigned_same : (w : ℕ) (e : Expr) → HasBits widths ρ false w e → assigned widths ρ w e ≡ own_value widths ρ e
+  assigned_same w e has = assigned_in false w e has ∙ sym (own_in widths ρ w e has)

@@ -1,5 +1,5 @@
 -- Words of expressions: literals and names that are checked.
-use Rattle.std.proofs.Common.{◌≡◌, ℕ, ◌-◌, ◌<◌, ◌≤◌, ◌^◌, Bool, true, false, ◌||◌, ◌==◌, nat_le, nat_lt, decimal, refl, arith, IsTrue, lt-ltb, le-leb, leb-true}
+use Rattle.std.proofs.Common.{◌≡◌, ℕ, ◌<◌, ◌≤◌, ◌^◌, Bool, true, false, ◌||◌, ◌==◌, nat_le, nat_lt, decimal, refl, arith, IsTrue, lt-ltb, le-leb, leb-true}
 use Rattle.verilog_model.specs.Tokens.{is_word_byte, is_digit, is_between}
 use Rattle.verilog_model.specs.Numerals.{is_nonempty, all_bytes}
 use Rattle.verilog_model.proofs.Numerals.{and_intro, and_first, and_second, is_decimal-decimal}

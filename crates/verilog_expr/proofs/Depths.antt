@@ -1,21 +1,26 @@
 -- No expression is nested deeper than the limit of heights: what stands for a value does not change with the depth then.
-use Rattle.std.proofs.Common.{◌≡◌, ℕ, ℤ, zero, suc, ◌<◌, ◌≤◌, Bool, true, false, cond, not, ◌&&◌, nat_le, List, map, Option, Some, None, slice_get, refl, sym, ap, subst, ◌∙◌, arith, option_and_then}
+use Rattle.std.proofs.Common.{◌≡◌, ℕ, ℤ, zero, suc, ◌<◌, ◌≤◌, Bool, true, false, cond, not, ◌&&◌, nat_le, List, map, Option, Some, None, slice_get, refl, sym, ap, ap₂, subst, ◌∙◌, arith, option_and_then}
 use Rattle.std.proofs.lemmas.Bool.{true≢false, leb-true, leb-false}
 use Rattle.wiring.specs.Wiring.{In, greatest, IsAcyclic}
-use Rattle.wiring.proofs.Members.{In-map, map_same}
+use Rattle.wiring.proofs.Members.{In-map}
 use Rattle.wiring.proofs.Heights.{le-greatest}
+use Rattle.bits_core.specs.Word.{number, bits_of_ℤ}
 use Rattle.hw_model.specs.Types.{Name, HwType, width}
-use Rattle.hw_model.specs.Kinds.{Kind}
 use Rattle.hw_model.specs.Kinds.Kind.{constant}
 use Rattle.hw_model.specs.Design.{Ref, Port, Op, result_type}
 use Rattle.hw_model.specs.Design.Ref.{port, result, undefined}
 use Rattle.hw_model.specs.Sound.{type_in}
 use Rattle.verilog_model.specs.Tree.{Expr}
+use Rattle.verilog_model.specs.Digits.{literal_of}
 use Rattle.verilog_expr.specs.Building.{kind_expr}
-use Rattle.verilog_expr.specs.Expressions.{op_at, value_width, divisor_in, name_or, op_expr, typed_expr, result_expr, own_expr, expr_step, AreExprs, expr_to}
+use Rattle.verilog_expr.specs.Extensions.{is_concat, alone_or}
+use Rattle.verilog_expr.specs.declared.extending.Extending.{Extending}
+use Rattle.verilog_expr.specs.declared.extending.Extending.TheVariants.{Off}
+use Rattle.verilog_expr.specs.Expressions.{op_at, value_width, divisor_in, name_or, operand_exprs, extended_in, op_expr, typed_expr, result_expr, own_expr, expr_step, AreExprs, expr_to}
 use Rattle.verilog_expr.specs.Spilling.{is_pure, is_constant_kind, is_shared, some_op, cuts, part_of_op, part_of, part, height_limit, height_under, operands_of, height_over, height_step, height, has_wire, spilled_op, spilled, inner_needs}
 use Rattle.verilog_expr.specs.Spilling.Part.{flat, shared, nested}
 use Rattle.verilog_expr.specs.Values.{IsWritable}
+use Rattle.verilog_expr.proofs.Extended.{alone_none, same_placed, not_extended, extended_same, lends_same}
 use Rattle.verilog_expr.proofs.Bodies.{constant_kind, named_twice, absent_own, gives_values-pure}
 use Rattle.verilog_expr.proofs.Heights.{heights_hold}
 
@@ -118,59 +123,69 @@ module _ (named : Ref → Option Name) (ports : List Port) (os : List Op) (writa
       (In-map (λ y. height_under (part ports os y) (height ports os y)) x o.operands here) in
       ((omega arith), (λ unnamed t is. let own : under ≡ height ports os x = unnamed_under x t unnamed is in omega arith))
 
-  is_op : (ex : Ref → Expr) (i : ℕ) (o : Op) (r : Ref) (t : HwType) → r ≡ result i 0 → slice_get os i ≡ Some o → type_in ports os r ≡ Some t
-      → own_expr named ports os ex r ≡ op_expr named ports os ex o (width t)
-  is_op ex i o r t same there is =
+  is_made : (ex : Extending → Ref → Expr) (x : Extending) (i : ℕ) (o : Op) (r : Ref) (t : HwType) → r ≡ result i 0 → slice_get os i ≡ Some o → type_in ports os r ≡ Some t
+      → own_expr named ports os ex x r ≡ alone_or x (extended_in ports os ex o.kind o.operands) (op_expr named ports os ex x o (width t))
+  is_made ex x i o r t same there is =
       let type : result_type o 0 ≡ Some t = ap (λ m. option_and_then (λ (q : Op). result_type q 0) m) (sym there) ∙ ap (type_in ports os) (sym same) ∙ is in
-      ap (own_expr named ports os ex) same ∙ ap (result_expr named ports os ex 0) there ∙ ap (typed_expr named ports os ex o) type
+      ap (own_expr named ports os ex x) same ∙ ap (result_expr named ports os ex x 0) there ∙ ap (typed_expr named ports os ex x o) type
 
-  same_constant : (f g : Ref → Expr) (o : Op) (w : ℕ) → is_constant_kind o.kind ≡ true → op_expr named ports os f o w ≡ op_expr named ports os g o w
-  same_constant f g o w constant_so = go (constant_kind o.kind constant_so) where
-    with_kind : (Ref → Expr) → Kind → Expr
-    with_kind ex kind = kind_expr kind w (map (value_width ports os) o.operands) (divisor_in os w o.operands) (map ex o.operands)
+  -- a constant has no operands in its expression
+  literal_made : (f : Extending → Ref → Expr) (x : Extending) (o : Op) (w : ℕ) (z : ℤ) → o.kind ≡ constant z
+      → alone_or x (extended_in ports os f o.kind o.operands) (op_expr named ports os f x o w) ≡ literal_of w false (number (bits_of_ℤ w z))
+  literal_made f x o w z is =
+      ap (λ m. alone_or x m (op_expr named ports os f x o w)) (not_extended ports os f o.kind o.operands (ap is_concat is))
+      ∙ alone_none x (op_expr named ports os f x o w)
+      ∙ ap (λ kind. kind_expr kind w (map (value_width ports os) o.operands) (divisor_in os w o.operands) (operand_exprs x f o.kind o.operands 0 o.operands)) is
 
-    go : (z : ℤ) × (o.kind ≡ constant z) → with_kind f o.kind ≡ with_kind g o.kind
-    go (z, is) = ap (with_kind f) is ∙ sym (ap (with_kind g) is)
+  same_constant : (f g : Extending → Ref → Expr) (x : Extending) (o : Op) (w : ℕ) → is_constant_kind o.kind ≡ true
+      → alone_or x (extended_in ports os f o.kind o.operands) (op_expr named ports os f x o w) ≡ alone_or x (extended_in ports os g o.kind o.operands) (op_expr named ports os g x o w)
+  same_constant f g x o w constant_so = go (constant_kind o.kind constant_so) where
+    go : (z : ℤ) × (o.kind ≡ constant z)
+        → alone_or x (extended_in ports os f o.kind o.operands) (op_expr named ports os f x o w) ≡ alone_or x (extended_in ports os g o.kind o.operands) (op_expr named ports os g x o w)
+    go (z, is) = literal_made f x o w z is ∙ sym (literal_made g x o w z is)
 
-  same_nested : (f g : Ref → Expr) (o : Op) (w : ℕ) → ((x : Ref) → In x o.operands → f x ≡ g x) → op_expr named ports os f o w ≡ op_expr named ports os g o w
-  same_nested f g o w same =
-      ap (kind_expr o.kind w (map (value_width ports os) o.operands) (divisor_in os w o.operands)) (map_same f g o.operands same)
+  same_nested : (f g : Extending → Ref → Expr) (x : Extending) (o : Op) (w : ℕ) → ((r : Ref) → In r o.operands → (y : Extending) → f y r ≡ g y r)
+      → alone_or x (extended_in ports os f o.kind o.operands) (op_expr named ports os f x o w) ≡ alone_or x (extended_in ports os g o.kind o.operands) (op_expr named ports os g x o w)
+  same_nested f g x o w same =
+      ap₂ (λ m es. alone_or x m (kind_expr o.kind w (map (value_width ports os) o.operands) (divisor_in os w o.operands) es))
+      (extended_same ports os f g o.kind o.operands (λ r here. same r here Off))
+      (same_placed f o.kind g x o.operands 0 o.operands (lends_same ports os f g o.operands (λ r here. same r here Off)) same)
 
-  same_step : (f g : Ref → Expr) (m n : ℕ) (r : Ref) → ((x : Ref) → Low m x → Low n x → f x ≡ g x) → Low (suc m) r → Low (suc n) r
-      → expr_step named ports os f r ≡ expr_step named ports os g r
-  same_step f g m n r same first second = by_name (named r) refl where
-    by_value : (t : HwType) → named r ≡ None → type_in ports os r ≡ Some t → Unnamed r → own_expr named ports os f r ≡ own_expr named ports os g r
+  same_step : (f g : Extending → Ref → Expr) (m n : ℕ) (r : Ref) → ((q : Ref) → Low m q → Low n q → (y : Extending) → f y q ≡ g y q) → Low (suc m) r → Low (suc n) r
+      → (x : Extending) → expr_step named ports os f x r ≡ expr_step named ports os g x r
+  same_step f g m n r same first second x = by_name (named r) refl where
+    by_value : (t : HwType) → named r ≡ None → type_in ports os r ≡ Some t → Unnamed r → own_expr named ports os f x r ≡ own_expr named ports os g x r
     by_value t unnamed is (constant_value i o same_ref there constant_so is_flat) =
-        is_op f i o r t same_ref there is ∙ same_constant f g o (width t) constant_so ∙ sym (is_op g i o r t same_ref there is)
+        is_made f x i o r t same_ref there is ∙ same_constant f g x o (width t) constant_so ∙ sym (is_made g x i o r t same_ref there is)
     by_value t unnamed is (nested_value i o same_ref there is_nested low) =
-        is_op f i o r t same_ref there is
-        ∙ same_nested f g o (width t) (λ x here. same x (lower i o r same_ref there is_nested m (first.1 unnamed t is) x here)
-        (lower i o r same_ref there is_nested n (second.1 unnamed t is) x here))
-        ∙ sym (is_op g i o r t same_ref there is)
+        is_made f x i o r t same_ref there is
+        ∙ same_nested f g x o (width t) (λ q here. same q (lower i o r same_ref there is_nested m (first.1 unnamed t is) q here)
+        (lower i o r same_ref there is_nested n (second.1 unnamed t is) q here))
+        ∙ sym (is_made g x i o r t same_ref there is)
 
-    by_type : named r ≡ None → (u : Option HwType) → type_in ports os r ≡ u → own_expr named ports os f r ≡ own_expr named ports os g r
-    by_type unnamed None is = absent_own named ports os f r is ∙ sym (absent_own named ports os g r is)
+    by_type : named r ≡ None → (u : Option HwType) → type_in ports os r ≡ u → own_expr named ports os f x r ≡ own_expr named ports os g x r
+    by_type unnamed None is = absent_own named ports os f x r is ∙ sym (absent_own named ports os g x r is)
     by_type unnamed (Some t) is = by_value t unnamed is (unnamed_value r t unnamed is)
 
-    by_name : (q : Option Name) → named r ≡ q → expr_step named ports os f r ≡ expr_step named ports os g r
+    by_name : (q : Option Name) → named r ≡ q → expr_step named ports os f x r ≡ expr_step named ports os g x r
     by_name None unnamed = ap (name_or (named r)) (by_type unnamed (type_in ports os r) refl)
     by_name (Some k) is =
-        ap (λ q. name_or q (own_expr named ports os f r)) is ∙ sym (ap (λ q. name_or q (own_expr named ports os g r)) is)
+        ap (λ q. name_or q (own_expr named ports os f x r)) is ∙ sym (ap (λ q. name_or q (own_expr named ports os g x r)) is)
 
   -- deep enough, an expression does not change with the depth
-  steady : (m n : ℕ) (r : Ref) → Low m r → Low n r → expr_to named ports os m r ≡ expr_to named ports os n r
+  steady : (m n : ℕ) (r : Ref) → Low m r → Low n r → (x : Extending) → expr_to named ports os m x r ≡ expr_to named ports os n x r
   unfolding expr_to
-  steady zero n r first second = absurd (let bound : 1 ≤ 0 = first.0 in omega arith)
-  steady (suc m) zero r first second = absurd (let bound : 1 ≤ 0 = second.0 in omega arith)
-  steady (suc m) (suc n) r first second =
-      same_step (expr_to named ports os m) (expr_to named ports os n) m n r (λ x low also. steady m n x low also) first second
+  steady zero n r first second x = absurd (let bound : 1 ≤ 0 = first.0 in omega arith)
+  steady (suc m) zero r first second x = absurd (let bound : 1 ≤ 0 = second.0 in omega arith)
+  steady (suc m) (suc n) r first second x =
+      same_step (expr_to named ports os m) (expr_to named ports os n) m n r (λ q low also y. steady m n q low also y) first second x
 
-  steady_at : (n : ℕ) → height_limit < n → AreExprs named ports os (λ (r : Ref). expr_to named ports os n r)
+  steady_at : (n : ℕ) → height_limit < n → AreExprs named ports os (λ (x : Extending) (r : Ref). expr_to named ports os n x r)
   unfolding expr_to
-  steady_at n deep r =
+  steady_at n deep x r =
       steady n (suc n) r
       ((omega arith), (λ unnamed t is. let bound : height ports os r < suc height_limit = unnamed_height r t unnamed is in omega arith))
-      ((omega arith), (λ unnamed t is. let bound : height ports os r < suc height_limit = unnamed_height r t unnamed is in omega arith))
+      ((omega arith), (λ unnamed t is. let bound : height ports os r < suc height_limit = unnamed_height r t unnamed is in omega arith)) x
 
-  pub expressions_hold : AreExprs named ports os (λ (r : Ref). expr_to named ports os (suc height_limit) r)
+  pub expressions_hold : AreExprs named ports os (λ (x : Extending) (r : Ref). expr_to named ports os (suc height_limit) x r)
   expressions_hold = steady_at (suc height_limit) (omega arith)

@@ -12,8 +12,9 @@ use Rattle.verilog_model.specs.Expression.{is_signed}
 use Rattle.verilog_model.proofs.Numerals.{and_intro}
 use Rattle.verilog_model.specs.Digits.{literal_of}
 use Rattle.verilog_expr.specs.Building.{unsigned, parenthesize, unsigned_at, unsigned_pair, chain, variadic_expr, signed_pair, unsigned_shift, signed_shift, unsigned_division, signed_division, select}
-use Rattle.verilog_expr.specs.Building.{select_bits, exprs_of, concatenation, conditional, kind_expr, division_expr, shift_expr, variadic_operator, division_operator, shift_operator}
-use Rattle.verilog_expr.specs.Building.{is_signed_division, is_signed_shift}
+use Rattle.verilog_expr.specs.Building.{select_bits, exprs_of, concatenation, conditional, kind_expr, division_expr, shift_expr, shift_operator}
+use Rattle.verilog_expr.specs.Building.{is_signed_shift}
+use Rattle.verilog_expr.specs.declared.extending.Extending.{Extending}
 use Rattle.verilog_expr.specs.Expressions.{own_expr, expr_to}
 use Rattle.verilog_expr.proofs.Carried.{IsCarried, own_carried, depth_carried}
 use Rattle.verilog_expr.proofs.Passing.{Passes, built_passes}
@@ -166,9 +167,9 @@ built_fits = built_passes fits fits_pass
 pub fits_carried : IsCarried fits
 fits_carried = record { none = refl; called = λ n. refl; each = built_fits }
 
-pub own_fits : (named : Ref → Option Name) (ports : List Port) (os : List Op) (ex : Ref → Expr) → ((r : Ref) → fits (ex r) ≡ true)
-    → (r : Ref) → fits (own_expr named ports os ex r) ≡ true
+pub own_fits : (named : Ref → Option Name) (ports : List Port) (os : List Op) (ex : Extending → Ref → Expr) → ((x : Extending) (r : Ref) → fits (ex x r) ≡ true)
+    → (x : Extending) (r : Ref) → fits (own_expr named ports os ex x r) ≡ true
 own_fits = own_carried fits fits_carried
 
-pub depth_fits : (named : Ref → Option Name) (ports : List Port) (os : List Op) (n : ℕ) (r : Ref) → fits (expr_to named ports os n r) ≡ true
+pub depth_fits : (named : Ref → Option Name) (ports : List Port) (os : List Op) (n : ℕ) (x : Extending) (r : Ref) → fits (expr_to named ports os n x r) ≡ true
 depth_fits = depth_carried fits fits_carried

@@ -14,32 +14,24 @@ use Rattle.verilog_model.specs.Digits.{literal_of}
 use Rattle.verilog_expr.specs.Building.{no_expr, parenthesize, unsigned_at, of_one_expr, of_two_exprs, of_three_exprs, unsigned_pair, chain, variadic_expr, signed_pair, unsigned_shift}
 use Rattle.verilog_expr.specs.Building.{unsigned_division, signed_division, comparison, select, select_bits, concatenation, conditional, first_width, kind_expr, division_expr, shift_expr}
 use Rattle.verilog_expr.specs.Building.{variadic_operator, division_operator, shift_operator, is_signed_division, is_signed_shift}
-use Rattle.verilog_model.specs.Text.{expr_text}
 use Rattle.verilog_expr.specs.Forms.{operator_of, operator_in_code}
-use Rattle.verilog_expr.specs.Templates.{chain_template, template_of_count, division_form, shift_form, comparison_form, extract_template, template_for, template_text, template_signed, template_level}
-use Rattle.verilog_expr.specs.ExprNode.{sole_name, template_name}
+use Rattle.verilog_expr.specs.Templates.{chain_template, template_of_count, division_form, shift_form, comparison_form, extract_template, template_for, sole_name, no_name, IsTemplate}
 use Rattle.verilog_expr.specs.declared.form.Operator.{Operator}
 use Rattle.verilog_expr.specs.declared.form.Operator.TheVariants as signs
 use Rattle.verilog_expr.specs.declared.form.Form.{Form}
 use Rattle.verilog_expr.specs.declared.form.Form.TheVariants.{Same, Chain, SignedPair, UnsignedShift, UnsignedDivision, SignedDivision, Parity, Braces, Copies, Choice}
-use Rattle.verilog_expr.specs.declared.template.Template.{Template}
 use Rattle.verilog_expr.specs.declared.template.Template.TheVariants.{Missing, Select, Operands}
 use Rattle.verilog_expr.proofs.Operators.{division_context, shift_context, operator_back}
 use Rattle.verilog_expr.proofs.FormTexts.{same_text, chain_text, signed_pair_text, unsigned_shift_text, signed_shift_text, unsigned_division_text, signed_division_text, parity_text, braces_text, copies_text, choice_text}
+use Rattle.verilog_expr.specs.Extensions.{is_simple}
+use Rattle.verilog_expr.proofs.Simple.{chain_wide, bits_wide}
 use Rattle.verilog_expr.proofs.Signed.{select_unsigned, unsigned_at_signed, unsigned_signed}
 
--- an expression is that of a template over others
-pub record IsTemplate (e : Expr) (template : Template) (es : List Expr) : Type 0 where
-  pub text : expr_text e [] ≡ template_text template es
-  pub signed : is_signed e ≡ template_signed template es
-  pub level_is : level e ≡ template_level template es
-  pub called : sole_name e ≡ template_name template es
-
-missing_is : (es : List Expr) → IsTemplate no_expr Missing es
-missing_is es = record { text = refl; signed = refl; level_is = refl; called = refl }
+pub missing_is : (es : List Expr) → IsTemplate no_expr Missing es
+missing_is es = record { text = refl; signed = refl; level_is = refl; called = refl; simple = refl }
 
 same_is : (a : Expr) → IsTemplate a (Operands Same) (a ∷ [])
-same_is a = record { text = same_text a; signed = refl; level_is = refl; called = refl }
+same_is a = record { text = same_text a; signed = refl; level_is = refl; called = refl; simple = refl }
 
 -- ---- signs
 
@@ -72,6 +64,7 @@ chain_is o a b bs = record {
   signed = chained_sign (operator_of o) (unsigned_at (strength (operator_of o)) a) (b ∷ bs) (unsigned_at_signed (strength (operator_of o)) a);
   level_is = chained_level (operator_of o) (unsigned_at (strength (operator_of o)) a) (unsigned_at (suc (strength (operator_of o))) b) bs;
   called = chained_name (operator_of o) (unsigned_at (strength (operator_of o)) a) (unsigned_at (suc (strength (operator_of o))) b) bs;
+  simple = chain_wide (operator_of o) (unsigned_at (strength (operator_of o)) a) (unsigned_at (suc (strength (operator_of o))) b) bs;
 }
 
 many : (o : Operator) (n : ℕ) → 2 ≤ n → chain_template n o ≡ Operands (Chain o)
@@ -115,7 +108,7 @@ pair_is : (o : Operator) (a b : Expr) → IsTemplate (unsigned_pair (operator_of
 pair_is o a b = chain_is o a b []
 
 signed_is : (o : Operator) (a b : Expr) → is_signed (signed_pair (operator_of o) a b) ≡ false → IsTemplate (signed_pair (operator_of o) a b) (Operands (SignedPair o)) (a ∷ b ∷ [])
-signed_is o a b sign = record { text = signed_pair_text o a b; signed = sign; level_is = refl; called = refl }
+signed_is o a b sign = record { text = signed_pair_text o a b; signed = sign; level_is = refl; called = refl; simple = refl }
 
 shift_is : (o : Operator) (a b : Expr) → IsTemplate (unsigned_shift (operator_of o) a b) (Operands (UnsignedShift o)) (a ∷ b ∷ [])
 shift_is o a b = record {
@@ -123,6 +116,7 @@ shift_is o a b = record {
   signed = binary_not (operator_of o) (unsigned_at (strength (operator_of o)) a) (parenthesize (suc (strength (operator_of o))) b) (unsigned_at_signed (strength (operator_of o)) a);
   level_is = refl;
   called = refl;
+  simple = refl;
 }
 
 division_is : (o : Operator) (w d : ℕ) (a b : Expr) → IsTemplate (unsigned_division (operator_of o) w d a) (Operands (UnsignedDivision o w d)) (a ∷ b ∷ [])
@@ -131,11 +125,12 @@ division_is o w d a b = record {
   signed = binary_not (operator_of o) (unsigned_at (strength (operator_of o)) a) (literal_of w false d) (unsigned_at_signed (strength (operator_of o)) a);
   level_is = refl;
   called = refl;
+  simple = refl;
 }
 
 signed_division_is : (o : Operator) (w d : ℕ) (a b : Expr) → is_signed (signed_division (operator_of o) w d a) ≡ true
     → IsTemplate (signed_division (operator_of o) w d a) (Operands (SignedDivision o w d)) (a ∷ b ∷ [])
-signed_division_is o w d a b sign = record { text = signed_division_text o w d a; signed = sign; level_is = refl; called = refl }
+signed_division_is o w d a b sign = record { text = signed_division_text o w d a; signed = sign; level_is = refl; called = refl; simple = refl }
 
 choice_is : (c a b : Expr) → IsTemplate (conditional c a b) (Operands Choice) (c ∷ a ∷ b ∷ [])
 choice_is c a b = record {
@@ -143,6 +138,7 @@ choice_is c a b = record {
   signed = ap (λ s. s && is_signed (unsigned_at 1 b)) (unsigned_signed a);
   level_is = refl;
   called = refl;
+  simple = refl;
 }
 
 comparison_is : (p : Predicate) (es : List Expr) → IsTemplate (of_two_exprs (comparison p) es) (template_of_count (length es) 2 (comparison_form p)) es
@@ -179,13 +175,17 @@ select_name low w (name n) = go (w == 1)
     go false = refl
 select_name low w _ = refl
 
+select_simple : (low w : ℕ) (a : Expr) → is_simple (select low w a) ≡ no_name (sole_name a)
+select_simple low w (name n) = bits_wide n low w (w == 1)
+select_simple low w _ = refl
+
 extract_is : (low w v : ℕ) (es : List Expr) → IsTemplate (of_one_expr (select_bits low v w) es) (extract_template (length es) low w v) es
 extract_is low w v [] = missing_is []
 extract_is low w v (a ∷ []) = go (low == 0 && w == v)
   where
     go : (b : Bool) → IsTemplate (cond b a (select low w a)) (cond b (Operands Same) (Select low w)) (a ∷ [])
     go true = same_is a
-    go false = record { text = refl; signed = select_unsigned low w a; level_is = select_level low w a; called = select_name low w a }
+    go false = record { text = refl; signed = select_unsigned low w a; level_is = select_level low w a; called = select_name low w a; simple = select_simple low w a }
 extract_is low w v (a ∷ b ∷ es) =
     subst (λ r. IsTemplate no_expr r (a ∷ b ∷ es))
     (sym (ap (λ t. cond t (cond (low == 0 && w == v) (Operands Same) (Select low w)) Missing) (ne_eqb (suc (suc (length es))) 1 (λ e. omega (arith, e))))) (missing_is (a ∷ b ∷ es))
@@ -194,7 +194,7 @@ concat_is : (es : List Expr) → IsTemplate (concatenation es) (cond (length es 
 concat_is [] = missing_is []
 concat_is (a ∷ rest) =
     subst (λ r. IsTemplate (concatenation (a ∷ rest)) r (a ∷ rest)) (sym (ap (λ t. cond t Missing (Operands Braces)) (ne_eqb (suc (length rest)) 0 (λ e. omega (arith, e)))))
-    (record { text = braces_text a rest; signed = refl; level_is = refl; called = refl })
+    (record { text = braces_text a rest; signed = refl; level_is = refl; called = refl; simple = refl })
 
 -- ---- families
 
@@ -211,6 +211,7 @@ either_shift_is true o x y is = record {
   signed = ap (λ c. binary_signed c true (is_signed (parenthesize (suc (strength (operator_of o))) y))) is;
   level_is = refl;
   called = refl;
+  simple = refl;
 }
 
 variadic_template : (v : Variadic) (es : List Expr) → IsTemplate (variadic_expr (variadic_operator v) es) (chain_template (length es) (operator_in_code (variadic_operator v))) es
@@ -243,14 +244,14 @@ built_is (division v) w ws d es =
 built_is (shift v) w ws d es =
     two_is (shift_form (is_signed_shift v) (operator_in_code (shift_operator v))) (shift_expr (is_signed_shift v) (shift_operator v)) (shift_template v) es
 built_is (icmp p) w ws d es = comparison_is p es
-built_is parity w ws d es = one_is Parity (λ a. odd (parenthesize primary_level a)) (λ a. record { text = parity_text a; signed = refl; level_is = refl; called = refl }) es
+built_is parity w ws d es = one_is Parity (λ a. odd (parenthesize primary_level a)) (λ a. record { text = parity_text a; signed = refl; level_is = refl; called = refl; simple = refl }) es
 built_is (extract low) w ws d es = extract_is low w (first_width ws) es
 built_is concat w ws d es = concat_is es
 built_is replicate w ws d es =
     one_is (Copies (w / first_width ws)) (λ a. repeated (decimal (w / first_width ws)) (last a))
-    (λ a. record { text = copies_text (w / first_width ws) a; signed = refl; level_is = refl; called = refl }) es
+    (λ a. record { text = copies_text (w / first_width ws) a; signed = refl; level_is = refl; called = refl; simple = refl }) es
 built_is mux w ws d es = three_is Choice conditional choice_is es
-built_is (constant z) w ws d es = record { text = refl; signed = refl; level_is = refl; called = refl }
+built_is (constant z) w ws d es = record { text = refl; signed = refl; level_is = refl; called = refl; simple = refl }
 built_is bitcast w ws d es = one_is Same (λ a. a) same_is es
 built_is wire w ws d es = one_is Same (λ a. a) same_is es
 built_is _ w ws d es = missing_is es

@@ -16,6 +16,7 @@ use Rattle.hw_model.specs.Sound.{type_in, OpFits}
 use Rattle.verilog_model.specs.Tree.Operator.{over, right_shift}
 use Rattle.verilog_model.specs.Tree.Expr.{name, literal, as_signed, as_unsigned, binary}
 use Rattle.verilog_model.specs.Digits.{hex}
+use Rattle.verilog_expr.specs.declared.extending.Extending.TheVariants.{Off}
 use Rattle.verilog_expr.specs.Expressions.{value_width, constant_of, expr_to}
 use Rattle.verilog_expr.specs.Spilling.{is_pure, is_narrower, height_limit, height, spilled, inner_needs}
 use Rattle.verilog_expr.specs.Values.{is_aggregate_kind, is_division, is_variadic, IsDivision, IsWritable}
@@ -53,7 +54,7 @@ named (port zero) = Some (codes "a")
 named _ = None
 
 -- its last value is written by the input's name alone
-last_value : expr_to named ports body (suc height_limit) (result 2 0)
+last_value : expr_to named ports body (suc height_limit) Off (result 2 0)
     ≡ binary right_shift (as_unsigned (binary over (as_signed (name (codes "a"))) (literal (decimal 8) true (codes "FD")))) (name (codes "a"))
 unfolding expr_to hex
 last_value = refl

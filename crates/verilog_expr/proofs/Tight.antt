@@ -13,8 +13,8 @@ use Rattle.verilog_model.specs.Expression.{is_signed}
 use Rattle.verilog_model.proofs.Numerals.{and_intro, and_first, and_second}
 use Rattle.verilog_model.specs.Digits.{literal_of}
 use Rattle.verilog_expr.specs.Building.{unsigned, parenthesize, unsigned_at, unsigned_pair, chain, variadic_expr, signed_pair, unsigned_shift, signed_shift, unsigned_division, signed_division, select}
-use Rattle.verilog_expr.specs.Building.{select_bits, exprs_of, concatenation, conditional, kind_expr, division_expr, shift_expr, variadic_operator, division_operator, shift_operator}
-use Rattle.verilog_expr.specs.Building.{is_signed_division, is_signed_shift}
+use Rattle.verilog_expr.specs.Building.{select_bits, exprs_of, concatenation, conditional, kind_expr, division_expr, shift_expr, shift_operator}
+use Rattle.verilog_expr.specs.Building.{is_signed_shift}
 use Rattle.verilog_expr.specs.Parentheses.{tight_at, all_tight, tight, opened, opened_parts}
 use Rattle.verilog_expr.proofs.Carried.{IsCarried}
 use Rattle.verilog_expr.proofs.Passing.{Passes, built_passes}

@@ -5,7 +5,6 @@ use Rattle.hw_model.specs.Design.{Ref, Port, Op}
 use Rattle.hw_model.specs.Design.Ref.{result}
 use Rattle.ir_store.specs.declared.operation.Value.{Value}
 use Rattle.verilog_model.specs.Tree.{Expr}
-use Rattle.verilog_model.specs.Tree.Expr.{name}
 use Rattle.verilog_model.specs.Grammar.{level}
 use Rattle.verilog_model.specs.Expression.{is_signed}
 use Rattle.verilog_expr.specs.Building.{no_expr}
@@ -13,7 +12,10 @@ use Rattle.verilog_expr.specs.Expressions.{value_width, own_expr, expr_to}
 use Rattle.verilog_model.specs.Text.{expr_text}
 use Rattle.verilog_expr.specs.Scopes.{scope_ports, scope_ops, scope_ref}
 use Rattle.verilog_expr.specs.Named.{named_of}
-use Rattle.verilog_expr.specs.Templates.{template_text, template_signed, template_level}
+use Rattle.verilog_expr.specs.Extensions.{alone_or}
+use Rattle.verilog_expr.specs.Places.{placed_exprs, alone_in}
+use Rattle.verilog_expr.specs.Templates.{template_signed, template_level, template_name, IsTemplate}
+use Rattle.verilog_expr.specs.declared.extending.Extending.{Extending}
 use Rattle.verilog_expr.specs.declared.info.Wrap.{Wrap}
 use Rattle.verilog_expr.specs.declared.info.Wrap.TheVariants.{Bare, Unsigned, Paren}
 use Rattle.verilog_expr.specs.declared.form.Form.{Form}
@@ -24,16 +26,25 @@ use Rattle.verilog_expr.specs.declared.scope.Scope.{Scope}
 use Rattle.verilog_expr.specs.declared.value_names.ValueNames.{ValueNames}
 
 -- the expression of a value, down to a depth
-abbrev pub expr_at : Scope → ValueNames → ℕ → Value → Expr
-expr_at s v n x = expr_to (named_of v) (scope_ports s) (scope_ops s) n (scope_ref s x)
+abbrev pub expr_at : Scope → ValueNames → ℕ → Extending → Value → Expr
+expr_at s v n x y = expr_to (named_of v) (scope_ports s) (scope_ops s) n x (scope_ref s y)
 
-abbrev pub exprs_at : Scope → ValueNames → ℕ → List Value → List Expr
-exprs_at s v n xs = map (expr_at s v n) xs
+-- the expressions of all values, each down to a depth
+abbrev pub exprs_to : Scope → ValueNames → ℕ → Extending → Ref → Expr
+exprs_to s v n x r = expr_to (named_of v) (scope_ports s) (scope_ops s) n x r
 
--- the name that an expression is
-abbrev pub sole_name : Expr → Option Name
-sole_name (name n) = Some n
-sole_name _ = None
+-- the expressions of a template's operands in their places, of which the first has this number, among all
+abbrev pub placed_at : Scope → ValueNames → ℕ → Extending → Template → List Value → ℕ → List Value → List Expr
+placed_at s v n x template all i ys = placed_exprs x (exprs_to s v n) template (map (scope_ref s) all) i (map (scope_ref s) ys)
+
+-- those that are written of a form's operands
+abbrev pub shown_at : Scope → ValueNames → ℕ → Extending → Form → List Value → ℕ → List Value → List Expr
+shown_at s v n x f all i ys = placed_at s v n x (Operands f) all i ys
+
+-- the text of an expression where there is one, and else another one
+abbrev pub text_or : Option Expr → List ℕ → List ℕ
+text_or None t = t
+text_or (Some e) t = expr_text e []
 
 -- the bits of the first of values
 abbrev pub head_width : List Port → List Op → List Ref → ℕ
@@ -45,20 +56,6 @@ abbrev pub select_text : Option Name → ℕ → ℕ → List ℕ
 select_text None low w = expr_text no_expr []
 select_text (Some n) low w =
     n ++ (codes "[" ++ cond (w == 1) (decimal low ++ codes "]") (decimal (low + w - 1) ++ (codes ":" ++ (decimal low ++ codes "]"))))
-
--- the name that an operation's expression is: that of its one operand where nothing is written round it
-abbrev pub first_name_of : List Expr → Option Name
-first_name_of [] = None
-first_name_of (e ∷ es) = sole_name e
-
-abbrev pub template_name : Template → List Expr → Option Name
-template_name (Operands Same) es = first_name_of es
-template_name _ es = None
-
--- the name that the only one of expressions is
-abbrev pub name_of_one : List Expr → Option Name
-name_of_one (e ∷ []) = sole_name e
-name_of_one _ = None
 
 -- the operand that a template's expression is, or what is seen of the expression without its operands
 abbrev pub IsOnly : Template → List Value → Option Value → Type 0
@@ -102,13 +99,13 @@ close_text Bare = []
 close_text Unsigned = codes ")"
 close_text Paren = codes ")"
 
--- the expression of a value's own operation is that of a template over values
+-- the expression of a value's own operation is that of a template over values in their places, or the second of them where
+-- they are a zero extension in a context that gives the full width
+pub record IsMade (s : Scope) (r : Ref) (template : Template) (operands : List Value) (named : Ref → Option Name) (ex : Extending → Ref → Expr) (x : Extending) : Type 0 where
+  pub whole : Expr
+  pub own : own_expr named (scope_ports s) (scope_ops s) ex x r ≡ alone_or x (alone_in (scope_ports s) (scope_ops s) ex template (map (scope_ref s) operands)) whole
+  pub is : IsTemplate whole template (placed_exprs x ex template (map (scope_ref s) operands) 0 (map (scope_ref s) operands))
+
+-- the same, whatever names the values have and however their expressions are written
 pub record IsNodeOf (s : Scope) (r : Ref) (template : Template) (operands : List Value) : Type 0 where
-  pub text : (named : Ref → Option Name) (ex : Ref → Expr)
-      → expr_text (own_expr named (scope_ports s) (scope_ops s) ex r) [] ≡ template_text template (map ex (map (scope_ref s) operands))
-  pub signed : (named : Ref → Option Name) (ex : Ref → Expr)
-      → is_signed (own_expr named (scope_ports s) (scope_ops s) ex r) ≡ template_signed template (map ex (map (scope_ref s) operands))
-  pub level_is : (named : Ref → Option Name) (ex : Ref → Expr)
-      → level (own_expr named (scope_ports s) (scope_ops s) ex r) ≡ template_level template (map ex (map (scope_ref s) operands))
-  pub called : (named : Ref → Option Name) (ex : Ref → Expr)
-      → sole_name (own_expr named (scope_ports s) (scope_ops s) ex r) ≡ template_name template (map ex (map (scope_ref s) operands))
+  pub made : (named : Ref → Option Name) (ex : Extending → Ref → Expr) (x : Extending) → IsMade s r template operands named ex x

@@ -1,5 +1,6 @@
 -- The words of this crate's contracts.
 pub mod Building
+pub mod Extensions
 pub mod Expressions
 pub mod Spilling
 pub mod Values
@@ -8,6 +9,7 @@ pub mod Marks
 pub mod PartTables
 pub mod Named
 pub mod Forms
+pub mod Places
 pub mod Templates
 pub mod ExprNode
 pub mod Parentheses

@@ -6,7 +6,6 @@ use Rattle.hw_model.specs.Kinds.{Kind}
 use Rattle.hw_model.specs.Kinds.Kind.{extract, constant, wire}
 use Rattle.hw_model.specs.Design.{Attribute, Entry, Ref, Port, Op, same_name, is_instance, is_register, is_output_op, result_type}
 use Rattle.hw_model.specs.Design.Attribute.{text_value}
-use Rattle.hw_model.specs.Design.Ref.{result}
 use Rattle.hw_model.specs.Flat.{width_of}
 use Rattle.ir_store.specs.Positions.{same_ref}
 use Rattle.verilog_expr.specs.Expressions.{op_at, value_width}

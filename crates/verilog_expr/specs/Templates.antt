@@ -1,15 +1,18 @@
 -- Which form the expression of an operation has.
-use Rattle.std.specs.Prelude.{ℕ, ◌/◌, Bool, true, false, cond, ◌&&◌, ◌==◌, List, [], ◌∷◌}
+use Rattle.std.specs.Prelude.{◌≡◌, ℕ, ◌/◌, Bool, true, false, cond, ◌&&◌, ◌==◌, List, [], ◌∷◌, Option, Some, None}
+use Rattle.hw_model.specs.Types.{Name}
 use Rattle.bits_core.specs.Word.{number, bits_of_ℤ}
 use Rattle.hw_model.specs.Kinds.{Kind, Predicate}
 use Rattle.hw_model.specs.Kinds.Predicate.{eq, ne, slt, sle, sgt, sge, ult, ule, ugt, uge, ceq, cne, weq, wne}
 use Rattle.hw_model.specs.Kinds.Kind.{variadic, sub, division, shift, icmp, parity, extract, concat, replicate, mux, constant, bitcast, wire}
 use Rattle.verilog_model.specs.Tree.{Expr}
+use Rattle.verilog_model.specs.Tree.Expr.{name}
 use Rattle.verilog_model.specs.Grammar.{level, strength}
 use Rattle.verilog_model.specs.Expression.{is_signed}
 use Rattle.verilog_model.specs.Digits.{literal_of}
 use Rattle.verilog_expr.specs.Building.{no_expr, of_one_expr, select, variadic_operator, division_operator, shift_operator, is_signed_division, is_signed_shift}
 use Rattle.verilog_model.specs.Text.{expr_text}
+use Rattle.verilog_expr.specs.Extensions.{is_simple}
 use Rattle.verilog_expr.specs.Forms.{operator_of, operator_in_code, form_text}
 use Rattle.verilog_expr.specs.declared.form.Operator.{Operator}
 use Rattle.verilog_expr.specs.declared.form.Operator.TheVariants as signs
@@ -124,3 +127,50 @@ template_signed _ es = false
 abbrev pub template_level : Template → List Expr → ℕ
 template_level (Operands f) es = form_level f es
 template_level _ es = 11
+
+-- ---- names and literals
+
+-- the name that an expression is
+abbrev pub sole_name : Expr → Option Name
+sole_name (name n) = Some n
+sole_name _ = None
+
+-- the name that an operation's expression is: that of its one operand where nothing is written round it
+abbrev pub first_name_of : List Expr → Option Name
+first_name_of [] = None
+first_name_of (e ∷ es) = sole_name e
+
+abbrev pub template_name : Template → List Expr → Option Name
+template_name (Operands Same) es = first_name_of es
+template_name _ es = None
+
+-- the name that the only one of expressions is
+abbrev pub name_of_one : List Expr → Option Name
+name_of_one (e ∷ []) = sole_name e
+name_of_one _ = None
+
+abbrev pub first_simple : List Expr → Bool
+first_simple [] = false
+first_simple (e ∷ es) = is_simple e
+
+abbrev pub no_name : Option Name → Bool
+no_name None = true
+no_name (Some n) = false
+
+-- whether the expression of a template over operands is a name or an unsigned literal
+abbrev pub template_simple : Template → List Expr → Bool
+template_simple Missing es = true
+template_simple (Number w n) es = true
+template_simple (Select low w) es = no_name (name_of_one es)
+template_simple (Operands Same) es = first_simple es
+template_simple (Operands f) es = false
+
+-- ---- expressions
+
+-- an expression is that of a template over others
+pub record IsTemplate (e : Expr) (template : Template) (es : List Expr) : Type 0 where
+  pub text : expr_text e [] ≡ template_text template es
+  pub signed : is_signed e ≡ template_signed template es
+  pub level_is : level e ≡ template_level template es
+  pub called : sole_name e ≡ template_name template es
+  pub simple : is_simple e ≡ template_simple template es

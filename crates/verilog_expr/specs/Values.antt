@@ -1,5 +1,5 @@
 -- What the expressions of a body are worth.
-use Rattle.std.specs.Prelude.{◌≡◌, ℕ, ℤ, ◌<◌, ◌≤◌, ◌^◌, Bool, true, false, ◌||◌, List, [], ◌∷◌, length, Option, Some, None, is_some, slice_get}
+use Rattle.std.specs.Prelude.{◌≡◌, ℕ, ℤ, suc, max, ◌<◌, ◌≤◌, ◌^◌, Bool, true, false, ◌&&◌, ◌||◌, List, [], ◌∷◌, length, Option, Some, None, is_some, slice_get}
 use Rattle.wiring.specs.Wiring.{In}
 use Rattle.bits_core.specs.Word.{Word, bits, bits_of_ℤ}
 use Rattle.hw_model.specs.Types.{Name, HwType, width}
@@ -11,27 +11,45 @@ use Rattle.hw_model.specs.Flat.{width_of}
 use Rattle.hw_model.specs.Sound.{type_in, OpFits}
 use Rattle.verilog_model.specs.Tree.{Expr}
 use Rattle.verilog_model.specs.Tree.Expr.{name}
-use Rattle.verilog_model.specs.Expression.{length_of, own_value}
+use Rattle.verilog_model.specs.Expression.{length_of, is_signed, value}
+use Rattle.verilog_expr.specs.Extensions.{passes_width, compares_unsigned}
 use Rattle.verilog_expr.specs.Expressions.{value_width, constant_of}
 use Rattle.verilog_expr.specs.Spilling.{is_pure, is_constant_kind, is_narrower, spilled}
 
--- an expression has w bits, and so has its value by its own width and sign
-pub record HasBits (widths : Name → ℕ) (ρ : Name → Word) (w : ℕ) (e : Expr) : Type 0 where
-  pub long : length_of widths e ≡ w
-  pub worth : length (own_value widths ρ e) ≡ w
+-- a length is that of a context, or at most that where the context gives its own
+abbrev pub IsAsLong : Bool → ℕ → ℕ → Type 0
+IsAsLong false w n = n ≡ w
+IsAsLong true w n = n ≤ w
 
--- each expression has the bits of its type
-abbrev pub HaveBits : (Name → ℕ) → (Name → Word) → List (Option HwType) → List Expr → Type 0
-HaveBits widths ρ [] [] = Unit {0}
-HaveBits widths ρ [] (e ∷ es) = ⊥
-HaveBits widths ρ (x ∷ xs) [] = ⊥
-HaveBits widths ρ (x ∷ xs) (e ∷ es) = HasBits widths ρ (width_of x) e × HaveBits widths ρ xs es
+-- the value of an expression in a context of w bits, by its own sign
+abbrev pub value_in : (Name → ℕ) → (Name → Word) → ℕ → Expr → Word
+value_in widths ρ w e = value widths ρ w (is_signed e) e
 
--- an expression is a name, whose word has the name's width
-pub record IsWholeName (widths : Name → ℕ) (ρ : Name → Word) (e : Expr) : Type 0 where
+-- an expression has w bits, or at most as many where the context gives the full width and it is unsigned, and its value in a
+-- context of w bits has as many
+pub record HasBits (widths : Name → ℕ) (ρ : Name → Word) (given : Bool) (w : ℕ) (e : Expr) : Type 0 where
+  pub long : IsAsLong given w (length_of widths e)
+  pub full : is_signed e ≡ true → length_of widths e ≡ w
+  pub worth : length (value_in widths ρ w e) ≡ w
+
+-- each expression has the bits of its type, where the context gives the full width or not
+abbrev pub HaveBits : (Name → ℕ) → (Name → Word) → (ℕ → Bool) → List (Option HwType) → List Expr → Type 0
+HaveBits widths ρ at [] [] = Unit {0}
+HaveBits widths ρ at [] (e ∷ es) = ⊥
+HaveBits widths ρ at (x ∷ xs) [] = ⊥
+HaveBits widths ρ at (x ∷ xs) (e ∷ es) = HasBits widths ρ (at 0) (width_of x) e × HaveBits widths ρ (λ i. at (suc i)) xs es
+
+-- the values of expressions, each in a context of the width of its turn
+abbrev pub values_in : (Name → ℕ) → (Name → Word) → List ℕ → List Expr → List Word
+values_in widths ρ (w ∷ ws) (e ∷ es) = value_in widths ρ w e ∷ values_in widths ρ ws es
+values_in widths ρ _ _ = []
+
+-- an expression is a name of v bits, and so is its word
+pub record IsWholeName (widths : Name → ℕ) (ρ : Name → Word) (v : ℕ) (e : Expr) : Type 0 where
   pub called : Name
   pub same : e ≡ name called
-  pub whole : length (ρ called) ≡ widths called
+  pub long : widths called ≡ v
+  pub whole : length (ρ called) ≡ v
 
 -- ---- kinds
 
@@ -55,23 +73,30 @@ is_variadic _ = false
 abbrev pub is_item_kind : Kind → Bool
 is_item_kind kind = is_some (register_form kind) || (is_some (instance_in kind) || is_output_kind kind)
 
+-- whether the operand of a number may stand in a context that gives the full width, where the operation stands in one or not
+abbrev pub given_to : Bool → Kind → ℕ → Bool
+given_to given kind i = compares_unsigned kind || (passes_width kind i && given)
+
 -- ---- operations
 
 -- what an operation of a kind with a result of type t asks of the types and the expressions of its operands, to be
--- written as an expression
-pub record IsBuildable (widths : Name → ℕ) (ρ : Name → Word) (kind : Kind) (xs : List (Option HwType)) (t : HwType) (es : List Expr) : Type 0 where
+-- written as an expression in a context that gives the full width or not
+pub record IsBuildable (widths : Name → ℕ) (ρ : Name → Word) (given : Bool) (kind : Kind) (xs : List (Option HwType)) (t : HwType) (es : List Expr) : Type 0 where
   pub integers : is_aggregate_kind kind ≡ false
   pub values : is_item_kind kind ≡ false
   pub filled : is_variadic kind ≡ true → 1 ≤ length xs
   pub bits : 1 ≤ width t
   pub narrow : width t < 2 ^ 64
   pub narrow_operands : (x : Option HwType) → In x xs → width_of x < 2 ^ 64
-  pub operands : HaveBits widths ρ xs es
-  pub cut : (x : Option HwType) (e : Expr) → xs ≡ x ∷ [] → es ≡ e ∷ [] → is_narrower kind (width t) (width_of x) ≡ true → IsWholeName widths ρ e
+  pub operands : HaveBits widths ρ (given_to given kind) xs es
+  -- one of two operands that are compared has all bits
+  pub compared : compares_unsigned kind ≡ true → (x y : Option HwType) (a b : Expr) → xs ≡ x ∷ y ∷ [] → es ≡ a ∷ b ∷ []
+      → max (length_of widths a) (length_of widths b) ≡ width_of x
+  pub cut : (x : Option HwType) (e : Expr) → xs ≡ x ∷ [] → es ≡ e ∷ [] → is_narrower kind (width t) (width_of x) ≡ true → IsWholeName widths ρ (width_of x) e
 
 -- what a division by a literal of w bits asks: the second operand always is the literal's number
 abbrev pub IsDividedBy : (Name → ℕ) → (Name → Word) → Kind → ℕ → ℕ → List Expr → Type 0
-IsDividedBy widths ρ kind w divisor es = is_division kind ≡ true → (a b : Expr) → es ≡ a ∷ b ∷ [] → own_value widths ρ b ≡ bits w divisor
+IsDividedBy widths ρ kind w divisor es = is_division kind ≡ true → (a b : Expr) → es ≡ a ∷ b ∷ [] → value_in widths ρ w b ≡ bits w divisor
 
 -- whether an operation gives values from its operands' values: a pure one, or a wire
 abbrev pub gives_values : Op → Bool

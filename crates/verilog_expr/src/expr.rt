@@ -1,16 +1,20 @@
 //! The text of the expression of a value.
-ghost use Rattle.std.specs.Prelude.{◌≡◌, ◌++◌, ◌<◌, [], option_map, OnOk, OnErr};
+ghost use Rattle.std.specs.Prelude.{◌≡◌, ◌++◌, ◌<◌, [], map, option_map, OnOk, OnErr};
 ghost use Rattle.verilog_expr.specs.Building.{no_expr};
 ghost use Rattle.verilog_expr.specs.Expressions.{own_expr, constant_expr};
 ghost use Rattle.verilog_model.specs.Text.{expr_text};
 ghost use Rattle.verilog_expr.specs.Scopes.{scope_ports, scope_ops, scope_ref};
 ghost use Rattle.verilog_expr.specs.Forms.{in_position, form_text};
+ghost use Rattle.verilog_expr.specs.Extensions.{alone_under};
+ghost use Rattle.verilog_expr.specs.Places.{alone_in};
 ghost use Rattle.verilog_expr.specs.Templates.{template_text};
-ghost use Rattle.verilog_expr.specs.ExprNode.{expr_at, exprs_at, select_text, shown_values};
+ghost use Rattle.verilog_expr.specs.ExprNode.{expr_at, exprs_to, placed_at, shown_at, text_or, select_text, shown_values};
 
+use crate::extending::Extending;
 use crate::form::{Form, asks_level, asks_unsigned, push_after, push_before};
-use crate::info::{info_at, only_name, push_close, push_open, wrap_for};
-use crate::node::{constant_at, node_at};
+use crate::info::{alone_at, info_at, only_name, push_close, push_open, wrap_for};
+use crate::node::{ExprNode, constant_at, node_at};
+use crate::places::place_at;
 use crate::scope::Scope;
 use crate::template::Template;
 use crate::value_names::ValueNames;
@@ -67,16 +71,18 @@ fn push_value(
     scope: &Scope<'_>,
     names: &ValueNames,
     value: Value,
+    extending: Extending,
     unsigned: bool,
     level: u8,
     depth: usize,
 ) -> Result<(), AllocError>
     requires { level < 12 }
-    ensures { OnOk result (out.new ≡ out.old ++ expr_text (in_position unsigned level (expr_at scope.now names.now depth value)) []) }
+    ensures { OnOk result (out.new ≡ out.old ++ expr_text (in_position unsigned level (expr_at scope.now names.now depth extending value)) []) }
 {
-    let wrap = wrap_for(unsigned, level, &info_at(scope, names, value, depth));
+    let seen = info_at(scope, names, value, extending, depth);
+    let wrap = wrap_for(unsigned, level, &seen);
     push_open(out, wrap)?;
-    push_bare(out, scope, names, value, depth)?;
+    push_bare(out, scope, names, value, extending, depth)?;
     push_close(out, wrap)?;
     Ok(())
 }
@@ -88,9 +94,10 @@ fn push_bare(
     scope: &Scope<'_>,
     names: &ValueNames,
     value: Value,
+    extending: Extending,
     depth: usize,
 ) -> Result<(), AllocError>
-    ensures { OnOk result (out.new ≡ out.old ++ expr_text (expr_at scope.now names.now depth value) []) }
+    ensures { OnOk result (out.new ≡ out.old ++ expr_text (expr_at scope.now names.now depth extending value) []) }
 {
     if depth == 0 {
         push_missing(out)?;
@@ -101,7 +108,36 @@ fn push_bare(
         return Ok(());
     }
     let node = node_at(scope, value);
-    push_template(out, scope, names, node.template, node.operands, depth - 1)?;
+    push_node(out, scope, names, &node, extending, depth - 1)?;
+    Ok(())
+}
+
+// Adds the expression of an operation over its operands, each down to a depth: that of a zero extension is its second
+// operand where the context gives the full width.
+#[cycle(expr)]
+fn push_node(
+    out: &mut Text,
+    scope: &Scope<'_>,
+    names: &ValueNames,
+    node: &ExprNode<'_>,
+    extending: Extending,
+    depth: usize,
+) -> Result<(), AllocError>
+    ensures { OnOk result (out.new ≡ out.old ++ text_or (alone_under extending (alone_in (scope_ports scope.now) (scope_ops scope.now) (exprs_to scope.now names.now depth) node.now.template (map (scope_ref scope.now) node.now.operands.now))) (template_text node.now.template (placed_at scope.now names.now depth extending node.now.template node.now.operands.now 0 node.now.operands.now))) }
+{
+    if let Some(operand) = alone_at(scope, names, node, extending, depth) {
+        push_bare(out, scope, names, operand, Extending::Off, depth)?;
+        return Ok(());
+    }
+    push_template(
+        out,
+        scope,
+        names,
+        node.template,
+        node.operands,
+        extending,
+        depth,
+    )?;
     Ok(())
 }
 
@@ -113,15 +149,17 @@ fn push_template(
     names: &ValueNames,
     template: Template,
     operands: &[Value],
+    extending: Extending,
     depth: usize,
 ) -> Result<(), AllocError>
-    ensures { OnOk result (out.new ≡ out.old ++ template_text template (exprs_at scope.now names.now depth operands.now)) }
+    ensures { OnOk result (out.new ≡ out.old ++ template_text template (placed_at scope.now names.now depth extending template operands.now 0 operands.now)) }
 {
     match template {
         Template::Missing => push_missing(out)?,
         Template::Number(width, number) => push_literal(out, width, false, number)?,
         Template::Select(low, width) => {
-            push_select(out, only_name(scope, names, operands, depth), low, width)?;
+            let name = only_name(scope, names, operands, extending, depth);
+            push_select(out, name, low, width)?;
         }
         Template::Operands(form) => {
             push_form(
@@ -130,6 +168,7 @@ fn push_template(
                 names,
                 form,
                 operands_in_text(form, operands),
+                extending,
                 depth,
             )?;
         }
@@ -145,9 +184,10 @@ fn push_form(
     names: &ValueNames,
     form: Form,
     operands: &[Value],
+    extending: Extending,
     depth: usize,
 ) -> Result<(), AllocError>
-    ensures { OnOk result (out.new ≡ out.old ++ form_text form 0 (exprs_at scope.now names.now depth operands.now)) }
+    ensures { OnOk result (out.new ≡ out.old ++ form_text form 0 (shown_at scope.now names.now depth extending form operands.now 0 operands.now)) }
 {
     for (i, operand) in operands.iter().enumerate() {
         push_before(out, form, i)?;
@@ -156,6 +196,7 @@ fn push_form(
             scope,
             names,
             *operand,
+            place_at(scope, names, form, operands, i, extending, depth),
             asks_unsigned(form, i),
             asks_level(form, i),
             depth,
@@ -181,33 +222,36 @@ impl Expr {
     ghost use Rattle.verilog_expr.specs.Named.{named_of};
 
     /// The expression that stands for a value where it is used: its name where it has one, or else that of its operation
-    /// (IEEE 1364-2005, 5.1). No value may have more than 128 bits. The error is out of memory.
+    /// (IEEE 1364-2005, 5.1), with zero extensions as `extending` says. No value may have more than 128 bits. The error is out
+    /// of memory.
     pub fn build(
         alloc: Global,
         scope: &Scope<'_>,
         names: &ValueNames,
         value: Value,
+        extending: Extending,
     ) -> Result<Expr, AllocError>
-        ensures { IfOk result (λ e. e.text ≡ expr_text (expr_to (named_of names.now) (scope_ports scope.now) (scope_ops scope.now) (suc height_limit) (scope_ref scope.now value)) []) }
+        ensures { IfOk result (λ e. e.text ≡ expr_text (expr_to (named_of names.now) (scope_ports scope.now) (scope_ops scope.now) (suc height_limit) extending (scope_ref scope.now value)) []) }
     {
         let mut text = Text::new(alloc);
-        push_bare(&mut text, scope, names, value, DEPTH)?;
+        push_bare(&mut text, scope, names, value, extending, DEPTH)?;
         Ok(Expr { text })
     }
 
     /// The expression of a value's own operation, which is assigned to its name where it has one; of a wire that of its
-    /// operand. No value may have more than 128 bits. The error is out of memory.
+    /// operand; with zero extensions as `extending` says. No value may have more than 128 bits. The error is out of memory.
     pub fn define(
         alloc: Global,
         scope: &Scope<'_>,
         names: &ValueNames,
         value: Value,
+        extending: Extending,
     ) -> Result<Expr, AllocError>
-        ensures { IfOk result (λ e. e.text ≡ expr_text (own_expr (named_of names.now) (scope_ports scope.now) (scope_ops scope.now) (λ r. expr_to (named_of names.now) (scope_ports scope.now) (scope_ops scope.now) (suc height_limit) r) (scope_ref scope.now value)) []) }
+        ensures { IfOk result (λ e. e.text ≡ expr_text (own_expr (named_of names.now) (scope_ports scope.now) (scope_ops scope.now) (λ x r. expr_to (named_of names.now) (scope_ports scope.now) (scope_ops scope.now) (suc height_limit) x r) extending (scope_ref scope.now value)) []) }
     {
         let mut text = Text::new(alloc);
         let node = node_at(scope, value);
-        push_template(&mut text, scope, names, node.template, node.operands, DEPTH)?;
+        push_node(&mut text, scope, names, &node, extending, DEPTH)?;
         Ok(Expr { text })
     }
 

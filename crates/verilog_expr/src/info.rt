@@ -1,12 +1,17 @@
 //! What the expression of a value is seen to be before it is written, and how it goes into a position.
-ghost use Rattle.std.specs.Prelude.{◌≡◌, ◌++◌, [], option_map, false, None, OnOk};
+ghost use Rattle.std.specs.Prelude.{◌≡◌, ◌++◌, [], map, option_map, false, None, OnOk};
 ghost use Rattle.verilog_model.specs.Grammar.{level};
 ghost use Rattle.verilog_model.specs.Expression.{is_signed};
-ghost use Rattle.verilog_expr.specs.Templates.{template_signed, template_level, form_signed, form_level};
-ghost use Rattle.verilog_expr.specs.ExprNode.{expr_at, exprs_at, sole_name, IsOnly, name_of_one, wrap_for, open_text, close_text};
+ghost use Rattle.verilog_expr.specs.Scopes.{scope_ports, scope_ops, scope_ref};
+ghost use Rattle.verilog_expr.specs.Extensions.{is_simple, alone_under};
+ghost use Rattle.verilog_expr.specs.Places.{is_braces, alone_in};
+ghost use Rattle.verilog_expr.specs.Templates.{template_signed, template_level, form_signed, form_level, sole_name, name_of_one, no_name, first_simple, template_simple};
+ghost use Rattle.verilog_expr.specs.ExprNode.{expr_at, exprs_to, IsOnly, wrap_for, open_text, close_text};
+ghost use Rattle.verilog_expr.specs.declared.extending.Extending.TheVariants.{Off};
 
+use crate::extending::Extending;
 use crate::form::{Form, strength};
-use crate::node::{ExprNode, node_at};
+use crate::node::{ExprNode, is_zero, node_at};
 use crate::scope::Scope;
 use crate::template::Template;
 use crate::value_names::ValueNames;
@@ -64,15 +69,17 @@ fn form_level(form: Form) -> u8
 }
 
 /// What the expression of a value is seen to be.
+#[cycle(info)]
 pub(crate) fn info_at<'n>(
     scope: &Scope<'_>,
     names: &'n ValueNames,
     value: Value,
+    extending: Extending,
     depth: usize,
 ) -> SubexprInfo<'n>
-    ensures name { option_map (λ n. n.now) result.name ≡ sole_name (expr_at scope.now names.now depth value) }
-    ensures signed { result.is_signed ≡ is_signed (expr_at scope.now names.now depth value) }
-    ensures level { result.level ≡ level (expr_at scope.now names.now depth value) }
+    ensures name { option_map (λ n. n.now) result.name ≡ sole_name (expr_at scope.now names.now depth extending value) }
+    ensures signed { result.is_signed ≡ is_signed (expr_at scope.now names.now depth extending value) }
+    ensures level { result.level ≡ level (expr_at scope.now names.now depth extending value) }
 {
     if depth == 0 {
         return plain(None);
@@ -81,10 +88,138 @@ pub(crate) fn info_at<'n>(
         return plain(Some(name));
     }
     let node = node_at(scope, value);
+    if let Some(operand) = alone_at(scope, names, &node, extending, depth - 1) {
+        return info_at(scope, names, operand, Extending::Off, depth - 1);
+    }
     if let Some(operand) = only_operand(&node) {
-        return info_at(scope, names, operand, depth - 1);
+        return info_at(scope, names, operand, extending, depth - 1);
     }
     node_info(&node)
+}
+
+/// The operand that an expression is alone, written with all zeros: of a zero extension the second one, where the context
+/// gives the full width.
+#[cycle(info)]
+pub(crate) fn alone_at(
+    scope: &Scope<'_>,
+    names: &ValueNames,
+    node: &ExprNode<'_>,
+    extending: Extending,
+    depth: usize,
+) -> Option<Value>
+    ensures { option_map (expr_at scope.now names.now depth Off) result ≡ alone_under extending (alone_in (scope_ports scope.now) (scope_ops scope.now) (exprs_to scope.now names.now depth) node.now.template (map (scope_ref scope.now) node.now.operands.now)) }
+{
+    match extending {
+        Extending::Off | Extending::Own => None,
+        Extending::Given => extended_at(scope, names, node, depth),
+    }
+}
+
+// The second operand of a zero extension.
+#[cycle(info)]
+fn extended_at(
+    scope: &Scope<'_>,
+    names: &ValueNames,
+    node: &ExprNode<'_>,
+    depth: usize,
+) -> Option<Value>
+    ensures { option_map (expr_at scope.now names.now depth Off) result ≡ alone_in (scope_ports scope.now) (scope_ops scope.now) (exprs_to scope.now names.now depth) node.now.template (map (scope_ref scope.now) node.now.operands.now) }
+{
+    match node.operands {
+        [zero, operand] => {
+            if is_braces(node.template)
+                && (is_zero(scope, *zero) && is_simple(scope, names, *operand, depth))
+            {
+                Some(*operand)
+            } else {
+                None
+            }
+        }
+        _ => None,
+    }
+}
+
+/// Whether the expression of a value, written with all zeros, is a name or an unsigned literal.
+#[cycle(info)]
+pub(crate) fn is_simple(scope: &Scope<'_>, names: &ValueNames, value: Value, depth: usize) -> bool
+    ensures { result ≡ is_simple (expr_at scope.now names.now depth Off value) }
+{
+    if depth == 0 {
+        return true;
+    }
+    if let Some(_name) = names.name(scope, value) {
+        return true;
+    }
+    let node = node_at(scope, value);
+    is_simple_template(scope, names, node.template, node.operands, depth - 1)
+}
+
+// Whether the expression of a template over operands, written with all zeros, is a name or an unsigned literal.
+#[cycle(info)]
+fn is_simple_template(
+    scope: &Scope<'_>,
+    names: &ValueNames,
+    template: Template,
+    operands: &[Value],
+    depth: usize,
+) -> bool
+    ensures { result ≡ template_simple template (map (expr_at scope.now names.now depth Off) operands.now) }
+{
+    match template {
+        Template::Missing | Template::Number(_, _) => true,
+        Template::Select(_, _) => has_no_name(scope, names, operands, depth),
+        Template::Operands(Form::Same) => is_simple_first(scope, names, operands, depth),
+        Template::Operands(_) => false,
+    }
+}
+
+// Whether the first of operands is a name or an unsigned literal.
+#[cycle(info)]
+fn is_simple_first(scope: &Scope<'_>, names: &ValueNames, operands: &[Value], depth: usize) -> bool
+    ensures { result ≡ first_simple (map (expr_at scope.now names.now depth Off) operands.now) }
+{
+    match operands {
+        [operand, ..] => is_simple(scope, names, *operand, depth),
+        [] => false,
+    }
+}
+
+// Whether operands are other than one name.
+#[cycle(info)]
+fn has_no_name(scope: &Scope<'_>, names: &ValueNames, operands: &[Value], depth: usize) -> bool
+    ensures { result ≡ no_name (name_of_one (map (expr_at scope.now names.now depth Off) operands.now)) }
+{
+    match only_name(scope, names, operands, Extending::Off, depth) {
+        Some(_name) => false,
+        None => true,
+    }
+}
+
+/// The name that the only one of operands is, down to a depth.
+#[cycle(info)]
+pub(crate) fn only_name<'n>(
+    scope: &Scope<'_>,
+    names: &'n ValueNames,
+    operands: &[Value],
+    extending: Extending,
+    depth: usize,
+) -> Option<&'n [u8]>
+    ensures { option_map (λ n. n.now) result ≡ name_of_one (map (expr_at scope.now names.now depth extending) operands.now) }
+{
+    match operands {
+        [operand] => info_at(scope, names, *operand, extending, depth).name,
+        _ => None,
+    }
+}
+
+// Whether the operands of a template stand in braces.
+fn is_braces(template: Template) -> bool
+    ensures { result ≡ is_braces template }
+{
+    match template {
+        Template::Operands(Form::Braces) => true,
+        _ => false,
+    }
 }
 
 // The operand that an expression is, where nothing is written round it.
@@ -123,21 +258,6 @@ fn plain<'n>(name: Option<&'n [u8]>) -> SubexprInfo<'n>
         name,
         is_signed: false,
         level: 11,
-    }
-}
-
-/// The name that the only one of operands is, down to a depth.
-pub(crate) fn only_name<'n>(
-    scope: &Scope<'_>,
-    names: &'n ValueNames,
-    operands: &[Value],
-    depth: usize,
-) -> Option<&'n [u8]>
-    ensures { option_map (λ n. n.now) result ≡ name_of_one (exprs_at scope.now names.now depth operands.now) }
-{
-    match operands {
-        [operand] => info_at(scope, names, *operand, depth).name,
-        _ => None,
     }
 }
 

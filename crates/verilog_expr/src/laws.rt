@@ -1,6 +1,6 @@
 //! The laws of expressions, each a clause of a function that does nothing.
 
-ghost use Rattle.std.specs.Prelude.{◌≡◌, ℕ, suc, ◌<◌, ◌≤◌, ◌^◌, ◌⊎◌, ◌↔◌, true, false, List, [], length, map, Option, Some, None, slice_get, decimal};
+ghost use Rattle.std.specs.Prelude.{◌≡◌, ℕ, suc, ◌<◌, ◌≤◌, ◌^◌, ◌⊎◌, ◌↔◌, Bool, true, false, List, [], length, map, Option, Some, None, slice_get, decimal};
 ghost use Rattle.wiring.specs.Wiring.{In, greatest, IsAcyclic};
 ghost use Rattle.bits_core.specs.Word.{Word};
 ghost use Rattle.hw_model.specs.Types.{Name, HwType, width};
@@ -11,7 +11,8 @@ ghost use Rattle.hw_model.specs.Value.{op_value};
 ghost use Rattle.hw_model.specs.Flat.{width_of};
 ghost use Rattle.hw_model.specs.Sound.{type_in, Fits};
 ghost use Rattle.verilog_model.specs.Numerals.{decimal_number, hex_number, is_decimal, is_hex};
-ghost use Rattle.verilog_model.specs.Tree.{Expr};
+ghost use Rattle.verilog_model.specs.Tree.{Expr, Exprs};
+ghost use Rattle.verilog_model.specs.Tree.Expr.{joined};
 ghost use Rattle.verilog_model.specs.Grammar.{fits};
 ghost use Rattle.verilog_model.specs.Expression.{is_signed, own_value, assigned};
 ghost use Rattle.verilog_model.specs.Hierarchy.{range_width};
@@ -22,11 +23,14 @@ ghost use Rattle.verilog_expr.specs.Templates.{template_for};
 ghost use Rattle.verilog_expr.specs.declared.form.Form.{Form};
 ghost use Rattle.verilog_expr.specs.declared.form.Form.TheVariants.{Same};
 ghost use Rattle.verilog_expr.specs.declared.template.Template.TheVariants.{Operands};
-ghost use Rattle.verilog_expr.specs.Expressions.{op_at, value_width, own_expr, AreExprs, expr_to};
+ghost use Rattle.verilog_expr.specs.declared.extending.Extending.{Extending};
+ghost use Rattle.verilog_expr.specs.declared.extending.Extending.TheVariants.{Off, Given};
+ghost use Rattle.verilog_expr.specs.Extensions.{is_given, is_simple};
+ghost use Rattle.verilog_expr.specs.Expressions.{op_at, value_width, own_expr, AreExprs, expr_to, IsZeroExtension};
 ghost use Rattle.verilog_expr.specs.Spilling.{is_pure, is_constant_kind, AreHeights, height, height_limit, spilled, inner_needs};
 ghost use Rattle.verilog_expr.specs.Parentheses.{tight, opened};
 ghost use Rattle.verilog_expr.specs.Signs.{is_signed_kind, is_unsigned_position, keeps_signs};
-ghost use Rattle.verilog_expr.specs.Values.{HasBits, IsBuildable, IsDividedBy, gives_values, is_division, IsWritable, AreNamed, HoldConstants};
+ghost use Rattle.verilog_expr.specs.Values.{value_in, values_in, HasBits, IsBuildable, IsDividedBy, gives_values, is_division, IsWritable, AreNamed, HoldConstants};
 ghost use Rattle.verilog_expr.specs.WireRules.{IsComputed, IsCut, WantsWire, heights_without_wire};
 
 /// Does nothing. Its clauses say that numerals say their numbers again: a decimal one of a number below 2 ^ 64, a
@@ -40,42 +44,76 @@ pub fn numerals_say_numbers()
 {}
 
 /// Does nothing. Its clauses say what an assignment to a name gives (IEEE 1364-2005, 5.4): of an expression of the name's
-/// width its own value, and of any expression as many bits as the name has.
+/// width its own value, of a shorter one that the context may widen its value there, and of any expression as many bits as
+/// the name has.
 pub fn assigned_values()
-    ensures same { (widths : Name → ℕ) (ρ : Name → Word) (w : ℕ) (e : Expr) → HasBits widths ρ w e → assigned widths ρ w e ≡ own_value widths ρ e }
+    ensures same { (widths : Name → ℕ) (ρ : Name → Word) (w : ℕ) (e : Expr) → HasBits widths ρ false w e → assigned widths ρ w e ≡ own_value widths ρ e }
+    ensures within { (widths : Name → ℕ) (ρ : Name → Word) (given : Bool) (w : ℕ) (e : Expr) → HasBits widths ρ given w e
+        → assigned widths ρ w e ≡ value_in widths ρ w e }
     ensures long { (widths : Name → ℕ) (ρ : Name → Word) (w : ℕ) (e : Expr) → length (assigned widths ρ w e) ≡ w }
 {}
 
-/// Does nothing. Its clauses say that the expression of an operation has the width of its result and the operation's
-/// value, whatever the expressions of its operands are: they count by their own width and value alone.
+/// Does nothing. Its clauses say that the expression of an operation has in a context of the width of its result the
+/// operation's value, whatever the expressions of its operands are: each counts by its own sign and by its value in a
+/// context of its type's width. Where that context gives an operand its width, the operand may be shorter.
 pub fn built_expressions()
-    ensures bits { (widths : Name → ℕ) (ρ : Name → Word) (kind : Kind) (ts : List HwType) (xs : List (Option HwType)) (t : HwType) (k divisor : ℕ)
-        (es : List Expr) → Fits kind ts xs t k → IsBuildable widths ρ kind xs t es
-        → HasBits widths ρ (width t) (kind_expr kind (width t) (map width_of xs) divisor es) }
-    ensures worth { (widths : Name → ℕ) (ρ : Name → Word) (kind : Kind) (ts : List HwType) (xs : List (Option HwType)) (t : HwType) (k divisor : ℕ)
-        (es : List Expr) → Fits kind ts xs t k → IsBuildable widths ρ kind xs t es → IsDividedBy widths ρ kind (width t) divisor es
-        → own_value widths ρ (kind_expr kind (width t) (map width_of xs) divisor es) ≡ op_value kind ts t k (map (own_value widths ρ) es) }
+    ensures bits { (widths : Name → ℕ) (ρ : Name → Word) (given : Bool) (kind : Kind) (ts : List HwType) (xs : List (Option HwType)) (t : HwType) (k divisor : ℕ)
+        (es : List Expr) → Fits kind ts xs t k → IsBuildable widths ρ given kind xs t es
+        → HasBits widths ρ given (width t) (kind_expr kind (width t) (map width_of xs) divisor es) }
+    ensures worth { (widths : Name → ℕ) (ρ : Name → Word) (given : Bool) (kind : Kind) (ts : List HwType) (xs : List (Option HwType)) (t : HwType) (k divisor : ℕ)
+        (es : List Expr) → Fits kind ts xs t k → IsBuildable widths ρ given kind xs t es → IsDividedBy widths ρ kind (width t) divisor es
+        → value_in widths ρ (width t) (kind_expr kind (width t) (map width_of xs) divisor es) ≡ op_value kind ts t k (values_in widths ρ (map width_of xs) es) }
 {}
 
-/// Does nothing. Its clauses say of the expressions of a body: each has the width of its value (`bits`); the expression
-/// of an operation has the width of the result (`own_bits`) and the value that the operation gives from those of its
-/// operands' expressions (`worth`), where a division asks that the names of constants hold them; and what has neither
-/// type nor name has no bits (`absent`).
+/// Does nothing. Its clauses say of the expressions of a body, however zero extensions are written: each has the width of its
+/// value, and where the context gives that at most as many bits (`bits`); so has the expression of an operation
+/// (`own_bits`). Written with all zeros it has the value that the operation gives from those of its operands' expressions
+/// (`worth`), where a division asks that the names of constants hold them; and what has neither type nor name has no bits
+/// (`absent`).
 pub fn expressions_of_a_body()
-    ensures bits { (named : Ref → Option Name) (ports : List Port) (os : List Op) (ex : Ref → Expr) (widths : Name → ℕ) (ρ : Name → Word)
+    ensures bits { (named : Ref → Option Name) (ports : List Port) (os : List Op) (ex : Extending → Ref → Expr) (widths : Name → ℕ) (ρ : Name → Word)
         → IsWritable named ports os → IsAcyclic (inner_needs os) → AreExprs named ports os ex → AreNamed named ports os widths ρ
-        → (r : Ref) → HasBits widths ρ (value_width ports os r) (ex r) }
-    ensures own_bits { (named : Ref → Option Name) (ports : List Port) (os : List Op) (ex : Ref → Expr) (widths : Name → ℕ) (ρ : Name → Word)
+        → (x : Extending) (r : Ref) → HasBits widths ρ (is_given x) (value_width ports os r) (ex x r) }
+    ensures own_bits { (named : Ref → Option Name) (ports : List Port) (os : List Op) (ex : Extending → Ref → Expr) (widths : Name → ℕ) (ρ : Name → Word)
         → IsWritable named ports os → IsAcyclic (inner_needs os) → AreExprs named ports os ex → AreNamed named ports os widths ρ
-        → (i k : ℕ) (o : Op) (t : HwType) → slice_get os i ≡ Some o → gives_values o ≡ true → result_type o k ≡ Some t
-        → HasBits widths ρ (width t) (own_expr named ports os ex (result_of i k)) }
-    ensures worth { (named : Ref → Option Name) (ports : List Port) (os : List Op) (ex : Ref → Expr) (widths : Name → ℕ) (ρ : Name → Word)
+        → (x : Extending) (i k : ℕ) (o : Op) (t : HwType) → slice_get os i ≡ Some o → gives_values o ≡ true → result_type o k ≡ Some t
+        → HasBits widths ρ (is_given x) (width t) (own_expr named ports os ex x (result_of i k)) }
+    ensures worth { (named : Ref → Option Name) (ports : List Port) (os : List Op) (ex : Extending → Ref → Expr) (widths : Name → ℕ) (ρ : Name → Word)
         → IsWritable named ports os → IsAcyclic (inner_needs os) → AreExprs named ports os ex → AreNamed named ports os widths ρ
         → (i k : ℕ) (o : Op) (t : HwType) → slice_get os i ≡ Some o → gives_values o ≡ true → result_type o k ≡ Some t
         → (is_division o.kind ≡ true → HoldConstants named os ρ)
-        → own_value widths ρ (own_expr named ports os ex (result_of i k)) ≡ op_value o.kind o.types t k (map (λ (x : Ref). own_value widths ρ (ex x)) o.operands) }
-    ensures absent { (named : Ref → Option Name) (ports : List Port) (os : List Op) (ex : Ref → Expr) (widths : Name → ℕ) (ρ : Name → Word)
-        → AreExprs named ports os ex → (r : Ref) → type_in ports os r ≡ None → named r ≡ None → own_value widths ρ (ex r) ≡ [] }
+        → own_value widths ρ (own_expr named ports os ex Off (result_of i k)) ≡ op_value o.kind o.types t k (map (λ (x : Ref). own_value widths ρ (ex Off x)) o.operands) }
+    ensures absent { (named : Ref → Option Name) (ports : List Port) (os : List Op) (ex : Extending → Ref → Expr) (widths : Name → ℕ) (ρ : Name → Word)
+        → AreExprs named ports os ex → (r : Ref) → type_in ports os r ≡ None → named r ≡ None → own_value widths ρ (ex Off r) ≡ [] }
+{}
+
+/// Does nothing. Its clauses say that zeros that are left out change no value, where the names of constants hold them: what is
+/// assigned to a name of a value's width is the value with all zeros written (`assigned`), and so is what is assigned to
+/// an operation's own name (`own_assigned`), and what stands by itself (`asked`).
+pub fn zeros_change_nothing()
+    ensures assigned { (named : Ref → Option Name) (ports : List Port) (os : List Op) (ex : Extending → Ref → Expr) (widths : Name → ℕ) (ρ : Name → Word)
+        → IsWritable named ports os → IsAcyclic (inner_needs os) → AreExprs named ports os ex → AreNamed named ports os widths ρ
+        → HoldConstants named os ρ → (x : Extending) (r : Ref) → assigned widths ρ (value_width ports os r) (ex x r) ≡ own_value widths ρ (ex Off r) }
+    ensures own_assigned { (named : Ref → Option Name) (ports : List Port) (os : List Op) (ex : Extending → Ref → Expr) (widths : Name → ℕ) (ρ : Name → Word)
+        → IsWritable named ports os → IsAcyclic (inner_needs os) → AreExprs named ports os ex → AreNamed named ports os widths ρ
+        → (x : Extending) (i k : ℕ) (o : Op) (t : HwType) → slice_get os i ≡ Some o → gives_values o ≡ true → result_type o k ≡ Some t
+        → (is_constant_kind o.kind ≡ false → HoldConstants named os ρ)
+        → assigned widths ρ (width t) (own_expr named ports os ex x (result_of i k)) ≡ own_value widths ρ (own_expr named ports os ex Off (result_of i k)) }
+    ensures asked { (named : Ref → Option Name) (ports : List Port) (os : List Op) (ex : Extending → Ref → Expr) (widths : Name → ℕ) (ρ : Name → Word)
+        → IsWritable named ports os → IsAcyclic (inner_needs os) → AreExprs named ports os ex → AreNamed named ports os widths ρ
+        → HoldConstants named os ρ → (x : Extending) (r : Ref) → is_given x ≡ false → own_value widths ρ (ex x r) ≡ own_value widths ρ (ex Off r) }
+{}
+
+/// Does nothing. Its clauses say how a zero extension is written that has no name: as its operand, a name or a literal, where
+/// the context gives the full width (`bare`), and in braces everywhere else (`braced`). What is a name or a literal with all
+/// zeros written is written in one way (`one_way`).
+pub fn zero_extensions_are_written()
+    ensures bare { (named : Ref → Option Name) (ports : List Port) (os : List Op) (ex : Extending → Ref → Expr) → AreExprs named ports os ex
+        → (r b : Ref) → named r ≡ None → IsZeroExtension ports os ex r b → ex Given r ≡ ex Off b }
+    ensures braced { (named : Ref → Option Name) (ports : List Port) (os : List Op) (ex : Extending → Ref → Expr) → AreExprs named ports os ex
+        → (r b : Ref) → named r ≡ None → IsZeroExtension ports os ex r b → (x : Extending) → is_given x ≡ false → (es : Exprs) × (ex x r ≡ joined es) }
+    ensures one_way { (named : Ref → Option Name) (ports : List Port) (os : List Op) (ex : Extending → Ref → Expr) → IsWritable named ports os
+        → IsAcyclic (inner_needs os) → AreExprs named ports os ex → (r : Ref) → is_simple (ex Off r) ≡ true → (x : Extending) → ex x r ≡ ex Off r }
 {}
 
 /// Does nothing. Its clause says that the heights of a body's values are each from those of its operation's operands,
@@ -88,7 +126,7 @@ pub fn heights_hold()
 /// the body: each is made from those of its operation's operands.
 pub fn expressions_hold()
     ensures { (named : Ref → Option Name) (ports : List Port) (os : List Op) → IsWritable named ports os → IsAcyclic (inner_needs os)
-        → AreExprs named ports os (λ (r : Ref). expr_to named ports os (suc height_limit) r) }
+        → AreExprs named ports os (λ (x : Extending) (r : Ref). expr_to named ports os (suc height_limit) x r) }
 {}
 
 /// Does nothing. Its clauses say that expressions keep the precedence and association of the operators (IEEE 1364-2005,
@@ -96,11 +134,11 @@ pub fn expressions_hold()
 pub fn expressions_fit()
     ensures kind_expr { (kind : Kind) (w : ℕ) (ws : List ℕ) (divisor : ℕ) (es : List Expr) → ((e : Expr) → In e es → fits e ≡ true)
         → fits (kind_expr kind w ws divisor es) ≡ true }
-    ensures body { (named : Ref → Option Name) (ports : List Port) (os : List Op) (ex : Ref → Expr) → IsWritable named ports os
-        → IsAcyclic (inner_needs os) → AreExprs named ports os ex → (r : Ref) → fits (ex r) ≡ true }
-    ensures depth { (named : Ref → Option Name) (ports : List Port) (os : List Op) (n : ℕ) (r : Ref) → fits (expr_to named ports os n r) ≡ true }
-    ensures own { (named : Ref → Option Name) (ports : List Port) (os : List Op) (ex : Ref → Expr) → ((r : Ref) → fits (ex r) ≡ true)
-        → (r : Ref) → fits (own_expr named ports os ex r) ≡ true }
+    ensures body { (named : Ref → Option Name) (ports : List Port) (os : List Op) (ex : Extending → Ref → Expr) → IsWritable named ports os
+        → IsAcyclic (inner_needs os) → AreExprs named ports os ex → (x : Extending) (r : Ref) → fits (ex x r) ≡ true }
+    ensures depth { (named : Ref → Option Name) (ports : List Port) (os : List Op) (n : ℕ) (x : Extending) (r : Ref) → fits (expr_to named ports os n x r) ≡ true }
+    ensures own { (named : Ref → Option Name) (ports : List Port) (os : List Op) (ex : Extending → Ref → Expr) → ((x : Extending) (r : Ref) → fits (ex x r) ≡ true)
+        → (x : Extending) (r : Ref) → fits (own_expr named ports os ex x r) ≡ true }
 {}
 
 /// Does nothing. Its clauses say that no parentheses of an expression can be left out (IEEE 1364-2005, 5.1.2): where any
@@ -111,11 +149,11 @@ pub fn parentheses_are_needed()
     ensures left_out { (e x : Expr) → tight e ≡ true → In x (opened e) → fits x ≡ false }
     ensures kind_expr { (kind : Kind) (w : ℕ) (ws : List ℕ) (divisor : ℕ) (es : List Expr) → ((e : Expr) → In e es → tight e ≡ true)
         → tight (kind_expr kind w ws divisor es) ≡ true }
-    ensures body { (named : Ref → Option Name) (ports : List Port) (os : List Op) (ex : Ref → Expr) → IsWritable named ports os
-        → IsAcyclic (inner_needs os) → AreExprs named ports os ex → (r : Ref) → tight (ex r) ≡ true }
-    ensures depth { (named : Ref → Option Name) (ports : List Port) (os : List Op) (n : ℕ) (r : Ref) → tight (expr_to named ports os n r) ≡ true }
-    ensures own { (named : Ref → Option Name) (ports : List Port) (os : List Op) (ex : Ref → Expr) → ((r : Ref) → tight (ex r) ≡ true)
-        → (r : Ref) → tight (own_expr named ports os ex r) ≡ true }
+    ensures body { (named : Ref → Option Name) (ports : List Port) (os : List Op) (ex : Extending → Ref → Expr) → IsWritable named ports os
+        → IsAcyclic (inner_needs os) → AreExprs named ports os ex → (x : Extending) (r : Ref) → tight (ex x r) ≡ true }
+    ensures depth { (named : Ref → Option Name) (ports : List Port) (os : List Op) (n : ℕ) (x : Extending) (r : Ref) → tight (expr_to named ports os n x r) ≡ true }
+    ensures own { (named : Ref → Option Name) (ports : List Port) (os : List Op) (ex : Extending → Ref → Expr) → ((x : Extending) (r : Ref) → tight (ex x r) ≡ true)
+        → (x : Extending) (r : Ref) → tight (own_expr named ports os ex x r) ≡ true }
 {}
 
 /// Does nothing. Its clauses say that each expression stands by its own sign (IEEE 1364-2005, 5.5). An unsigned one is asked
@@ -134,11 +172,11 @@ pub fn signs_are_kept()
         → (is_signed_kind kind ≡ true) ⊎ In (kind_expr kind w ws divisor es) es }
     ensures kind_expr { (kind : Kind) (w : ℕ) (ws : List ℕ) (divisor : ℕ) (es : List Expr) → ((e : Expr) → In e es → keeps_signs e ≡ true)
         → keeps_signs (kind_expr kind w ws divisor es) ≡ true }
-    ensures body { (named : Ref → Option Name) (ports : List Port) (os : List Op) (ex : Ref → Expr) → IsWritable named ports os
-        → IsAcyclic (inner_needs os) → AreExprs named ports os ex → (r : Ref) → keeps_signs (ex r) ≡ true }
-    ensures depth { (named : Ref → Option Name) (ports : List Port) (os : List Op) (n : ℕ) (r : Ref) → keeps_signs (expr_to named ports os n r) ≡ true }
-    ensures own { (named : Ref → Option Name) (ports : List Port) (os : List Op) (ex : Ref → Expr) → ((r : Ref) → keeps_signs (ex r) ≡ true)
-        → (r : Ref) → keeps_signs (own_expr named ports os ex r) ≡ true }
+    ensures body { (named : Ref → Option Name) (ports : List Port) (os : List Op) (ex : Extending → Ref → Expr) → IsWritable named ports os
+        → IsAcyclic (inner_needs os) → AreExprs named ports os ex → (x : Extending) (r : Ref) → keeps_signs (ex x r) ≡ true }
+    ensures depth { (named : Ref → Option Name) (ports : List Port) (os : List Op) (n : ℕ) (x : Extending) (r : Ref) → keeps_signs (expr_to named ports os n x r) ≡ true }
+    ensures own { (named : Ref → Option Name) (ports : List Port) (os : List Op) (ex : Extending → Ref → Expr) → ((x : Extending) (r : Ref) → keeps_signs (ex x r) ≡ true)
+        → (x : Extending) (r : Ref) → keeps_signs (own_expr named ports os ex x r) ≡ true }
 {}
 
 /// Does nothing. Its clauses say when a value has a wire. One that is computed by a pure operation other than a constant has

@@ -2,6 +2,7 @@
 #![tactic(auto)]
 
 pub mod expr;
+pub mod extending;
 mod form;
 mod height_table;
 mod info;
@@ -9,6 +10,7 @@ mod laws;
 mod marks;
 mod nesting;
 mod node;
+mod places;
 pub mod scope;
 mod template;
 pub mod value_names;

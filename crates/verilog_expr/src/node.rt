@@ -3,7 +3,8 @@ ghost use Rattle.std.specs.Prelude.{◌≡◌, ◌<◌, [], map, is_some};
 ghost use Rattle.hw_model.specs.Design.{Ref, result_type};
 ghost use Rattle.ir_store.specs.Bodies.{op_id, read_op};
 ghost use Rattle.ir_store.specs.Numbered.{op_by};
-ghost use Rattle.verilog_expr.specs.Expressions.{constant_of, divisor_in, op_at};
+ghost use Rattle.verilog_expr.specs.Extensions.{is_zero_in};
+ghost use Rattle.verilog_expr.specs.Expressions.{constant_of, divisor_in, op_at, value_width};
 ghost use Rattle.verilog_expr.specs.Scopes.{scope_ports, scope_ops, scope_ref, op_read};
 ghost use Rattle.verilog_expr.specs.ExprNode.{IsNodeOf, IsOpOf, IsResultOf, head_width};
 ghost use Rattle.verilog_expr.specs.declared.template.Template.TheVariants.{Missing};
@@ -34,6 +35,22 @@ pub(crate) fn constant_at(scope: &Scope<'_>, value: Value, width: u64) -> u128
     match scope.op_at(position).kind {
         OpKind::Constant(constant) => constant_number(width, *constant),
         _ => 0,
+    }
+}
+
+/// Whether a value is a constant that is 0.
+pub(crate) fn is_zero(scope: &Scope<'_>, value: Value) -> bool
+    ensures { result ≡ is_zero_in (op_at (scope_ops scope.now) (scope_ref scope.now value)) (value_width (scope_ports scope.now) (scope_ops scope.now) (scope_ref scope.now value)) }
+{
+    let Some(position) = scope.result_position(value) else {
+        return false;
+    };
+    match scope.op_at(position).kind {
+        OpKind::Constant(constant) => {
+            let bits = scope.width(value);
+            constant_number(bits, *constant) == 0
+        }
+        _ => false,
     }
 }
 

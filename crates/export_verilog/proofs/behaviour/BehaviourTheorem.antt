@@ -7,6 +7,7 @@ use Rattle.verilog_model.specs.Hierarchy.{range_width}
 use Rattle.verilog_model.specs.Behaviour.{shown_port, IsPartner, UnlessPrivate, HavePartners}
 use Rattle.name_legalise.proofs.Legals.{legal_count}
 use Rattle.verilog_model.specs.Digits.{high_of}
+use Rattle.lowering_options.specs.declared.lowering.Lowering.{Lowering}
 use Rattle.export_verilog.specs.Exported.{symbol_names, symbol_name, vmodule, vports, tree_of}
 use Rattle.export_verilog.specs.Layout.{verilog_text}
 use Rattle.export_verilog.specs.Written.{ports_named}
@@ -35,26 +36,26 @@ legally_named : (m : Module) → vports m ≡ ports_named (legal_ports m) m.port
 legally_named m =
     vports_are m (legal_ports m) (legal_count [] (map (λ (p : Port). p.name) m.ports) ∙ length-map m.ports (λ (p : Port). p.name)) (port_names_are m.ports)
 
-module _ (d : Design) (x : IsExportable d) where
+module _ (via : Lowering) (d : Design) (x : IsExportable d) where
   here : Setting d
   here = setting d x
 
-  partner_of : (k : ℕ) (m : Module) → slice_get d k ≡ Some m → IsPartner d (tree_of d) m (symbol_name d m.symbol) (shown_ports m)
+  partner_of : (k : ℕ) (m : Module) → slice_get d k ≡ Some m → IsPartner d (tree_of via d) m (symbol_name d m.symbol) (shown_ports m)
   unfolding here
   partner_of k m there = let is = module_at_position d x k m there in record {
-    partner = vmodule d m;
-    found = vmodule_found d x (setting d x).symbols m.symbol m is;
+    partner = vmodule via d m;
+    found = vmodule_found d x (setting d x).symbols via m.symbol m is;
     ports_are =
         ap (map shown_port) (legally_named m)
         ∙ shown_named (legal_ports m) m.ports (λ j p at. (setting d x).say (width p.type) ((x.modules k m there).bits j p at) ((x.modules k m there).narrow_ports j p at));
-    same = exported_same d x k m there;
+    same = exported_same via d x k m there;
   }
 
   -- the names of the modules from the o-th on are those of their symbols
   abbrev named_from : ℕ → List Name → List Module → Type 0
   named_from o ns ms = (k : ℕ) (m : Module) → slice_get ms k ≡ Some m → (slice_get d (o + k) ≡ Some m) × (slice_get ns k ≡ Some (symbol_name d m.symbol))
 
-  partners : (o : ℕ) (ns : List Name) (ms : List Module) → length ns ≡ length ms → named_from o ns ms → HavePartners d (tree_of d) shown_ports ns ms
+  partners : (o : ℕ) (ns : List Name) (ms : List Module) → length ns ≡ length ms → named_from o ns ms → HavePartners d (tree_of via d) shown_ports ns ms
   partners o [] [] count at = tt
   partners o [] (m ∷ ms) count at = absurd (omega (arith, count))
   partners o (n ∷ ns) [] count at = absurd (omega (arith, count))
@@ -65,25 +66,25 @@ module _ (d : Design) (x : IsExportable d) where
     own : symbol_name d m.symbol ≡ n
     own = let e : Some n ≡ Some (symbol_name d m.symbol) = (at 0 m refl).1 in cc
 
-    unless : (b : Bool) → UnlessPrivate b (IsPartner d (tree_of d) m n (shown_ports m))
+    unless : (b : Bool) → UnlessPrivate b (IsPartner d (tree_of via d) m n (shown_ports m))
     unless true = tt
-    unless false = subst (λ l. IsPartner d (tree_of d) m l (shown_ports m)) own (partner_of o m first)
+    unless false = subst (λ l. IsPartner d (tree_of via d) m l (shown_ports m)) own (partner_of o m first)
 
     later : named_from (suc o) ns ms
     later k z there = let h = at (suc k) z there in (ap (slice_get d) (suc-add o k ∙ sym (add-suc o k)) ∙ h.0, h.1)
 
-  all_partners : HavePartners d (tree_of d) shown_ports (legal_symbols d) d
+  all_partners : HavePartners d (tree_of via d) shown_ports (legal_symbols d) d
   unfolding here symbol_names
   all_partners = partners 0 (legal_symbols d) d (setting d x).symbols.many (λ k m there. (ap (slice_get d) (zero-add k) ∙ there, symbol_at d x (setting d x).symbols k m there))
 
-  pub exported_behaves : BehavesAs (verilog_text d) d
+  pub exported_behaves : BehavesAs (verilog_text via d) d
   unfolding here verilog_text
   exported_behaves = record {
-    tree = tree_of d;
+    tree = tree_of via d;
     is_verilog = record {
-      spelled = tree_read (tree_of d) (tree_is_spellable d (setting d x));
-      fits = tree_of_fits d;
-      checks = tree_is_checked d (setting d x);
+      spelled = tree_read (tree_of via d) (tree_is_spellable via d (setting d x));
+      fits = tree_of_fits via d;
+      checks = tree_is_checked via d (setting d x);
     };
     partners = all_partners;
   }

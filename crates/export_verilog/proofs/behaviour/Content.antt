@@ -16,6 +16,8 @@ use Rattle.verilog_model.specs.Tree.{Item, VModule}
 use Rattle.verilog_model.specs.Tree.Item.{wire, reg, assign, always, instance}
 use Rattle.verilog_model.specs.Hierarchy.{block_target, items_state, vstate_of, vmodule_state, vstate, until, is_instance_named, loads, vstate_before, vbase, width_in}
 use Rattle.verilog_expr.specs.Spilling.{is_wire_kind, spilled}
+use Rattle.lowering_options.specs.declared.lowering.Lowering.{Lowering}
+use Rattle.export_verilog.specs.Lowerings.{load_place}
 use Rattle.export_verilog.specs.Identifiers.{Identifier, Emission, each, emission_of, module_identifiers, identifier_text, value_name, name_or_nothing}
 use Rattle.export_verilog.specs.Identifiers.Identifier.{port_identifier, value_identifier, instance_identifier}
 use Rattle.export_verilog.specs.Identifiers.Emission.{inline, as_wire, as_reg, as_instance}
@@ -31,7 +33,7 @@ use Rattle.export_verilog.proofs.behaviour.Positions.{symbol_at_path, Further, f
 
 -- ---- lists of items
 
-module _ (f : Name → ℕ) (v : VModule) where
+module _ (via : Lowering) (f : Name → ℕ) (v : VModule) where
   pub state-append : (xs ys : List Item) → items_state f v (xs ++ ys) ≡ items_state f v xs + items_state f v ys
   state-append [] ys = sym (zero-add (items_state f v ys))
   state-append (x ∷ xs) ys = let rest : items_state f v (xs ++ ys) ≡ items_state f v xs + items_state f v ys = state-append xs ys in omega arith
@@ -52,12 +54,12 @@ module _ (f : Name → ℕ) (v : VModule) where
       state-append (declares m i o) (each (declares m) (suc i) os)
       ∙ ap₂ (λ a b. a + b) (no_state_declared m i o (emission_of m.ports m.body i o)) (no_state_declares m (suc i) os)
 
-  no_state_outputs : (m : Module) (j : ℕ) (ps : List Port) (rs : List Ref) → items_state f v (output_assigns m j ps rs) ≡ 0
+  no_state_outputs : (m : Module) (j : ℕ) (ps : List Port) (rs : List Ref) → items_state f v (output_assigns via m j ps rs) ≡ 0
   no_state_outputs m j [] rs = refl
   no_state_outputs m j (p ∷ ps) rs = go p.is_output (no_state_outputs m (suc j) ps (others rs)) (no_state_outputs m (suc j) ps rs) where
-    go : (b : Bool) → items_state f v (output_assigns m (suc j) ps (others rs)) ≡ 0 → items_state f v (output_assigns m (suc j) ps rs) ≡ 0
-        → items_state f v (cond b (assign (identifier_text m (port_identifier j)) (expr_or_none (expression m) rs) ∷ output_assigns m (suc j) ps (others rs)) (output_assigns m (suc j) ps rs)) ≡ 0
-    go true first second = zero-add (items_state f v (output_assigns m (suc j) ps (others rs))) ∙ first
+    go : (b : Bool) → items_state f v (output_assigns via m (suc j) ps (others rs)) ≡ 0 → items_state f v (output_assigns via m (suc j) ps rs) ≡ 0
+        → items_state f v (cond b (assign (identifier_text m (port_identifier j)) (expr_or_none (expression m (load_place via)) rs) ∷ output_assigns via m (suc j) ps (others rs)) (output_assigns via m (suc j) ps rs)) ≡ 0
+    go true first second = zero-add (items_state f v (output_assigns via m (suc j) ps (others rs))) ∙ first
     go false first second = second
 
 -- ---- the items before one
@@ -82,21 +84,21 @@ until_each f test j (x ∷ os) (suc n) o rest there fails passes =
 
 -- ---- a module
 
-module _ (d : Design) (x : Setting d) (s : Name) (m : Module) (is : find_module d s ≡ Some m) where
+module _ (via : Lowering) (d : Design) (x : Setting d) (s : Name) (m : Module) (is : find_module d s ≡ Some m) where
   are : AreNames m
   are = x.names s m is
 
   pub variable_width : (i : ℕ) (o : Op) → slice_get m.body i ≡ Some o → emission_of m.ports m.body i o ≡ as_reg
-      → width_in (vmodule d m) (identifier_text m (value_identifier i 0)) ≡ held_width o
+      → width_in (vmodule via d m) (identifier_text m (value_identifier i 0)) ≡ held_width o
   variable_width i o there emission =
-      width_under x.say d m (module_ok d x s m is) are (result_at_first d x s m is) (value_identifier i 0) (variable_in m i o there emission)
+      width_under via x.say d m (module_ok d x s m is) are (result_at_first d x s m is) (value_identifier i 0) (variable_in m i o there emission)
       ∙ ap (λ z. width_of (option_and_then (λ (o : Op). result_type o 0) z)) there
 
   module _ (f g : Name → ℕ) (agree : (i : ℕ) (o : Op) (c : Called d m o) → slice_get m.body i ≡ Some o → f (symbol_name d c.kind.symbol) ≡ g c.kind.symbol) where
-    state_of_op : (i : ℕ) (o : Op) → slice_get m.body i ≡ Some o → items_state f (vmodule d m) (states d m i o) ≡ op_state g o
+    state_of_op : (i : ℕ) (o : Op) → slice_get m.body i ≡ Some o → items_state f (vmodule via d m) (states via d m i o) ≡ op_state g o
     state_of_op i o there = go (sort_of o.kind) where
-      by_emission : (r : Emission) → emission_of m.ports m.body i o ≡ r → items_state f (vmodule d m) (states d m i o) ≡ items_state f (vmodule d m) (stated_as d m i o r)
-      by_emission r emission = ap (λ z. items_state f (vmodule d m) (stated_as d m i o z)) emission
+      by_emission : (r : Emission) → emission_of m.ports m.body i o ≡ r → items_state f (vmodule via d m) (states via d m i o) ≡ items_state f (vmodule via d m) (stated_as via d m i o r)
+      by_emission r emission = ap (λ z. items_state f (vmodule via d m) (stated_as via d m i o z)) emission
 
       at_register : (h : RegisterForm) → register_form o.kind ≡ Some h → op_state g o ≡ held_width o
       at_register h r = ap (λ z. cond (is_some z) (held_width o) (instance_state g (instance_in o.kind))) r
@@ -104,43 +106,43 @@ module _ (d : Design) (x : Setting d) (s : Name) (m : Module) (is : find_module 
       at_other : (k : Option Instance) → register_form o.kind ≡ None → instance_in o.kind ≡ k → op_state g o ≡ instance_state g k
       at_other k r n = ap (λ z. cond (is_some z) (held_width o) (instance_state g (instance_in o.kind))) r ∙ ap (instance_state g) n
 
-      none_made : (a b : Bool) → items_state f (vmodule d m) (stated_as d m i o (cond a as_wire (cond b as_wire inline))) ≡ 0
+      none_made : (a b : Bool) → items_state f (vmodule via d m) (stated_as via d m i o (cond a as_wire (cond b as_wire inline))) ≡ 0
       none_made true b = refl
       none_made false true = refl
       none_made false false = refl
 
-      go : Sort o.kind → items_state f (vmodule d m) (states d m i o) ≡ op_state g o
+      go : Sort o.kind → items_state f (vmodule via d m) (states via d m i o) ≡ op_state g o
       go (a_register h r n u) =
           let emission = emission_of_register m.ports m.body i o h r in
           let g' = register_of d x s m is i o there emission in
           by_emission as_reg emission
-          ∙ ap (λ z. items_state f (vmodule d m) (always_of m (identifier_text m (value_identifier i 0)) (async_reset_in o) z)) g'.1
-          ∙ add-zero (width_in (vmodule d m) (block_target (module_block m (identifier_text m (value_identifier i 0)) g'.0 (async_reset_in o))))
-          ∙ ap (width_in (vmodule d m)) (block_name d x s m is s [] i g'.0 (async_reset_in o)) ∙ variable_width i o there emission ∙ sym (at_register h r)
+          ∙ ap (λ z. items_state f (vmodule via d m) (always_of via m (identifier_text m (value_identifier i 0)) (async_reset_in o) z)) g'.1
+          ∙ add-zero (width_in (vmodule via d m) (block_target (module_block via m (identifier_text m (value_identifier i 0)) g'.0 (async_reset_in o))))
+          ∙ ap (width_in (vmodule via d m)) (block_name via d x s m is s [] i g'.0 (async_reset_in o)) ∙ variable_width i o there emission ∙ sym (at_register h r)
       go (is_an_instance k r n u) =
           let emission = emission_of_instance m.ports m.body i o k r n in
           let c = called_by_emission d x s m is i o there emission in
           by_emission as_instance emission
-          ∙ ap (λ z. items_state f (vmodule d m) (instance_of d m i o z)) c.is_kind
+          ∙ ap (λ z. items_state f (vmodule via d m) (instance_of via d m i o z)) c.is_kind
           ∙ add-zero (f (symbol_name d c.kind.symbol)) ∙ agree i o c there ∙ sym (at_other (Some c.kind) r c.is_kind)
       go (an_output r n u) = by_emission inline (emission_of_output m.ports m.body i o r n u) ∙ sym (at_other None r n)
-      go (a_made r n u) = ap (λ z. items_state f (vmodule d m) (stated_as d m i o z)) (emission_of_made m.ports m.body i o r n u)
+      go (a_made r n u) = ap (λ z. items_state f (vmodule via d m) (stated_as via d m i o z)) (emission_of_made m.ports m.body i o r n u)
           ∙ none_made (is_wire_kind o.kind) (spilled m.ports m.body (result i 0)) ∙ sym (at_other None r n)
 
     state_of_body : (j : ℕ) (os : List Op) → ((a : ℕ) (o : Op) → slice_get os a ≡ Some o → slice_get m.body (j + a) ≡ Some o)
-        → items_state f (vmodule d m) (each (states d m) j os) ≡ body_state g os
+        → items_state f (vmodule via d m) (each (states via d m) j os) ≡ body_state g os
     state_of_body j [] within = refl
     state_of_body j (o ∷ os) within =
-        state-append f (vmodule d m) (states d m j o) (each (states d m) (suc j) os)
+        state-append via f (vmodule via d m) (states via d m j o) (each (states via d m) (suc j) os)
         ∙ ap₂ (λ a b. a + b) (state_of_op j o (ap (slice_get m.body) (sym (add-zero j)) ∙ within 0 o refl))
         (state_of_body (suc j) os (λ a z at. ap (slice_get m.body) (suc-add j a ∙ sym (add-suc j a)) ∙ within (suc a) z at))
 
-    pub state_of_items : items_state f (vmodule d m) (vitems d m) ≡ body_state g m.body
+    pub state_of_items : items_state f (vmodule via d m) (vitems via d m) ≡ body_state g m.body
     state_of_items =
-        state-append f (vmodule d m) (each (declares m) 0 m.body) (each (states d m) 0 m.body ++ output_assigns m 0 m.ports (output_refs m.body))
-        ∙ ap₂ (λ a b. a + b) (no_state_declares f (vmodule d m) m 0 m.body)
-        (state-append f (vmodule d m) (each (states d m) 0 m.body) (output_assigns m 0 m.ports (output_refs m.body))
-        ∙ ap₂ (λ a b. a + b) (state_of_body 0 m.body (λ a o at. ap (slice_get m.body) (zero-add a) ∙ at)) (no_state_outputs f (vmodule d m) m 0 m.ports (output_refs m.body)))
+        state-append via f (vmodule via d m) (each (declares m) 0 m.body) (each (states via d m) 0 m.body ++ output_assigns via m 0 m.ports (output_refs m.body))
+        ∙ ap₂ (λ a b. a + b) (no_state_declares via f (vmodule via d m) m 0 m.body)
+        (state-append via f (vmodule via d m) (each (states via d m) 0 m.body) (output_assigns via m 0 m.ports (output_refs m.body))
+        ∙ ap₂ (λ a b. a + b) (state_of_body 0 m.body (λ a o at. ap (slice_get m.body) (zero-add a) ∙ at)) (no_state_outputs via f (vmodule via d m) m 0 m.ports (output_refs m.body)))
         ∙ zero-add (body_state g m.body + 0) ∙ add-zero (body_state g m.body)
 
     taken_within : (i : ℕ) (os : List Op) (a : ℕ) (o : Op) → slice_get (take i os) a ≡ Some o → slice_get os a ≡ Some o
@@ -152,17 +154,17 @@ module _ (d : Design) (x : Setting d) (s : Name) (m : Module) (is : find_module 
     -- the items before those of an operation
     state_before_op : (test : Item → Bool) (i : ℕ) (o : Op) → slice_get m.body i ≡ Some o
         → ((y : Item) → In y (each (declares m) 0 m.body) → test y ≡ false)
-        → ((a : ℕ) (z : Op) → a < i → slice_get m.body a ≡ Some z → (y : Item) → In y (states d m a z) → test y ≡ false)
-        → ((r : List Item) → until test (states d m i o ++ r) ≡ [])
-        → items_state f (vmodule d m) (until test (vitems d m)) ≡ body_state g (take i m.body)
+        → ((a : ℕ) (z : Op) → a < i → slice_get m.body a ≡ Some z → (y : Item) → In y (states via d m a z) → test y ≡ false)
+        → ((r : List Item) → until test (states via d m i o ++ r) ≡ [])
+        → items_state f (vmodule via d m) (until test (vitems via d m)) ≡ body_state g (take i m.body)
     state_before_op test i o there declared earlier passes =
-        ap (items_state f (vmodule d m))
-        (until_before test (each (declares m) 0 m.body) (each (states d m) 0 m.body ++ output_assigns m 0 m.ports (output_refs m.body)) declared
-        ∙ ap (λ zs. each (declares m) 0 m.body ++ zs) (until_each (states d m) test 0 m.body i o (output_assigns m 0 m.ports (output_refs m.body)) there
-        (λ a z below at y here. earlier a z below at y (subst (λ b. In y (states d m b z)) (zero-add a) here))
-        (λ r. ap (λ b. until test (states d m b o ++ r)) (zero-add i) ∙ passes r)))
-        ∙ state-append f (vmodule d m) (each (declares m) 0 m.body) (each (states d m) 0 (take i m.body))
-        ∙ ap₂ (λ a b. a + b) (no_state_declares f (vmodule d m) m 0 m.body)
+        ap (items_state f (vmodule via d m))
+        (until_before test (each (declares m) 0 m.body) (each (states via d m) 0 m.body ++ output_assigns via m 0 m.ports (output_refs m.body)) declared
+        ∙ ap (λ zs. each (declares m) 0 m.body ++ zs) (until_each (states via d m) test 0 m.body i o (output_assigns via m 0 m.ports (output_refs m.body)) there
+        (λ a z below at y here. earlier a z below at y (subst (λ b. In y (states via d m b z)) (zero-add a) here))
+        (λ r. ap (λ b. until test (states via d m b o ++ r)) (zero-add i) ∙ passes r)))
+        ∙ state-append via f (vmodule via d m) (each (declares m) 0 m.body) (each (states via d m) 0 (take i m.body))
+        ∙ ap₂ (λ a b. a + b) (no_state_declares via f (vmodule via d m) m 0 m.body)
         (state_of_body 0 (take i m.body) (λ a z at. ap (slice_get m.body) (zero-add a) ∙ taken_within i m.body a z at))
         ∙ zero-add (body_state g (take i m.body))
 
@@ -196,7 +198,7 @@ module _ (d : Design) (x : Setting d) (s : Name) (m : Module) (is : find_module 
 
     -- a register's content begins after that of the operations before it
     pub state_before_register : (i : ℕ) (o : Op) → slice_get m.body i ≡ Some o → emission_of m.ports m.body i o ≡ as_reg
-        → items_state f (vmodule d m) (until (loads (identifier_text m (value_identifier i 0))) (vitems d m)) ≡ body_state g (take i m.body)
+        → items_state f (vmodule via d m) (until (loads (identifier_text m (value_identifier i 0))) (vitems via d m)) ≡ body_state g (take i m.body)
     state_before_register i o there emission =
         state_before_op (loads (identifier_text m (value_identifier i 0))) i o there
         (not_declares (loads (identifier_text m (value_identifier i 0))) (λ h n. refl) (λ h n. refl)) earlier passes where
@@ -204,20 +206,20 @@ module _ (d : Design) (x : Setting d) (s : Name) (m : Module) (is : find_module 
           test = loads (identifier_text m (value_identifier i 0))
 
           in_block : (a : ℕ) (z : Op) → a < i → slice_get m.body a ≡ Some z → emission_of m.ports m.body a z ≡ as_reg → (r : Option Register) (y : Item)
-              → In y (always_of m (identifier_text m (value_identifier a 0)) (async_reset_in z) r) → loads (identifier_text m (value_identifier i 0)) y ≡ false
+              → In y (always_of via m (identifier_text m (value_identifier a 0)) (async_reset_in z) r) → loads (identifier_text m (value_identifier i 0)) y ≡ false
           in_block a z below at emission' None y here = absurd here
           in_block a z below at emission' (Some r) y (inl same) =
               ap (loads (identifier_text m (value_identifier i 0))) same
-              ∙ ap (λ n. same_name n (identifier_text m (value_identifier i 0))) (block_name d x s m is s [] a r (async_reset_in z))
+              ∙ ap (λ n. same_name n (identifier_text m (value_identifier i 0))) (block_name via d x s m is s [] a r (async_reset_in z))
               ∙ apart (value_identifier a 0) (value_identifier i 0) (variable_in m a z at emission') (variable_in m i o there emission) (λ e. (let h : a ≡ i = cc in omega arith))
           in_block a z below at emission' (Some r) y (inr never) = absurd never
 
-          in_instance : (a : ℕ) (z : Op) (k : Option Instance) (y : Item) → In y (instance_of d m a z k) → loads (identifier_text m (value_identifier i 0)) y ≡ false
+          in_instance : (a : ℕ) (z : Op) (k : Option Instance) (y : Item) → In y (instance_of via d m a z k) → loads (identifier_text m (value_identifier i 0)) y ≡ false
           in_instance a z None y here = absurd here
           in_instance a z (Some k) y (inl same) = ap (loads (identifier_text m (value_identifier i 0))) same
           in_instance a z (Some k) y (inr never) = absurd never
 
-          by_emission : (a : ℕ) (z : Op) → a < i → slice_get m.body a ≡ Some z → (r : Emission) → emission_of m.ports m.body a z ≡ r → (y : Item) → In y (stated_as d m a z r)
+          by_emission : (a : ℕ) (z : Op) → a < i → slice_get m.body a ≡ Some z → (r : Emission) → emission_of m.ports m.body a z ≡ r → (y : Item) → In y (stated_as via d m a z r)
               → loads (identifier_text m (value_identifier i 0)) y ≡ false
           by_emission a z below at inline emission' y here = absurd here
           by_emission a z below at as_wire emission' y (inl same) = ap (loads (identifier_text m (value_identifier i 0))) same
@@ -225,35 +227,35 @@ module _ (d : Design) (x : Setting d) (s : Name) (m : Module) (is : find_module 
           by_emission a z below at as_reg emission' y here = in_block a z below at emission' (register_in z) y here
           by_emission a z below at as_instance emission' y here = in_instance a z (instance_in z.kind) y here
 
-          earlier : (a : ℕ) (z : Op) → a < i → slice_get m.body a ≡ Some z → (y : Item) → In y (states d m a z) → loads (identifier_text m (value_identifier i 0)) y ≡ false
+          earlier : (a : ℕ) (z : Op) → a < i → slice_get m.body a ≡ Some z → (y : Item) → In y (states via d m a z) → loads (identifier_text m (value_identifier i 0)) y ≡ false
           earlier a z below at y here = by_emission a z below at (emission_of m.ports m.body a z) refl y here
 
-          passes : (r : List Item) → until (loads (identifier_text m (value_identifier i 0))) (states d m i o ++ r) ≡ []
+          passes : (r : List Item) → until (loads (identifier_text m (value_identifier i 0))) (states via d m i o ++ r) ≡ []
           passes r =
               let g' = register_of d x s m is i o there emission in
-              ap (λ z. until (loads (identifier_text m (value_identifier i 0))) (stated_as d m i o z ++ r)) emission
-              ∙ ap (λ z. until (loads (identifier_text m (value_identifier i 0))) (always_of m (identifier_text m (value_identifier i 0)) (async_reset_in o) z ++ r)) g'.1
-              ∙ ap (λ b. cond b [] (always (name_or_nothing (value_name m g'.0.clock)) (module_block m (identifier_text m (value_identifier i 0)) g'.0 (async_reset_in o)) ∷ until (loads (identifier_text m (value_identifier i 0))) r))
-              (ap (λ n. same_name n (identifier_text m (value_identifier i 0))) (block_name d x s m is s [] i g'.0 (async_reset_in o)) ∙ name_self (identifier_text m (value_identifier i 0)))
+              ap (λ z. until (loads (identifier_text m (value_identifier i 0))) (stated_as via d m i o z ++ r)) emission
+              ∙ ap (λ z. until (loads (identifier_text m (value_identifier i 0))) (always_of via m (identifier_text m (value_identifier i 0)) (async_reset_in o) z ++ r)) g'.1
+              ∙ ap (λ b. cond b [] (always (name_or_nothing (value_name m g'.0.clock)) (module_block via m (identifier_text m (value_identifier i 0)) g'.0 (async_reset_in o)) ∷ until (loads (identifier_text m (value_identifier i 0))) r))
+              (ap (λ n. same_name n (identifier_text m (value_identifier i 0))) (block_name via d x s m is s [] i g'.0 (async_reset_in o)) ∙ name_self (identifier_text m (value_identifier i 0)))
 
     pub state_before_instance : (i : ℕ) (o : Op) → slice_get m.body i ≡ Some o → emission_of m.ports m.body i o ≡ as_instance
-        → items_state f (vmodule d m) (until (is_instance_named (identifier_text m (instance_identifier i))) (vitems d m)) ≡ body_state g (take i m.body)
+        → items_state f (vmodule via d m) (until (is_instance_named (identifier_text m (instance_identifier i))) (vitems via d m)) ≡ body_state g (take i m.body)
     state_before_instance i o there emission =
         state_before_op (is_instance_named (identifier_text m (instance_identifier i))) i o there
         (not_declares (is_instance_named (identifier_text m (instance_identifier i))) (λ h n. refl) (λ h n. refl)) earlier passes where
-          in_block : (a : ℕ) (z : Op) (r : Option Register) (y : Item) → In y (always_of m (identifier_text m (value_identifier a 0)) (async_reset_in z) r) → is_instance_named (identifier_text m (instance_identifier i)) y ≡ false
+          in_block : (a : ℕ) (z : Op) (r : Option Register) (y : Item) → In y (always_of via m (identifier_text m (value_identifier a 0)) (async_reset_in z) r) → is_instance_named (identifier_text m (instance_identifier i)) y ≡ false
           in_block a z None y here = absurd here
           in_block a z (Some r) y (inl same) = ap (is_instance_named (identifier_text m (instance_identifier i))) same
           in_block a z (Some r) y (inr never) = absurd never
 
-          in_instance : (a : ℕ) (z : Op) → a < i → slice_get m.body a ≡ Some z → emission_of m.ports m.body a z ≡ as_instance → (k : Option Instance) (y : Item) → In y (instance_of d m a z k)
+          in_instance : (a : ℕ) (z : Op) → a < i → slice_get m.body a ≡ Some z → emission_of m.ports m.body a z ≡ as_instance → (k : Option Instance) (y : Item) → In y (instance_of via d m a z k)
               → is_instance_named (identifier_text m (instance_identifier i)) y ≡ false
           in_instance a z below at emission' None y here = absurd here
           in_instance a z below at emission' (Some k) y (inl same) = ap (is_instance_named (identifier_text m (instance_identifier i))) same
               ∙ apart (instance_identifier a) (instance_identifier i) (instance_in_identifiers m a z at emission') (instance_in_identifiers m i o there emission) (λ e. (let h : a ≡ i = cc in omega arith))
           in_instance a z below at emission' (Some k) y (inr never) = absurd never
 
-          by_emission : (a : ℕ) (z : Op) → a < i → slice_get m.body a ≡ Some z → (r : Emission) → emission_of m.ports m.body a z ≡ r → (y : Item) → In y (stated_as d m a z r)
+          by_emission : (a : ℕ) (z : Op) → a < i → slice_get m.body a ≡ Some z → (r : Emission) → emission_of m.ports m.body a z ≡ r → (y : Item) → In y (stated_as via d m a z r)
               → is_instance_named (identifier_text m (instance_identifier i)) y ≡ false
           by_emission a z below at inline emission' y here = absurd here
           by_emission a z below at as_wire emission' y (inl same) = ap (is_instance_named (identifier_text m (instance_identifier i))) same
@@ -261,50 +263,50 @@ module _ (d : Design) (x : Setting d) (s : Name) (m : Module) (is : find_module 
           by_emission a z below at as_reg emission' y here = in_block a z (register_in z) y here
           by_emission a z below at as_instance emission' y here = in_instance a z below at emission' (instance_in z.kind) y here
 
-          earlier : (a : ℕ) (z : Op) → a < i → slice_get m.body a ≡ Some z → (y : Item) → In y (states d m a z) → is_instance_named (identifier_text m (instance_identifier i)) y ≡ false
+          earlier : (a : ℕ) (z : Op) → a < i → slice_get m.body a ≡ Some z → (y : Item) → In y (states via d m a z) → is_instance_named (identifier_text m (instance_identifier i)) y ≡ false
           earlier a z below at y here = by_emission a z below at (emission_of m.ports m.body a z) refl y here
 
-          passes : (r : List Item) → until (is_instance_named (identifier_text m (instance_identifier i))) (states d m i o ++ r) ≡ []
+          passes : (r : List Item) → until (is_instance_named (identifier_text m (instance_identifier i))) (states via d m i o ++ r) ≡ []
           passes r =
               let k = instance_of_emission m.ports m.body i o emission in
-              ap (λ z. until (is_instance_named (identifier_text m (instance_identifier i))) (stated_as d m i o z ++ r)) emission
-              ∙ ap (λ z. until (is_instance_named (identifier_text m (instance_identifier i))) (instance_of d m i o z ++ r)) k.2
-              ∙ ap (λ b. cond b [] (instance (symbol_name d k.0.symbol) (identifier_text m (instance_identifier i)) (Rattle.export_verilog.specs.Exported.connections_to (find_module d k.0.symbol) m i o)
+              ap (λ z. until (is_instance_named (identifier_text m (instance_identifier i))) (stated_as via d m i o z ++ r)) emission
+              ∙ ap (λ z. until (is_instance_named (identifier_text m (instance_identifier i))) (instance_of via d m i o z ++ r)) k.2
+              ∙ ap (λ b. cond b [] (instance (symbol_name d k.0.symbol) (identifier_text m (instance_identifier i)) (Rattle.export_verilog.specs.Exported.connections_to via (find_module d k.0.symbol) m i o)
               ∷ until (is_instance_named (identifier_text m (instance_identifier i))) r)) (name_self (identifier_text m (instance_identifier i)))
 
 -- ---- a design
 
-module _ (d : Design) (x : Setting d) where
-  pub state_same : (n : ℕ) (s : Name) (m : Module) → find_module d s ≡ Some m → vmodule_state n (tree_of d) (symbol_name d s) ≡ module_state n d s
+module _ (via : Lowering) (d : Design) (x : Setting d) where
+  pub state_same : (n : ℕ) (s : Name) (m : Module) → find_module d s ≡ Some m → vmodule_state n (tree_of via d) (symbol_name d s) ≡ module_state n d s
   state_same zero s m is = refl
   state_same (suc n) s m is =
-      ap (vstate_of (vmodule_state n (tree_of d))) (vmodule_found d x.ok x.symbols s m is)
-      ∙ state_of_items d x s m is (vmodule_state n (tree_of d)) (module_state n d) (λ i o c there. state_same n c.kind.symbol c.module_of c.there)
+      ap (vstate_of (vmodule_state n (tree_of via d))) (vmodule_found d x.ok x.symbols via s m is)
+      ∙ state_of_items via d x s m is (vmodule_state n (tree_of via d)) (module_state n d) (λ i o c there. state_same n c.kind.symbol c.module_of c.there)
       ∙ sym (ap (state_of (module_state n d)) is)
 
-  pub state_is : (s : Name) (m : Module) → find_module d s ≡ Some m → vstate (tree_of d) (symbol_name d s) ≡ state d s
-  state_is s m is = ap (λ n. vmodule_state (suc n) (tree_of d) (symbol_name d s)) (length-map d (vmodule d)) ∙ state_same (suc (length d)) s m is
+  pub state_is : (s : Name) (m : Module) → find_module d s ≡ Some m → vstate (tree_of via d) (symbol_name d s) ≡ state d s
+  state_is s m is = ap (λ n. vmodule_state (suc n) (tree_of via d) (symbol_name d s)) (length-map d (vmodule via d)) ∙ state_same (suc (length d)) s m is
 
-  agrees : (m : Module) (i : ℕ) (o : Op) (c : Called d m o) → slice_get m.body i ≡ Some o → vstate (tree_of d) (symbol_name d c.kind.symbol) ≡ state d c.kind.symbol
+  agrees : (m : Module) (i : ℕ) (o : Op) (c : Called d m o) → slice_get m.body i ≡ Some o → vstate (tree_of via d) (symbol_name d c.kind.symbol) ≡ state d c.kind.symbol
   agrees m i o c there = state_is c.kind.symbol c.module_of c.there
 
   module _ (top : Name) where
-    pub base_same : (p : Path) (m : Module) → module_at d top p ≡ Some m → vbase (tree_of d) (symbol_name d top) (vpath_of d top p) ≡ base d top p
+    pub base_same : (p : Path) (m : Module) → module_at d top p ≡ Some m → vbase (tree_of via d) (symbol_name d top) (vpath_of d top p) ≡ base d top p
     base_same [] m here = refl
-    base_same (u ∷ p) m here = step (further d x top u p m here) (λ o h. base_same p o h) where
-      step : Further d x top p u m → ((o : Module) → module_at d top p ≡ Some o → vbase (tree_of d) (symbol_name d top) (vpath_of d top p) ≡ base d top p)
-          → vbase (tree_of d) (symbol_name d top) (vpath_of d top (u ∷ p)) ≡ base d top (u ∷ p)
+    base_same (u ∷ p) m here = step (further via d x top u p m here) (λ o h. base_same p o h) where
+      step : Further via d x top p u m → ((o : Module) → module_at d top p ≡ Some o → vbase (tree_of via d) (symbol_name d top) (vpath_of d top p) ≡ base d top p)
+          → vbase (tree_of via d) (symbol_name d top) (vpath_of d top (u ∷ p)) ≡ base d top (u ∷ p)
       step f rest =
-          let at = symbol_at_path d x top p f.outer f.here in
-          ap (vbase (tree_of d) (symbol_name d top)) (name_of_step d x top u p m f)
+          let at = symbol_at_path via d x top p f.outer f.here in
+          ap (vbase (tree_of via d) (symbol_name d top)) (name_of_step via d x top u p m f)
           ∙ ap₂ (λ a b. a + b) (rest f.outer f.here)
-          (ap (vstate_before (tree_of d) (is_instance_named (identifier_text f.outer (instance_identifier f.position)))) (vposition d x top p f.outer f.here)
-          ∙ state_before_instance d x at.0 f.outer at.1 (vstate (tree_of d)) (state d) (agrees f.outer) f.position f.op f.there f.emission
+          (ap (vstate_before (tree_of via d) (is_instance_named (identifier_text f.outer (instance_identifier f.position)))) (vposition via d x top p f.outer f.here)
+          ∙ state_before_instance via d x at.0 f.outer at.1 (vstate (tree_of via d)) (state d) (agrees f.outer) f.position f.op f.there f.emission
           ∙ ap (body_state (state d)) (sym (ap (λ v. before_instance v f.outer.body) (sym f.is_number) ∙ before_position f.outer.body f.position f.op f.called.kind f.there f.called.is_kind))
           ∙ sym (ap (state_before d u) f.here))
 
     pub register_base : (p : Path) (m : Module) → module_at d top p ≡ Some m → (i : ℕ) (o : Op) → slice_get m.body i ≡ Some o → emission_of m.ports m.body i o ≡ as_reg
-        → vbase (tree_of d) (symbol_name d top) (vpath_of d top p) + vstate_before (tree_of d) (loads (identifier_text m (value_identifier i 0))) (Some (vmodule d m)) ≡ base d top p + body_state (state d) (take i m.body)
+        → vbase (tree_of via d) (symbol_name d top) (vpath_of d top p) + vstate_before (tree_of via d) (loads (identifier_text m (value_identifier i 0))) (Some (vmodule via d m)) ≡ base d top p + body_state (state d) (take i m.body)
     register_base p m here i o there emission =
-        let at = symbol_at_path d x top p m here in
-        ap₂ (λ a b. a + b) (base_same p m here) (state_before_register d x at.0 m at.1 (vstate (tree_of d)) (state d) (agrees m) i o there emission)
+        let at = symbol_at_path via d x top p m here in
+        ap₂ (λ a b. a + b) (base_same p m here) (state_before_register via d x at.0 m at.1 (vstate (tree_of via d)) (state d) (agrees m) i o there emission)

@@ -10,6 +10,7 @@ use Rattle.verilog_model.specs.Meaning.{tree_machine}
 use Rattle.name_legalise.specs.Legal.{legal}
 use Rattle.name_legalise.proofs.Legals.{legal_checks, legal_count}
 use Rattle.verilog_expr.proofs.Numerals.{range_width-high_of}
+use Rattle.lowering_options.specs.declared.lowering.Lowering.{Lowering}
 use Rattle.export_verilog.specs.Identifiers.{module_identifiers, names, name_hint}
 use Rattle.export_verilog.specs.Exported.{symbol_names, symbol_name, tree_of}
 use Rattle.export_verilog.specs.Exportable.{IsExportable}
@@ -47,6 +48,6 @@ setting d x = record {
 }
 
 -- each module of the tree of an exportable design behaves as the module of the design
-pub exported_same : (d : Design) → IsExportable d → (n : ℕ) (m : Module) → slice_get d n ≡ Some m
-    → Same (machine d m.symbol) (tree_machine (tree_of d) (symbol_name d m.symbol))
-exported_same d x n m there = exported_same_by d (setting d x) n m there
+pub exported_same : (via : Lowering) (d : Design) → IsExportable d → (n : ℕ) (m : Module) → slice_get d n ≡ Some m
+    → Same (machine d m.symbol) (tree_machine (tree_of via d) (symbol_name d m.symbol))
+exported_same via d x n m there = exported_same_by via d (setting d x) n m there

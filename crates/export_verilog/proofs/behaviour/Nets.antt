@@ -11,6 +11,8 @@ use Rattle.verilog_model.specs.Hierarchy.{VPath, vnet, Drive, drive, drive_at, d
 use Rattle.verilog_model.specs.Hierarchy.{find_connection, vmodule_at, width_in, width_at, range_width, input_width_before}
 use Rattle.verilog_model.specs.Hierarchy.Drive.{nothing, input, held, expression as driven_by, net as driven_from}
 use Rattle.verilog_model.specs.Digits.{high_of}
+use Rattle.lowering_options.specs.declared.lowering.Lowering.{Lowering}
+use Rattle.export_verilog.specs.Lowerings.{load_place, own_place}
 use Rattle.export_verilog.specs.Identifiers.{Identifier, each, emission_of, module_identifiers, identifier_text}
 use Rattle.export_verilog.specs.Identifiers.Identifier.{port_identifier, value_identifier, instance_identifier}
 use Rattle.export_verilog.specs.Identifiers.Emission.{as_wire, as_reg, as_instance}
@@ -53,103 +55,104 @@ inputs_before m j (x ∷ ps) (suc n) p there each_ok =
       later a q at = let h = each_ok (suc a) q at in
           (λ e. (let g : suc a ≡ suc n = h.0 (ap (λ z. identifier_text m (port_identifier z)) (add-suc j a ∙ sym (suc-add j a)) ∙ e ∙ ap (λ z. identifier_text m (port_identifier z)) (suc-add j n ∙ sym (add-suc j n))) in omega arith), h.1)
 
-module _ (d : Design) (x : Setting d) (top : Name) where
+module _ (via : Lowering) (d : Design) (x : Setting d) (top : Name) where
   abbrev pub here_path : Path → VPath
   here_path p = vpath_of d top p
 
   -- a net of the tree by its position and its key
   abbrev pub identifier_drive : Path → Module → Identifier → Drive
-  identifier_drive p m k = drive (tree_of d) (symbol_name d top) (vnet (vpath_of d top p) (identifier_text m k))
+  identifier_drive p m k = drive (tree_of via d) (symbol_name d top) (vnet (vpath_of d top p) (identifier_text m k))
 
   module _ (p : Path) (m : Module) (here : module_at d top p ≡ Some m) where
     symbol_of : Name
-    symbol_of = (symbol_at_path d x top p m here).0
+    symbol_of = (symbol_at_path via d x top p m here).0
 
     found_here : find_module d symbol_of ≡ Some m
     unfolding symbol_of
-    found_here = (symbol_at_path d x top p m here).1
+    found_here = (symbol_at_path via d x top p m here).1
 
     are : AreNames m
-    are = names_at_path d x top p m here
+    are = names_at_path via d x top p m here
 
-    pub width_here : (k : Identifier) → In k (module_identifiers m) → width_at (vmodule_at (tree_of d) (symbol_name d top) (vpath_of d top p)) (identifier_text m k) ≡ identifier_width m k
-    width_here k within = ap (λ v. width_at v (identifier_text m k)) (vposition d x top p m here)
-        ∙ width_under x.say d m (module_ok d x symbol_of m found_here) are (result_at_first d x symbol_of m found_here) k within
+    pub width_here : (k : Identifier) → In k (module_identifiers m) → width_at (vmodule_at (tree_of via d) (symbol_name d top) (vpath_of d top p)) (identifier_text m k) ≡ identifier_width m k
+    width_here k within = ap (λ v. width_at v (identifier_text m k)) (vposition via d x top p m here)
+        ∙ width_under via x.say d m (module_ok d x symbol_of m found_here) are (result_at_first d x symbol_of m found_here) k within
 
-    pub module_width : (k : Identifier) → In k (module_identifiers m) → width_in (vmodule d m) (identifier_text m k) ≡ identifier_width m k
-    module_width k within = width_under x.say d m (module_ok d x symbol_of m found_here) are (result_at_first d x symbol_of m found_here) k within
+    pub module_width : (k : Identifier) → In k (module_identifiers m) → width_in (vmodule via d m) (identifier_text m k) ≡ identifier_width m k
+    module_width k within = width_under via x.say d m (module_ok d x symbol_of m found_here) are (result_at_first d x symbol_of m found_here) k within
 
-    drive_found : (n : Name) → drive (tree_of d) (symbol_name d top) (vnet (vpath_of d top p) n) ≡ drive_in (tree_of d) (symbol_name d top) (vpath_of d top p) (vmodule d m) n (find_port (vports m) n)
-    drive_found n = ap (drive_at (tree_of d) (symbol_name d top) (vpath_of d top p) n) (vposition d x top p m here)
+    drive_found : (n : Name) → drive (tree_of via d) (symbol_name d top) (vnet (vpath_of d top p) n) ≡ drive_in (tree_of via d) (symbol_name d top) (vpath_of d top p) (vmodule via d m) n (find_port (vports m) n)
+    drive_found n = ap (drive_at (tree_of via d) (symbol_name d top) (vpath_of d top p) n) (vposition via d x top p m here)
 
-    drive_of_identifier : (k : Identifier) → In k (module_identifiers m) → identifier_drive p m k ≡ drive_in (tree_of d) (symbol_name d top) (vpath_of d top p) (vmodule d m) (identifier_text m k) (port_value m k)
-    drive_of_identifier k within = drive_found (identifier_text m k) ∙ ap (drive_in (tree_of d) (symbol_name d top) (vpath_of d top p) (vmodule d m) (identifier_text m k)) (port_under m are k within)
+    drive_of_identifier : (k : Identifier) → In k (module_identifiers m) → identifier_drive p m k ≡ drive_in (tree_of via d) (symbol_name d top) (vpath_of d top p) (vmodule via d m) (identifier_text m k) (port_value m k)
+    drive_of_identifier k within = drive_found (identifier_text m k) ∙ ap (drive_in (tree_of via d) (symbol_name d top) (vpath_of d top p) (vmodule via d m) (identifier_text m k)) (port_under m are k within)
 
-    inner_of_identifier : (k : Identifier) → In k (module_identifiers m) → inner_drive (tree_of d) (symbol_name d top) (vpath_of d top p) (vmodule d m) (identifier_text m k)
-        ≡ drive_or_nothing (drive_value d x symbol_of m found_here (symbol_name d top) (vpath_of d top p) k)
-    inner_of_identifier k within = drive_under d x symbol_of m found_here (symbol_name d top) (vpath_of d top p) k within
+    inner_of_identifier : (k : Identifier) → In k (module_identifiers m) → inner_drive (tree_of via d) (symbol_name d top) (vpath_of d top p) (vmodule via d m) (identifier_text m k)
+        ≡ drive_or_nothing (drive_value via d x symbol_of m found_here (symbol_name d top) (vpath_of d top p) k)
+    inner_of_identifier k within = drive_under via d x symbol_of m found_here (symbol_name d top) (vpath_of d top p) k within
 
-    pub no_drive_here : (n : Name) → ((k : Identifier) → In k (module_identifiers m) → n ≡ identifier_text m k → ⊥) → drive (tree_of d) (symbol_name d top) (vnet (vpath_of d top p) n) ≡ nothing
-    no_drive_here n never = drive_found n ∙ no_drive_under d x symbol_of m found_here (symbol_name d top) (vpath_of d top p) n never
+    pub no_drive_here : (n : Name) → ((k : Identifier) → In k (module_identifiers m) → n ≡ identifier_text m k → ⊥) → drive (tree_of via d) (symbol_name d top) (vnet (vpath_of d top p) n) ≡ nothing
+    no_drive_here n never = drive_found n ∙ no_drive_under via d x symbol_of m found_here (symbol_name d top) (vpath_of d top p) n never
 
-    pub drive_net : (i : ℕ) (o : Op) → slice_get m.body i ≡ Some o → emission_of m.ports m.body i o ≡ as_wire → identifier_drive p m (value_identifier i 0) ≡ driven_by (vpath_of d top p) (assigned_expr m (result i 0))
+    pub drive_net : (i : ℕ) (o : Op) → slice_get m.body i ≡ Some o → emission_of m.ports m.body i o ≡ as_wire → identifier_drive p m (value_identifier i 0) ≡ driven_by (vpath_of d top p) (assigned_expr via m (result i 0))
     drive_net i o there emission =
         drive_of_identifier (value_identifier i 0) (net_in m i o there emission) ∙ inner_of_identifier (value_identifier i 0) (net_in m i o there emission)
-        ∙ ap drive_or_nothing (value_by_emission d x symbol_of m found_here (symbol_name d top) (vpath_of d top p) i 0 o as_wire there emission)
+        ∙ ap drive_or_nothing (value_by_emission via d x symbol_of m found_here (symbol_name d top) (vpath_of d top p) i 0 o as_wire there emission)
 
     pub drive_variable : (i : ℕ) (o : Op) → slice_get m.body i ≡ Some o → emission_of m.ports m.body i o ≡ as_reg
         → identifier_drive p m (value_identifier i 0) ≡ held (base d top p + body_state (state d) (take i m.body)) (width_of (result_type o 0))
     drive_variable i o there emission =
         drive_of_identifier (value_identifier i 0) (variable_in m i o there emission) ∙ inner_of_identifier (value_identifier i 0) (variable_in m i o there emission)
-        ∙ ap drive_or_nothing (value_by_emission d x symbol_of m found_here (symbol_name d top) (vpath_of d top p) i 0 o as_reg there emission)
-        ∙ ap₂ held (register_base d x top p m here i o there emission) (variable_width d x symbol_of m found_here i o there emission)
+        ∙ ap drive_or_nothing (value_by_emission via d x symbol_of m found_here (symbol_name d top) (vpath_of d top p) i 0 o as_reg there emission)
+        ∙ ap₂ held (register_base via d x top p m here i o there emission) (variable_width via d x symbol_of m found_here i o there emission)
 
     pub drive_result : (i k : ℕ) (o : Op) (r : OpResult) (c : Called d m o) → slice_get m.body i ≡ Some o → emission_of m.ports m.body i o ≡ as_instance → slice_get o.results k ≡ Some r
         → (e : OutputAt c.module_of.ports k r.type) → identifier_drive p m (value_identifier i k) ≡ driven_from (vnet (vpath_of d top (number_of m.body i ∷ p)) (identifier_text c.module_of (port_identifier e.position)))
     drive_result i k o r c there emission at e =
         drive_of_identifier (value_identifier i k) (result_in_identifiers m i k o r there emission at) ∙ inner_of_identifier (value_identifier i k) (result_in_identifiers m i k o r there emission at)
-        ∙ ap drive_or_nothing (value_of_result d x symbol_of m found_here (symbol_name d top) (vpath_of d top p) i o c there emission k e.position
+        ∙ ap drive_or_nothing (value_of_result via d x symbol_of m found_here (symbol_name d top) (vpath_of d top p) i o c there emission k e.position
         (ap (λ a. output_position a c.module_of.ports) (sym e.number) ∙ (position_of_output c.module_of.ports e.position e.port e.there e.out).0))
-        ∙ ap (λ q. driven_from (vnet q (identifier_text c.module_of (port_identifier e.position)))) (sym (inside_instance d x top p m here i o c there).1)
+        ∙ ap (λ q. driven_from (vnet q (identifier_text c.module_of (port_identifier e.position)))) (sym (inside_instance via d x top p m here i o c there).1)
 
     pub drive_instance : (i : ℕ) (o : Op) → slice_get m.body i ≡ Some o → emission_of m.ports m.body i o ≡ as_instance → identifier_drive p m (instance_identifier i) ≡ nothing
     drive_instance i o there emission = drive_of_identifier (instance_identifier i) (instance_in_identifiers m i o there emission) ∙ inner_of_identifier (instance_identifier i) (instance_in_identifiers m i o there emission)
 
     port_here : (j : ℕ) (y : Port) → slice_get m.ports j ≡ Some y
-        → identifier_drive p m (port_identifier j) ≡ drive_in (tree_of d) (symbol_name d top) (vpath_of d top p) (vmodule d m) (identifier_text m (port_identifier j)) (Some (vport_at m j y))
+        → identifier_drive p m (port_identifier j) ≡ drive_in (tree_of via d) (symbol_name d top) (vpath_of d top p) (vmodule via d m) (identifier_text m (port_identifier j)) (Some (vport_at m j y))
     port_here j y there = drive_of_identifier (port_identifier j) (port_in m j y there)
-        ∙ ap (λ z. drive_in (tree_of d) (symbol_name d top) (vpath_of d top p) (vmodule d m) (identifier_text m (port_identifier j)) (option_map (vport_at m j) z)) there
+        ∙ ap (λ z. drive_in (tree_of via d) (symbol_name d top) (vpath_of d top p) (vmodule via d m) (identifier_text m (port_identifier j)) (option_map (vport_at m j) z)) there
 
     pub drive_output : (j : ℕ) (y : Port) → slice_get m.ports j ≡ Some y → y.is_output ≡ true
-        → identifier_drive p m (port_identifier j) ≡ driven_by (vpath_of d top p) (expr_for (expression m) (slice_get (output_refs m.body) (output_count (take j m.ports))))
+        → identifier_drive p m (port_identifier j) ≡ driven_by (vpath_of d top p) (expr_for (expression m (load_place via)) (slice_get (output_refs m.body) (output_count (take j m.ports))))
     drive_output j y there out =
         port_here j y there
-        ∙ ap (λ b. cond b (inner_drive (tree_of d) (symbol_name d top) (vpath_of d top p) (vmodule d m) (identifier_text m (port_identifier j)))
-        (input_drive (tree_of d) (symbol_name d top) (vpath_of d top p) (vmodule d m) (vport_at m j y))) out
+        ∙ ap (λ b. cond b (inner_drive (tree_of via d) (symbol_name d top) (vpath_of d top p) (vmodule via d m) (identifier_text m (port_identifier j)))
+        (input_drive (tree_of via d) (symbol_name d top) (vpath_of d top p) (vmodule via d m) (vport_at m j y))) out
         ∙ inner_of_identifier (port_identifier j) (port_in m j y there)
-        ∙ ap (λ z. drive_or_nothing (option_and_then (λ (y : Port). cond y.is_output (Some (driven_by (vpath_of d top p) (expr_for (expression m) (slice_get (output_refs m.body) (output_count (take j m.ports)))))) None) z)) there
-        ∙ ap (λ b. drive_or_nothing (cond b (Some (driven_by (vpath_of d top p) (expr_for (expression m) (slice_get (output_refs m.body) (output_count (take j m.ports)))))) None)) out
+        ∙ ap (λ z. drive_or_nothing (option_and_then (λ (y : Port). cond y.is_output (Some
+        (driven_by (vpath_of d top p) (expr_for (expression m (load_place via)) (slice_get (output_refs m.body) (output_count (take j m.ports)))))) None) z)) there
+        ∙ ap (λ b. drive_or_nothing (cond b (Some (driven_by (vpath_of d top p) (expr_for (expression m (load_place via)) (slice_get (output_refs m.body) (output_count (take j m.ports)))))) None)) out
 
     pub drive_input : (j : ℕ) (y : Port) → slice_get m.ports j ≡ Some y → y.is_output ≡ false
-        → identifier_drive p m (port_identifier j) ≡ input_drive (tree_of d) (symbol_name d top) (vpath_of d top p) (vmodule d m) (vport_at m j y)
+        → identifier_drive p m (port_identifier j) ≡ input_drive (tree_of via d) (symbol_name d top) (vpath_of d top p) (vmodule via d m) (vport_at m j y)
     drive_input j y there out =
         port_here j y there
-        ∙ ap (λ b. cond b (inner_drive (tree_of d) (symbol_name d top) (vpath_of d top p) (vmodule d m) (identifier_text m (port_identifier j)))
-        (input_drive (tree_of d) (symbol_name d top) (vpath_of d top p) (vmodule d m) (vport_at m j y))) out
+        ∙ ap (λ b. cond b (inner_drive (tree_of via d) (symbol_name d top) (vpath_of d top p) (vmodule via d m) (identifier_text m (port_identifier j)))
+        (input_drive (tree_of via d) (symbol_name d top) (vpath_of d top p) (vmodule via d m) (vport_at m j y))) out
 
   -- an input of the top: its bits of the inputs
   pub drive_top_input : (m : Module) → (here : module_at d top [] ≡ Some m) → (j : ℕ) (y : Port) → slice_get m.ports j ≡ Some y → y.is_output ≡ false
       → identifier_drive [] m (port_identifier j) ≡ input (input_width (take j m.ports)) (width y.type)
   drive_top_input m here j y there out =
-      drive_input [] m here j y there out ∙ ap₂ input before (port_width x.say d m ok names j y there) where
+      drive_input [] m here j y there out ∙ ap₂ input before (port_width via x.say d m ok names j y there) where
         names : AreNames m
-        names = names_at_path d x top [] m here
+        names = names_at_path via d x top [] m here
 
         ok : IsExportableModule m
-        ok = module_ok d x (symbol_at_path d x top [] m here).0 m (symbol_at_path d x top [] m here).1
+        ok = module_ok d x (symbol_at_path via d x top [] m here).0 m (symbol_at_path via d x top [] m here).1
 
         ports_ok : (a : ℕ) (q : Port) → slice_get m.ports a ≡ Some q → (identifier_text m (port_identifier (0 + a)) ≡ identifier_text m (port_identifier (0 + j)) → a ≡ j) × (range_width (high_of (width q.type)) ≡ width q.type)
-        ports_ok a q at = (same_position, port_width x.say d m ok names a q at) where
+        ports_ok a q at = (same_position, port_width via x.say d m ok names a q at) where
           same_position : identifier_text m (port_identifier (0 + a)) ≡ identifier_text m (port_identifier (0 + j)) → a ≡ j
           same_position e =
               let texts : identifier_text m (port_identifier a) ≡ identifier_text m (port_identifier j) = ap (λ z. identifier_text m (port_identifier z)) (sym (zero-add a)) ∙ e
@@ -161,40 +164,40 @@ module _ (d : Design) (x : Setting d) (top : Name) where
         before = ap (λ z. input_width_before (identifier_text m (port_identifier z)) (vports m)) (sym (zero-add j)) ∙ inputs_before m 0 m.ports j y there ports_ok
 
   -- an input further inside: what the instance joins to it
-  pub drive_inner_input : (u : ℕ) (p : Path) (m : Module) → (here : module_at d top (u ∷ p) ≡ Some m) → (f : Further d x top p u m) → (j : ℕ) (y : Port) → slice_get m.ports j ≡ Some y → y.is_output ≡ false
-      → identifier_drive (u ∷ p) m (port_identifier j) ≡ driven_by (vpath_of d top p) (expr_for (expression f.outer) (slice_get f.op.operands (input_count (take j m.ports))))
+  pub drive_inner_input : (u : ℕ) (p : Path) (m : Module) → (here : module_at d top (u ∷ p) ≡ Some m) → (f : Further via d x top p u m) → (j : ℕ) (y : Port) → slice_get m.ports j ≡ Some y → y.is_output ≡ false
+      → identifier_drive (u ∷ p) m (port_identifier j) ≡ driven_by (vpath_of d top p) (expr_for (expression f.outer (own_place via)) (slice_get f.op.operands (input_count (take j m.ports))))
   drive_inner_input u p m here f j y there out =
       drive_input (u ∷ p) m here j y there out
-      ∙ ap (λ z. connection_drive (vpath_of d top p) (identifier_text m (port_identifier j)) (option_and_then (λ (v : VModule). find_instance v.items (step_name (module_at d top p) u)) z)) (vposition d x top p f.outer f.here)
-      ∙ ap (λ z. connection_drive (vpath_of d top p) (identifier_text m (port_identifier j)) (find_instance (vitems d f.outer) z)) step
+      ∙ ap (λ z. connection_drive (vpath_of d top p) (identifier_text m (port_identifier j)) (option_and_then (λ (v : VModule). find_instance v.items (step_name (module_at d top p) u)) z)) (vposition via d x top p f.outer f.here)
+      ∙ ap (λ z. connection_drive (vpath_of d top p) (identifier_text m (port_identifier j)) (find_instance (vitems via d f.outer) z)) step
       ∙ ap (connection_drive (vpath_of d top p) (identifier_text m (port_identifier j))) found
-      ∙ ap (λ z. drive_of_connection (vpath_of d top p) (find_connection (connections_to z f.outer f.position f.op) (identifier_text m (port_identifier j)))) f.called.there
+      ∙ ap (λ z. drive_of_connection (vpath_of d top p) (find_connection (connections_to via z f.outer f.position f.op) (identifier_text m (port_identifier j)))) f.called.there
       ∙ joined m f.inside there where
         names : AreNames f.outer
-        names = names_at_path d x top p f.outer f.here
+        names = names_at_path via d x top p f.outer f.here
 
         step : step_name (module_at d top p) u ≡ identifier_text f.outer (instance_identifier f.position)
         step = ap (λ z. step_name z u) f.here ∙ ap (λ i. identifier_text f.outer (instance_identifier i)) f.is_position
 
-        found : find_instance (vitems d f.outer) (identifier_text f.outer (instance_identifier f.position)) ≡ Some (instance_of_kind d f.outer f.position f.op f.called.kind)
-        found = instance_under d f.outer names (instance_identifier f.position) (instance_in_identifiers f.outer f.position f.op f.there f.emission)
-            ∙ ap (λ z. option_and_then (λ (o : Op). option_map (instance_of_kind d f.outer f.position o) (instance_in o.kind)) z) f.there
-            ∙ ap (option_map (instance_of_kind d f.outer f.position f.op)) f.called.is_kind
+        found : find_instance (vitems via d f.outer) (identifier_text f.outer (instance_identifier f.position)) ≡ Some (instance_of_kind via d f.outer f.position f.op f.called.kind)
+        found = instance_under via d f.outer names (instance_identifier f.position) (instance_in_identifiers f.outer f.position f.op f.there f.emission)
+            ∙ ap (λ z. option_and_then (λ (o : Op). option_map (instance_of_kind via d f.outer f.position o) (instance_in o.kind)) z) f.there
+            ∙ ap (option_map (instance_of_kind via d f.outer f.position f.op)) f.called.is_kind
 
         joined_own : slice_get f.called.module_of.ports j ≡ Some y
-            → drive_of_connection (vpath_of d top p) (find_connection (connections_of f.called.module_of f.outer f.position 0 0 f.called.module_of.ports f.op.operands) (identifier_text f.called.module_of (port_identifier j)))
-            ≡ driven_by (vpath_of d top p) (expr_for (expression f.outer) (slice_get f.op.operands (input_count (take j f.called.module_of.ports))))
+            → drive_of_connection (vpath_of d top p) (find_connection (connections_of via f.called.module_of f.outer f.position 0 0 f.called.module_of.ports f.op.operands) (identifier_text f.called.module_of (port_identifier j)))
+            ≡ driven_by (vpath_of d top p) (expr_for (expression f.outer (own_place via)) (slice_get f.op.operands (input_count (take j f.called.module_of.ports))))
         joined_own at =
             ap (drive_of_connection (vpath_of d top p))
-            (connection_under f.called.module_of f.outer f.position f.op (x.names f.called.kind.symbol f.called.module_of f.called.there) (port_identifier j) (port_in f.called.module_of j y at)
-            ∙ ap (option_map (λ q. connection_of f.called.module_of f.outer f.position j 0 (take j f.called.module_of.ports) q f.op.operands)) at)
+            (connection_under via f.called.module_of f.outer f.position f.op (x.names f.called.kind.symbol f.called.module_of f.called.there) (port_identifier j) (port_in f.called.module_of j y at)
+            ∙ ap (option_map (λ q. connection_of via f.called.module_of f.outer f.position j 0 (take j f.called.module_of.ports) q f.op.operands)) at)
             ∙ ap (λ b. driven_by (vpath_of d top p) (cond b (Rattle.verilog_model.specs.Tree.Expr.name
             (identifier_text f.outer (value_identifier f.position (0 + output_count (take j f.called.module_of.ports)))))
-            (expr_for (expression f.outer) (slice_get f.op.operands (input_count (take j f.called.module_of.ports)))))) out
+            (expr_for (expression f.outer (own_place via)) (slice_get f.op.operands (input_count (take j f.called.module_of.ports)))))) out
 
         joined : (z : Module) → f.called.module_of ≡ z → slice_get z.ports j ≡ Some y
-            → drive_of_connection (vpath_of d top p) (find_connection (connections_of f.called.module_of f.outer f.position 0 0 f.called.module_of.ports f.op.operands) (identifier_text z (port_identifier j)))
-            ≡ driven_by (vpath_of d top p) (expr_for (expression f.outer) (slice_get f.op.operands (input_count (take j z.ports))))
+            → drive_of_connection (vpath_of d top p) (find_connection (connections_of via f.called.module_of f.outer f.position 0 0 f.called.module_of.ports f.op.operands) (identifier_text z (port_identifier j)))
+            ≡ driven_by (vpath_of d top p) (expr_for (expression f.outer (own_place via)) (slice_get f.op.operands (input_count (take j z.ports))))
         joined z same = subst (λ y'. slice_get y'.ports j ≡ Some y → drive_of_connection (vpath_of d top p)
-            (find_connection (connections_of f.called.module_of f.outer f.position 0 0 f.called.module_of.ports f.op.operands) (identifier_text y' (port_identifier j)))
-            ≡ driven_by (vpath_of d top p) (expr_for (expression f.outer) (slice_get f.op.operands (input_count (take j y'.ports))))) same joined_own
+            (find_connection (connections_of via f.called.module_of f.outer f.position 0 0 f.called.module_of.ports f.op.operands) (identifier_text y' (port_identifier j)))
+            ≡ driven_by (vpath_of d top p) (expr_for (expression f.outer (own_place via)) (slice_get f.op.operands (input_count (take j y'.ports))))) same joined_own

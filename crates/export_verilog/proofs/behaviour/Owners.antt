@@ -8,6 +8,7 @@ use Rattle.hw_model.specs.Design.Ref.{port, result, undefined}
 use Rattle.hw_model.specs.Flat.{Path, Net, net as at, module_at}
 use Rattle.verilog_model.specs.Hierarchy.{VNet, vnet, drive, drive_at, vmodule_at}
 use Rattle.verilog_model.specs.Hierarchy.Drive.{nothing}
+use Rattle.lowering_options.specs.declared.lowering.Lowering.{Lowering}
 use Rattle.export_verilog.specs.Identifiers.{Identifier, module_identifiers, identifier_text}
 use Rattle.export_verilog.specs.Identifiers.Identifier.{port_identifier, value_identifier, instance_identifier}
 use Rattle.export_verilog.specs.Exported.{symbol_name, vmodule, tree_of}
@@ -18,7 +19,7 @@ use Rattle.export_verilog.proofs.behaviour.Positions.{vpath_of, names_at_path, v
 use Rattle.export_verilog.proofs.behaviour.Positions.PathOf.{a_path, no_path}
 use Rattle.export_verilog.proofs.behaviour.Nets.{no_drive_here}
 
-module _ (d : Design) (x : Setting d) (top : Name) (m0 : Module) (top_is : find_module d top ≡ Some m0) where
+module _ (via : Lowering) (d : Design) (x : Setting d) (top : Name) (m0 : Module) (top_is : find_module d top ≡ Some m0) where
   -- ---- what a net shows
 
   abbrev pub or_undefined : Option Ref → Ref
@@ -45,29 +46,29 @@ module _ (d : Design) (x : Setting d) (top : Name) (m0 : Module) (top_is : find_
   -- whose a net of the tree is
   data Whose (v : VNet) : Type 0 where
     owned_by : (p : Path) (m : Module) → module_at d top p ≡ Some m → (k : Identifier) → In k (module_identifiers m) → v.path ≡ vpath_of d top p → v.name ≡ identifier_text m k → Whose v
-    unowned : drive (tree_of d) (symbol_name d top) v ≡ nothing
+    unowned : drive (tree_of via d) (symbol_name d top) v ≡ nothing
         → ((p : Path) (m : Module) (k : Identifier) → module_at d top p ≡ Some m → In k (module_identifiers m) → v.path ≡ vpath_of d top p → v.name ≡ identifier_text m k → ⊥) → Whose v
 
   whose : (v : VNet) → Whose v
-  whose v = by_path (path_of d x top m0 top_is v.path) where
+  whose v = by_path (path_of via d x top m0 top_is v.path) where
     by_identifier : (p : Path) (m : Module) → module_at d top p ≡ Some m → vpath_of d top p ≡ v.path
         → ((k : Identifier) × In k (module_identifiers m) × (v.name ≡ identifier_text m k)) ⊎ ((k : Identifier) → In k (module_identifiers m) → v.name ≡ identifier_text m k → ⊥) → Whose v
     by_identifier p m here same (inl h) = owned_by p m here h.0 h.1 (sym same) h.2
     by_identifier p m here same (inr never) =
-        unowned (ap (λ q. drive (tree_of d) (symbol_name d top) (vnet q v.name)) (sym same) ∙ no_drive_here d x top p m here v.name never) nobody where
+        unowned (ap (λ q. drive (tree_of via d) (symbol_name d top) (vnet q v.name)) (sym same) ∙ no_drive_here via d x top p m here v.name never) nobody where
           nobody : (r : Path) (n : Module) (k : Identifier) → module_at d top r ≡ Some n → In k (module_identifiers n) → v.path ≡ vpath_of d top r → v.name ≡ identifier_text n k → ⊥
           nobody r n k there within path name =
-              let paths : p ≡ r = paths_apart d x top p r m n here there (same ∙ path) in
+              let paths : p ≡ r = paths_apart via d x top p r m n here there (same ∙ path) in
               let modules : Some m ≡ Some n = sym here ∙ ap (module_at d top) paths ∙ there in
               let one : m ≡ n = cc in
               never k (subst (λ y. In k (module_identifiers y)) (sym one) within) (name ∙ ap (λ y. identifier_text y k) (sym one))
 
-    by_path : PathOf d x top v.path → Whose v
+    by_path : PathOf via d x top v.path → Whose v
     by_path (a_path p m here same) = by_identifier p m here same (identifier_of_name m v.name (module_identifiers m))
-    by_path (no_path none) = unowned (ap (drive_at (tree_of d) (symbol_name d top) v.path v.name) none) nobody where
+    by_path (no_path none) = unowned (ap (drive_at (tree_of via d) (symbol_name d top) v.path v.name) none) nobody where
       nobody : (r : Path) (n : Module) (k : Identifier) → module_at d top r ≡ Some n → In k (module_identifiers n) → v.path ≡ vpath_of d top r → v.name ≡ identifier_text n k → ⊥
       nobody r n k there within path name =
-          let h : None ≡ Some (vmodule d n) = sym none ∙ ap (vmodule_at (tree_of d) (symbol_name d top)) path ∙ vposition d x top r n there in cc
+          let h : None ≡ Some (vmodule via d n) = sym none ∙ ap (vmodule_at (tree_of via d) (symbol_name d top)) path ∙ vposition via d x top r n there in cc
 
   to_of : (Net → Word) → (v : VNet) → Whose v → Word
   to_of ρ v (owned_by p m here k within path name) = ρ (at p (shown_ref m k))
@@ -82,15 +83,15 @@ module _ (d : Design) (x : Setting d) (top : Name) (m0 : Module) (top_is : find_
     go : (w : Whose (vnet (vpath_of d top p) (identifier_text m k))) → to_of ρ (vnet (vpath_of d top p) (identifier_text m k)) w ≡ ρ (at p (shown_ref m k))
     go (unowned none never) = absurd (never p m k here within refl refl)
     go (owned_by r n there l inside path name) =
-        let paths : r ≡ p = paths_apart d x top r p n m there here (sym path) in
+        let paths : r ≡ p = paths_apart via d x top r p n m there here (sym path) in
         let modules : Some n ≡ Some m = sym there ∙ ap (module_at d top) paths ∙ here in
         let one : n ≡ m = cc in
-        let identifiers : l ≡ k = texts_apart m (names_at_path d x top p m here) l k (subst (λ y. In l (module_identifiers y)) one inside) within (ap (λ y. identifier_text y l) (sym one) ∙ sym name) in
+        let identifiers : l ≡ k = texts_apart m (names_at_path via d x top p m here) l k (subst (λ y. In l (module_identifiers y)) one inside) within (ap (λ y. identifier_text y l) (sym one) ∙ sym name) in
         ap₂ (λ q (y : Module). ρ (at q (shown_ref y l))) paths one ∙ ap (λ y. ρ (at p (shown_ref m y))) identifiers
 
   -- what holds of owned and of unowned nets holds of all
   pub by_owner_of : (P : VNet → Type 0) → ((p : Path) (m : Module) → module_at d top p ≡ Some m → (k : Identifier) → In k (module_identifiers m) → P (vnet (vpath_of d top p) (identifier_text m k)))
-      → ((v : VNet) → drive (tree_of d) (symbol_name d top) v ≡ nothing → ((ρ : Net → Word) → to ρ v ≡ []) → P v) → (v : VNet) → P v
+      → ((v : VNet) → drive (tree_of via d) (symbol_name d top) v ≡ nothing → ((ρ : Net → Word) → to ρ v ≡ []) → P v) → (v : VNet) → P v
   unfolding to to_of
   by_owner_of P owned free v = go (whose v) (λ ρ. refl) where
     go : (w : Whose v) → ((ρ : Net → Word) → to ρ v ≡ to_of ρ v w) → P v

@@ -15,6 +15,7 @@ use Rattle.hw_model.proofs.Finite.{path_chain}
 use Rattle.hw_model.proofs.Content.{before_position}
 use Rattle.verilog_model.specs.Tree.{VModule}
 use Rattle.verilog_model.specs.Hierarchy.{VPath, VInstance, vmodule_at, find_instance, find_vmodule}
+use Rattle.lowering_options.specs.declared.lowering.Lowering.{Lowering}
 use Rattle.export_verilog.specs.Identifiers.{Identifier, emission_of, module_identifiers, identifier_text}
 use Rattle.export_verilog.specs.Identifiers.Identifier.{instance_identifier}
 use Rattle.export_verilog.specs.Identifiers.Emission.{as_instance}
@@ -78,7 +79,7 @@ abbrev pub vpath_of : Design → Name → Path → VPath
 vpath_of d top [] = []
 vpath_of d top (u ∷ p) = step_name (module_at d top p) u ∷ vpath_of d top p
 
-module _ (d : Design) (x : Setting d) (top : Name) where
+module _ (via : Lowering) (d : Design) (x : Setting d) (top : Name) where
   pub symbol_at_path : (p : Path) (m : Module) → module_at d top p ≡ Some m → (s : Name) × (find_module d s ≡ Some m)
   symbol_at_path p m here = let h = path_chain d top p m here in (h.0, h.2)
 
@@ -135,24 +136,25 @@ module _ (d : Design) (x : Setting d) (top : Name) where
       ∙ ap (λ i. identifier_text f.outer (instance_identifier i) ∷ vpath_of d top p) f.is_position
 
   instance_there : (m : Module) (are : AreNames m) (i : ℕ) (o : Op) (c : Called d m o) → slice_get m.body i ≡ Some o → emission_of m.ports m.body i o ≡ as_instance
-      → find_instance (vitems d m) (identifier_text m (instance_identifier i)) ≡ Some (instance_of_kind d m i o c.kind)
+      → find_instance (vitems via d m) (identifier_text m (instance_identifier i)) ≡ Some (instance_of_kind via d m i o c.kind)
   instance_there m are i o c there emission =
-      instance_under d m are (instance_identifier i) (instance_in_identifiers m i o there emission)
-      ∙ ap (λ z. option_and_then (λ (o : Op). option_map (instance_of_kind d m i o) (instance_in o.kind)) z) there
-      ∙ ap (option_map (instance_of_kind d m i o)) c.is_kind
+      instance_under via d m are (instance_identifier i) (instance_in_identifiers m i o there emission)
+      ∙ ap (λ z. option_and_then (λ (o : Op). option_map (instance_of_kind via d m i o) (instance_in o.kind)) z) there
+      ∙ ap (option_map (instance_of_kind via d m i o)) c.is_kind
 
   -- what stands at the end of a path of the tree
-  pub vposition : (p : Path) (m : Module) → module_at d top p ≡ Some m → vmodule_at (tree_of d) (symbol_name d top) (vpath_of d top p) ≡ Some (vmodule d m)
-  vposition [] m here = vmodule_found d x.ok x.symbols top m here
+  pub vposition : (p : Path) (m : Module) → module_at d top p ≡ Some m → vmodule_at (tree_of via d) (symbol_name d top) (vpath_of d top p) ≡ Some (vmodule via d m)
+  vposition [] m here = vmodule_found d x.ok x.symbols via top m here
   vposition (u ∷ p) m here = step (further u p m here) (λ o h. vposition p o h) where
-    step : Further p u m → ((o : Module) → module_at d top p ≡ Some o → vmodule_at (tree_of d) (symbol_name d top) (vpath_of d top p) ≡ Some (vmodule d o))
-        → vmodule_at (tree_of d) (symbol_name d top) (vpath_of d top (u ∷ p)) ≡ Some (vmodule d m)
+    step : Further p u m → ((o : Module) → module_at d top p ≡ Some o → vmodule_at (tree_of via d) (symbol_name d top) (vpath_of d top p) ≡ Some (vmodule via d o))
+        → vmodule_at (tree_of via d) (symbol_name d top) (vpath_of d top (u ∷ p)) ≡ Some (vmodule via d m)
     step f rest =
-        ap (vmodule_at (tree_of d) (symbol_name d top)) (name_of_step u p m f)
-        ∙ ap (λ z. option_and_then (λ (v : VModule). option_and_then (λ (i : VInstance). find_vmodule (tree_of d) i.module_name) (find_instance v.items (identifier_text f.outer (instance_identifier f.position)))) z) (rest f.outer f.here)
-        ∙ ap (λ z. option_and_then (λ (i : VInstance). find_vmodule (tree_of d) i.module_name) z) (instance_there f.outer (names_at_path p f.outer f.here) f.position f.op f.called f.there f.emission)
-        ∙ vmodule_found d x.ok x.symbols f.called.kind.symbol f.called.module_of f.called.there
-        ∙ ap (λ y. Some (vmodule d y)) f.inside
+        ap (vmodule_at (tree_of via d) (symbol_name d top)) (name_of_step u p m f)
+        ∙ ap (λ z. option_and_then (λ (v : VModule). option_and_then (λ (i : VInstance). find_vmodule (tree_of via d) i.module_name)
+        (find_instance v.items (identifier_text f.outer (instance_identifier f.position)))) z) (rest f.outer f.here)
+        ∙ ap (λ z. option_and_then (λ (i : VInstance). find_vmodule (tree_of via d) i.module_name) z) (instance_there f.outer (names_at_path p f.outer f.here) f.position f.op f.called f.there f.emission)
+        ∙ vmodule_found d x.ok x.symbols via f.called.kind.symbol f.called.module_of f.called.there
+        ∙ ap (λ y. Some (vmodule via d y)) f.inside
 
   -- an instance leads on
   pub inside_instance : (p : Path) (m : Module) → module_at d top p ≡ Some m → (i : ℕ) (o : Op) (c : Called d m o) → slice_get m.body i ≡ Some o
@@ -181,7 +183,8 @@ module _ (d : Design) (x : Setting d) (top : Name) where
         let modules : f.outer ≡ g.outer = cc in
         let heads : identifier_text f.outer (instance_identifier f.position) ≡ identifier_text g.outer (instance_identifier g.position) = cc in
         let texts : identifier_text f.outer (instance_identifier f.position) ≡ identifier_text f.outer (instance_identifier g.position) = heads ∙ ap (λ y. identifier_text y (instance_identifier g.position)) (sym modules) in
-        let gin : In (instance_identifier g.position) (module_identifiers f.outer) = subst (λ y. In (instance_identifier g.position) (module_identifiers y)) (sym modules) (instance_in_identifiers g.outer g.position g.op g.there g.emission) in
+        let gin : In (instance_identifier g.position) (module_identifiers f.outer) = subst (λ y. In (instance_identifier g.position) (module_identifiers y)) (sym modules)
+        (instance_in_identifiers g.outer g.position g.op g.there g.emission) in
         let identifiers : instance_identifier f.position ≡ instance_identifier g.position =
         texts_apart f.outer (names_at_path p f.outer f.here) (instance_identifier f.position) (instance_identifier g.position) (instance_in_identifiers f.outer f.position f.op f.there f.emission) gin texts in
         let positions : f.position ≡ g.position = cc in
@@ -191,21 +194,21 @@ module _ (d : Design) (x : Setting d) (top : Name) where
   -- a path of the tree is that of a path of the design, or leads nowhere
   pub data PathOf (q : VPath) : Type 0 where
     a_path : (p : Path) (m : Module) → module_at d top p ≡ Some m → vpath_of d top p ≡ q → PathOf q
-    no_path : vmodule_at (tree_of d) (symbol_name d top) q ≡ None → PathOf q
+    no_path : vmodule_at (tree_of via d) (symbol_name d top) q ≡ None → PathOf q
 
   module _ (m0 : Module) (top_is : find_module d top ≡ Some m0) where
     pub path_of : (q : VPath) → PathOf q
     path_of [] = a_path [] m0 top_is refl
     path_of (n ∷ q) = go (path_of q) where
       go : PathOf q → PathOf (n ∷ q)
-      go (no_path none) = no_path (ap (λ z. option_and_then (λ (v : VModule). option_and_then (λ (i : VInstance). find_vmodule (tree_of d) i.module_name) (find_instance v.items n)) z) none)
+      go (no_path none) = no_path (ap (λ z. option_and_then (λ (v : VModule). option_and_then (λ (i : VInstance). find_vmodule (tree_of via d) i.module_name) (find_instance v.items n)) z) none)
       go (a_path p m here same) = by_identifier (identifier_of_name m n (module_identifiers m)) where
-        at : vmodule_at (tree_of d) (symbol_name d top) q ≡ Some (vmodule d m)
-        at = ap (vmodule_at (tree_of d) (symbol_name d top)) (sym same) ∙ vposition p m here
+        at : vmodule_at (tree_of via d) (symbol_name d top) q ≡ Some (vmodule via d m)
+        at = ap (vmodule_at (tree_of via d) (symbol_name d top)) (sym same) ∙ vposition p m here
 
-        nowhere : find_instance (vitems d m) n ≡ None → PathOf (n ∷ q)
-        nowhere none = no_path (ap (λ z. option_and_then (λ (v : VModule). option_and_then (λ (i : VInstance). find_vmodule (tree_of d) i.module_name) (find_instance v.items n)) z) at
-            ∙ ap (λ z. option_and_then (λ (i : VInstance). find_vmodule (tree_of d) i.module_name) z) none)
+        nowhere : find_instance (vitems via d m) n ≡ None → PathOf (n ∷ q)
+        nowhere none = no_path (ap (λ z. option_and_then (λ (v : VModule). option_and_then (λ (i : VInstance). find_vmodule (tree_of via d) i.module_name) (find_instance v.items n)) z) at
+            ∙ ap (λ z. option_and_then (λ (i : VInstance). find_vmodule (tree_of via d) i.module_name) z) none)
 
         by_owner : (k : Identifier) → In k (module_identifiers m) → n ≡ identifier_text m k → Owner m k → PathOf (n ∷ q)
         by_owner k within is (an_instance i o there emission same_identifier) =
@@ -215,14 +218,14 @@ module _ (d : Design) (x : Setting d) (top : Name) where
             a_path (number_of m.body i ∷ p) c.module_of inside.0
             (inside.1 ∙ ap₂ (λ a b. a ∷ b) (ap (identifier_text m) (sym same_identifier) ∙ sym is) same)
         by_owner k within is (a_port j y there same_identifier) =
-            nowhere (ap (find_instance (vitems d m)) is ∙ instance_under d m (names_at_path p m here) k within ∙ ap (instance_value d m) same_identifier)
+            nowhere (ap (find_instance (vitems via d m)) is ∙ instance_under via d m (names_at_path p m here) k within ∙ ap (instance_value via d m) same_identifier)
         by_owner k within is (a_net i o there emission same_identifier) =
-            nowhere (ap (find_instance (vitems d m)) is ∙ instance_under d m (names_at_path p m here) k within ∙ ap (instance_value d m) same_identifier)
+            nowhere (ap (find_instance (vitems via d m)) is ∙ instance_under via d m (names_at_path p m here) k within ∙ ap (instance_value via d m) same_identifier)
         by_owner k within is (a_variable i o there emission same_identifier) =
-            nowhere (ap (find_instance (vitems d m)) is ∙ instance_under d m (names_at_path p m here) k within ∙ ap (instance_value d m) same_identifier)
+            nowhere (ap (find_instance (vitems via d m)) is ∙ instance_under via d m (names_at_path p m here) k within ∙ ap (instance_value via d m) same_identifier)
         by_owner k within is (a_result i l o r there emission found same_identifier) =
-            nowhere (ap (find_instance (vitems d m)) is ∙ instance_under d m (names_at_path p m here) k within ∙ ap (instance_value d m) same_identifier)
+            nowhere (ap (find_instance (vitems via d m)) is ∙ instance_under via d m (names_at_path p m here) k within ∙ ap (instance_value via d m) same_identifier)
 
         by_identifier : ((k : Identifier) × In k (module_identifiers m) × (n ≡ identifier_text m k)) ⊎ ((k : Identifier) → In k (module_identifiers m) → n ≡ identifier_text m k → ⊥) → PathOf (n ∷ q)
         by_identifier (inl h) = by_owner h.0 h.1 h.2 (owner_of m h.0 h.1)
-        by_identifier (inr never) = nowhere (no_instance_under d m (names_at_path p m here) n never)
+        by_identifier (inr never) = nowhere (no_instance_under via d m (names_at_path p m here) n never)

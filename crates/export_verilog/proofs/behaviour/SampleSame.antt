@@ -18,6 +18,7 @@ use Rattle.hw_model.proofs.Samples.{operation}
 use Rattle.verilog_model.specs.Meaning.{tree_machine}
 use Rattle.verilog_expr.specs.Expressions.{value_width}
 use Rattle.verilog_expr.specs.Spilling.{spilled, height}
+use Rattle.lowering_options.specs.declared.lowering.Lowering.{Lowering}
 use Rattle.export_verilog.specs.Identifiers.{module_identifiers}
 use Rattle.export_verilog.specs.Exported.{symbol_name, tree_of}
 use Rattle.export_verilog.specs.Exportable.{IsClocked, IsExportableOp, IsExportableModule, IsExportable}
@@ -277,5 +278,5 @@ register_is_exportable = record {
     each_module zero m is = subst IsExportableModule (let e : register_module ≡ m = cc in e) module_exportable
     each_module (suc n) m is = cc
 
-pub register_behaves_the_same : Same (machine one_register (codes "Reg")) (tree_machine (tree_of one_register) (symbol_name one_register (codes "Reg")))
-register_behaves_the_same = exported_same one_register register_is_exportable 0 register_module refl
+pub register_behaves_the_same : (via : Lowering) → Same (machine one_register (codes "Reg")) (tree_machine (tree_of via one_register) (symbol_name one_register (codes "Reg")))
+register_behaves_the_same via = exported_same via one_register register_is_exportable 0 register_module refl

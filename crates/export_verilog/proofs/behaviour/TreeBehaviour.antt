@@ -14,6 +14,7 @@ use Rattle.hw_model.proofs.Finite.{settles_without_cycle}
 use Rattle.verilog_model.specs.Tree.{VPort}
 use Rattle.verilog_model.specs.Hierarchy.{VNet, vnet, vports_of, vregisters}
 use Rattle.verilog_model.specs.Meaning.{tree_machine, tree_outputs, output_ports}
+use Rattle.lowering_options.specs.declared.lowering.Lowering.{Lowering}
 use Rattle.export_verilog.specs.Identifiers.{each, identifier_text}
 use Rattle.export_verilog.specs.Identifiers.Identifier.{port_identifier}
 use Rattle.export_verilog.specs.Exported.{symbol_name, vport, tree_of}
@@ -61,49 +62,49 @@ outputs_show σ ρ m type_of j (y ∷ ps) rs typed shows =
       go false out zs same later first rest =
           rest zs same (λ a z s there o gives. later a z s there o (ap (λ b. slice_get zs (cond b (suc (output_count (take a ps))) (output_count (take a ps)))) out ∙ gives))
 
-module _ (d : Design) (x : Setting d) (top : Name) (m0 : Module) (top_is : find_module d top ≡ Some m0) where
+module _ (via : Lowering) (d : Design) (x : Setting d) (top : Name) (m0 : Module) (top_is : find_module d top ≡ Some m0) where
   abbrev over : (Net → Word) → VNet → Word
-  over ρ = to d x top m0 top_is ρ
+  over ρ = to via d x top m0 top_is ρ
 
-  outputs_same : (ρ : Net → Word) → tree_outputs (tree_of d) (symbol_name d top) (over ρ) ≡ outputs d top ρ
+  outputs_same : (ρ : Net → Word) → tree_outputs (tree_of via d) (symbol_name d top) (over ρ) ≡ outputs d top ρ
   outputs_same ρ =
-      ap (λ v. concat_words (map (λ (p : VPort). over ρ (vnet [] p.name)) (output_ports (vports_of v)))) (vmodule_found d x.ok x.symbols top m0 top_is)
+      ap (λ v. concat_words (map (λ (p : VPort). over ρ (vnet [] p.name)) (output_ports (vports_of v)))) (vmodule_found d x.ok x.symbols via top m0 top_is)
       ∙ ap concat_words (outputs_show (over ρ) ρ m0 (type_in m0.ports m0.body) 0 m0.ports (output_refs m0.body) (module_sound d x top m0 top_is).outputs shows)
       ∙ sym (ap (λ o. concat_words (map (λ r. ρ (at [] r)) (outputs_of o))) top_is) where
         shows : (a : ℕ) (y : Port) (r : Ref) → slice_get m0.ports a ≡ Some y → y.is_output ≡ true → slice_get (output_refs m0.body) (output_count (take a m0.ports)) ≡ Some r
             → over ρ (vnet [] (identifier_text m0 (port_identifier (0 + a)))) ≡ ρ (at [] r)
         shows a y r there out gives =
             ap (λ n. over ρ (vnet [] (identifier_text m0 (port_identifier n)))) (zero-add a)
-            ∙ to_identifier d x top m0 top_is ρ [] m0 top_is (port_identifier a) (port_in m0 a y there)
-            ∙ ap (λ z. ρ (at [] z)) (output_shows d x top m0 top_is m0 a y r there out gives)
+            ∙ to_identifier via d x top m0 top_is ρ [] m0 top_is (port_identifier a) (port_in m0 a y there)
+            ∙ ap (λ z. ρ (at [] z)) (output_shows via d x top m0 top_is m0 a y r there out gives)
 
   design_settles : AlwaysSettles (machine d top)
   design_settles inputs content = settles_without_cycle d top x.ok.finite (x.ok.acyclic top) inputs content
 
-  tree_settles : AlwaysSettles (tree_machine (tree_of d) (symbol_name d top))
+  tree_settles : AlwaysSettles (tree_machine (tree_of via d) (symbol_name d top))
   tree_settles inputs content =
       let mine : Net → Word = (design_settles inputs content).0 in (
         over mine,
-        over_settled d x top inputs content m0 top_is mine (design_settles inputs content).1,
+        over_settled via d x top inputs content m0 top_is mine (design_settles inputs content).1,
         λ σ settled v.
-            let same : back d x top inputs content m0 top_is σ ≡ mine =
-            fun_ext ((design_settles inputs content).2 (back d x top inputs content m0 top_is σ) (back_settled d x top inputs content m0 top_is σ settled)) in
-            sym (round d x top inputs content m0 top_is σ settled v) ∙ ap (λ ρ. over ρ v) same,
+            let same : back via d x top inputs content m0 top_is σ ≡ mine =
+            fun_ext ((design_settles inputs content).2 (back via d x top inputs content m0 top_is σ) (back_settled via d x top inputs content m0 top_is σ settled)) in
+            sym (round via d x top inputs content m0 top_is σ settled v) ∙ ap (λ ρ. over ρ v) same,
       )
 
-  carries : Carries (machine d top) (tree_machine (tree_of d) (symbol_name d top)) over
+  carries : Carries (machine d top) (tree_machine (tree_of via d) (symbol_name d top)) over
   carries = record {
-    settled = λ inputs content ρ settled. over_settled d x top inputs content m0 top_is ρ settled;
+    settled = λ inputs content ρ settled. over_settled via d x top inputs content m0 top_is ρ settled;
     outputs = λ inputs content ρ settled. outputs_same ρ;
     next = λ inputs content ρ settled.
-        next_is d x top inputs content m0 top_is ρ settled (registers d top) (vregisters (tree_of d) (symbol_name d top)) (are_slots d x top m0 top_is) content;
+        next_is via d x top inputs content m0 top_is ρ settled (registers d top) (vregisters (tree_of via d) (symbol_name d top)) (are_slots via d x top m0 top_is) content;
     rising = λ before inputs content ρ σ settled settled'.
-        risen_is d x top m0 top_is before inputs content ρ σ settled settled' (registers d top) (vregisters (tree_of d) (symbol_name d top)) (are_slots d x top m0 top_is) content;
+        risen_is via d x top m0 top_is before inputs content ρ σ settled settled' (registers d top) (vregisters (tree_of via d) (symbol_name d top)) (are_slots via d x top m0 top_is) content;
   }
 
-  pub module_same : Same (machine d top) (tree_machine (tree_of d) (symbol_name d top))
-  module_same = same_forth (machine d top) (tree_machine (tree_of d) (symbol_name d top)) over (sym (state_is d x top m0 top_is)) design_settles tree_settles carries
+  pub module_same : Same (machine d top) (tree_machine (tree_of via d) (symbol_name d top))
+  module_same = same_forth (machine d top) (tree_machine (tree_of via d) (symbol_name d top)) over (sym (state_is via d x top m0 top_is)) design_settles tree_settles carries
 
 -- each module of the tree behaves as the module of the design
-pub exported_same_by : (d : Design) → Setting d → (n : ℕ) (m : Module) → slice_get d n ≡ Some m → Same (machine d m.symbol) (tree_machine (tree_of d) (symbol_name d m.symbol))
-exported_same_by d x n m there = module_same d x m.symbol m (module_at_position d x.ok n m there)
+pub exported_same_by : (via : Lowering) (d : Design) → Setting d → (n : ℕ) (m : Module) → slice_get d n ≡ Some m → Same (machine d m.symbol) (tree_machine (tree_of via d) (symbol_name d m.symbol))
+exported_same_by via d x n m there = module_same via d x m.symbol m (module_at_position d x.ok n m there)

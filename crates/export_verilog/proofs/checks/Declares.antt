@@ -10,6 +10,8 @@ use Rattle.verilog_model.specs.Tree.{Item}
 use Rattle.verilog_model.specs.Tree.Item.{assign}
 use Rattle.verilog_model.specs.Checks.{is_identifier, all_identifiers, names_check, are_distinct, Declared, declared_by, declared_ports, declared_items, declared_in}
 use Rattle.verilog_model.proofs.Numerals.{and_intro}
+use Rattle.lowering_options.specs.declared.lowering.Lowering.{Lowering}
+use Rattle.export_verilog.specs.Lowerings.{load_place}
 use Rattle.export_verilog.specs.Identifiers.{Identifier, Emission, each, emission_of, result_identifiers, identifier_text, module_identifiers}
 use Rattle.export_verilog.specs.Identifiers.Identifier.{port_identifier, value_identifier, instance_identifier}
 use Rattle.export_verilog.specs.Identifiers.Emission.{inline, as_wire, as_reg, as_instance}
@@ -37,7 +39,7 @@ block_identifiers as_wire i o = []
 block_identifiers as_reg i o = []
 block_identifiers as_instance i o = instance_identifier i ∷ []
 
-module _ (m : Module) where
+module _ (via : Lowering) (m : Module) where
   abbrev pub op_wires : ℕ → Op → List Identifier
   op_wires i o = wire_identifiers (emission_of m.ports m.body i o) i o
 
@@ -80,25 +82,25 @@ module _ (m : Module) where
     go as_reg = refl
     go as_instance = result_names i 0 o.results
 
-  block_names : (d : Design) (i : ℕ) (o : Op) → names_of (states d m i o) ≡ map (identifier_text m) (op_blocks i o)
+  block_names : (d : Design) (i : ℕ) (o : Op) → names_of (states via d m i o) ≡ map (identifier_text m) (op_blocks i o)
   unfolding names_of name_of_declared
   block_names d i o = go (emission_of m.ports m.body i o) refl where
-    in_always : (q : Name) (a : Option ResetBy) (r : Option Register) → names_of (always_of m q a r) ≡ []
+    in_always : (q : Name) (a : Option ResetBy) (r : Option Register) → names_of (always_of via m q a r) ≡ []
     in_always q a None = refl
     in_always q a (Some r) = refl
 
-    go : (r : Emission) → emission_of m.ports m.body i o ≡ r → names_of (stated_as d m i o r) ≡ map (identifier_text m) (block_identifiers r i o)
+    go : (r : Emission) → emission_of m.ports m.body i o ≡ r → names_of (stated_as via d m i o r) ≡ map (identifier_text m) (block_identifiers r i o)
     go inline e = refl
     go as_wire e = refl
     go as_reg e = in_always (identifier_text m (value_identifier i 0)) (async_reset_in o) (register_in o)
-    go as_instance e = ap (λ z. names_of (instance_of d m i o z)) (instance_of_emission m.ports m.body i o e).2
+    go as_instance e = ap (λ z. names_of (instance_of via d m i o z)) (instance_of_emission m.ports m.body i o e).2
 
-  output_names : (j : ℕ) (ps : List Port) (rs : List Ref) → names_of (output_assigns m j ps rs) ≡ []
+  output_names : (j : ℕ) (ps : List Port) (rs : List Ref) → names_of (output_assigns via m j ps rs) ≡ []
   unfolding names_of
   output_names j [] rs = refl
   output_names j (p ∷ ps) rs = go p.is_output (output_names (suc j) ps (others rs)) (output_names (suc j) ps rs) where
-    go : (b : Bool) → names_of (output_assigns m (suc j) ps (others rs)) ≡ [] → names_of (output_assigns m (suc j) ps rs) ≡ []
-        → names_of (cond b (assign (identifier_text m (port_identifier j)) (expr_or_none (expression m) rs) ∷ output_assigns m (suc j) ps (others rs)) (output_assigns m (suc j) ps rs)) ≡ []
+    go : (b : Bool) → names_of (output_assigns via m (suc j) ps (others rs)) ≡ [] → names_of (output_assigns via m (suc j) ps rs) ≡ []
+        → names_of (cond b (assign (identifier_text m (port_identifier j)) (expr_or_none (expression m (load_place via)) rs) ∷ output_assigns via m (suc j) ps (others rs)) (output_assigns via m (suc j) ps rs)) ≡ []
     go true u v = u
     go false u v = v
 
@@ -107,15 +109,15 @@ module _ (m : Module) where
   port_names j [] = refl
   port_names j (p ∷ ps) = ap (λ z. identifier_text m (port_identifier j) ∷ z) (port_names (suc j) ps)
 
-  pub declared_names : (d : Design) → map (λ (y : Declared). y.name) (declared_in (vmodule d m)) ≡ map (identifier_text m) declared_identifiers
+  pub declared_names : (d : Design) → map (λ (y : Declared). y.name) (declared_in (vmodule via d m)) ≡ map (identifier_text m) declared_identifiers
   unfolding names_of name_of_declared
   declared_names d =
-      map-append name_of_declared (declared_ports (vports m)) (declared_items (vitems d m))
+      map-append name_of_declared (declared_ports (vports m)) (declared_items (vitems via d m))
       ∙ ap₂ (λ a b. a ++ b) (port_names 0 m.ports)
-      (names_joined (each (declares m) 0 m.body) (each (states d m) 0 m.body ++ output_assigns m 0 m.ports (output_refs m.body))
+      (names_joined (each (declares m) 0 m.body) (each (states via d m) 0 m.body ++ output_assigns via m 0 m.ports (output_refs m.body))
       ∙ ap₂ (λ a b. a ++ b) (names_each (declares m) op_wires 0 m.body wire_names)
-      (names_joined (each (states d m) 0 m.body) (output_assigns m 0 m.ports (output_refs m.body))
-      ∙ ap₂ (λ a b. a ++ b) (names_each (states d m) op_blocks 0 m.body (block_names d)) (output_names 0 m.ports (output_refs m.body))
+      (names_joined (each (states via d m) 0 m.body) (output_assigns via m 0 m.ports (output_refs m.body))
+      ∙ ap₂ (λ a b. a ++ b) (names_each (states via d m) op_blocks 0 m.body (block_names d)) (output_names 0 m.ports (output_refs m.body))
       ∙ append-nil (map (identifier_text m) (each op_blocks 0 m.body)))
       ∙ sym (map-append (identifier_text m) (each op_wires 0 m.body) (each op_blocks 0 m.body)))
       ∙ sym (map-append (identifier_text m) (port_identifiers_from 0 m.ports) (each op_wires 0 m.body ++ each op_blocks 0 m.body))
@@ -153,8 +155,8 @@ result_identifiers_apart i k (r ∷ rs) = ((λ h. let e = result_identifiers_abo
   clash : (n : ℕ) → value_identifier i k ≡ value_identifier i (suc k + n) → ⊥
   clash n e = let f : k ≡ suc k + n = cc in omega (arith, f)
 
-module _ (m : Module) where
-  pub wires_placed : (i : ℕ) (o : Op) (k : Identifier) → In k (op_wires m i o) → identifier_position k ≡ i
+module _ (via : Lowering) (m : Module) where
+  pub wires_placed : (i : ℕ) (o : Op) (k : Identifier) → In k (op_wires via m i o) → identifier_position k ≡ i
   unfolding identifier_position
   wires_placed i o k here = go (emission_of m.ports m.body i o) here where
     single : In k (value_identifier i 0 ∷ []) → identifier_position k ≡ i
@@ -167,7 +169,7 @@ module _ (m : Module) where
     go as_reg h = single h
     go as_instance h = ap identifier_position (result_identifiers_above i 0 o.results k h).1
 
-  pub wires_apart : (i : ℕ) (o : Op) → AreApart (op_wires m i o)
+  pub wires_apart : (i : ℕ) (o : Op) → AreApart (op_wires via m i o)
   wires_apart i o = go (emission_of m.ports m.body i o) where
     go : (r : Emission) → AreApart (wire_identifiers r i o)
     go inline = tt
@@ -175,7 +177,7 @@ module _ (m : Module) where
     go as_reg = ((λ h. h), tt)
     go as_instance = result_identifiers_apart i 0 o.results
 
-  blocks_placed : (i : ℕ) (o : Op) (k : Identifier) → In k (op_blocks m i o) → (k ≡ instance_identifier i) × (identifier_position k ≡ i)
+  blocks_placed : (i : ℕ) (o : Op) (k : Identifier) → In k (op_blocks via m i o) → (k ≡ instance_identifier i) × (identifier_position k ≡ i)
   unfolding identifier_position
   blocks_placed i o k here = go (emission_of m.ports m.body i o) here where
     go : (r : Emission) → In k (block_identifiers r i o) → (k ≡ instance_identifier i) × (identifier_position k ≡ i)
@@ -185,7 +187,7 @@ module _ (m : Module) where
     go as_instance (inl e) = (e, ap identifier_position e)
     go as_instance (inr never) = absurd never
 
-  blocks_apart : (i : ℕ) (o : Op) → AreApart (op_blocks m i o)
+  blocks_apart : (i : ℕ) (o : Op) → AreApart (op_blocks via m i o)
   blocks_apart i o = go (emission_of m.ports m.body i o) where
     go : (r : Emission) → AreApart (block_identifiers r i o)
     go inline = tt
@@ -194,8 +196,8 @@ module _ (m : Module) where
     go as_instance = ((λ h. h), tt)
 
   -- a wire's key is a value's, and a block's an instance's
-  pub wire_kind : (k : Identifier) → In k (each (op_wires m) 0 m.body) → (i n : ℕ) × (k ≡ value_identifier i n)
-  wire_kind k here = let e = from_each (op_wires m) m.body k here in go e.0 e.1 (emission_of m.ports m.body e.0 e.1) e.3 where
+  pub wire_kind : (k : Identifier) → In k (each (op_wires via m) 0 m.body) → (i n : ℕ) × (k ≡ value_identifier i n)
+  wire_kind k here = let e = from_each (op_wires via m) m.body k here in go e.0 e.1 (emission_of m.ports m.body e.0 e.1) e.3 where
     single : (i : ℕ) → In k (value_identifier i 0 ∷ []) → (j n : ℕ) × (k ≡ value_identifier j n)
     single i (inl e) = (i, 0, e)
     single i (inr never) = absurd never
@@ -206,19 +208,19 @@ module _ (m : Module) where
     go i o as_reg h = single i h
     go i o as_instance h = let e = result_identifiers_above i 0 o.results k h in (i, 0 + e.0, e.1)
 
-  pub block_kind : (k : Identifier) → In k (each (op_blocks m) 0 m.body) → (i : ℕ) × (k ≡ instance_identifier i)
-  block_kind k here = let e = from_each (op_blocks m) m.body k here in (e.0, (blocks_placed e.0 e.1 k e.3).0)
+  pub block_kind : (k : Identifier) → In k (each (op_blocks via m) 0 m.body) → (i : ℕ) × (k ≡ instance_identifier i)
+  block_kind k here = let e = from_each (op_blocks via m) m.body k here in (e.0, (blocks_placed e.0 e.1 k e.3).0)
 
   pub port_kind : (k : Identifier) → In k (port_identifiers_from 0 m.ports) → (j : ℕ) × (k ≡ port_identifier j)
   port_kind k here = let e = port_identifiers_above 0 m.ports k here in (0 + e.0, e.3)
 
-  pub declared_apart : AreApart (declared_identifiers m)
+  pub declared_apart : AreApart (declared_identifiers via m)
   declared_apart =
-      joined_apart (port_identifiers_from 0 m.ports) (each (op_wires m) 0 m.body ++ each (op_blocks m) 0 m.body) (port_identifiers_apart 0 m.ports)
-      (joined_apart (each (op_wires m) 0 m.body) (each (op_blocks m) 0 m.body) (each_apart (op_wires m) wires_placed wires_apart 0 m.body)
-      (each_apart (op_blocks m) (λ i o k h. (blocks_placed i o k h).1) blocks_apart 0 m.body)
+      joined_apart (port_identifiers_from 0 m.ports) (each (op_wires via m) 0 m.body ++ each (op_blocks via m) 0 m.body) (port_identifiers_apart 0 m.ports)
+      (joined_apart (each (op_wires via m) 0 m.body) (each (op_blocks via m) 0 m.body) (each_apart (op_wires via m) wires_placed wires_apart 0 m.body)
+      (each_apart (op_blocks via m) (λ i o k h. (blocks_placed i o k h).1) blocks_apart 0 m.body)
       (λ k u v. let a = wire_kind k u in let b = block_kind k v in value_instance a.0 a.1 b.0 (sym a.2 ∙ b.1)))
-      (λ k u v. let a = port_kind k u in go k a.0 a.1 (in_append k (each (op_wires m) 0 m.body) (each (op_blocks m) 0 m.body) v)) where
+      (λ k u v. let a = port_kind k u in go k a.0 a.1 (in_append k (each (op_wires via m) 0 m.body) (each (op_blocks via m) 0 m.body) v)) where
         value_instance : (i n j : ℕ) → value_identifier i n ≡ instance_identifier j → ⊥
         value_instance i n j e = cc
 
@@ -228,12 +230,12 @@ module _ (m : Module) where
         port_instance : (j i : ℕ) → port_identifier j ≡ instance_identifier i → ⊥
         port_instance j i e = cc
 
-        go : (k : Identifier) (j : ℕ) → k ≡ port_identifier j → In k (each (op_wires m) 0 m.body) ⊎ In k (each (op_blocks m) 0 m.body) → ⊥
+        go : (k : Identifier) (j : ℕ) → k ≡ port_identifier j → In k (each (op_wires via m) 0 m.body) ⊎ In k (each (op_blocks via m) 0 m.body) → ⊥
         go k j e (inl h) = let b = wire_kind k h in port_value j b.0 b.1 (sym e ∙ b.2)
         go k j e (inr h) = let b = block_kind k h in port_instance j b.0 (sym e ∙ b.1)
 
-  pub declared_within : (k : Identifier) → In k (declared_identifiers m) → In k (module_identifiers m)
-  declared_within k here = go (in_append k (port_identifiers_from 0 m.ports) (each (op_wires m) 0 m.body ++ each (op_blocks m) 0 m.body) here) where
+  pub declared_within : (k : Identifier) → In k (declared_identifiers via m) → In k (module_identifiers m)
+  declared_within k here = go (in_append k (port_identifiers_from 0 m.ports) (each (op_wires via m) 0 m.body ++ each (op_blocks via m) 0 m.body) here) where
     of_wire : (i : ℕ) (o : Op) → slice_get m.body i ≡ Some o → (r : Emission) → emission_of m.ports m.body i o ≡ r → In k (wire_identifiers r i o) → In k (module_identifiers m)
     of_wire i o there inline emission h = absurd h
     of_wire i o there as_wire emission (inl e) = subst (λ z. In z (module_identifiers m)) (sym e) (net_in m i o there emission)
@@ -250,13 +252,13 @@ module _ (m : Module) where
     of_block i o there as_instance emission (inl e) = subst (λ z. In z (module_identifiers m)) (sym e) (instance_in_identifiers m i o there emission)
     of_block i o there as_instance emission (inr never) = absurd never
 
-    following : In k (each (op_wires m) 0 m.body) ⊎ In k (each (op_blocks m) 0 m.body) → In k (module_identifiers m)
-    following (inl h) = let e = from_each (op_wires m) m.body k h in of_wire e.0 e.1 e.2 (emission_of m.ports m.body e.0 e.1) refl e.3
-    following (inr h) = let e = from_each (op_blocks m) m.body k h in of_block e.0 e.1 e.2 (emission_of m.ports m.body e.0 e.1) refl e.3
+    following : In k (each (op_wires via m) 0 m.body) ⊎ In k (each (op_blocks via m) 0 m.body) → In k (module_identifiers m)
+    following (inl h) = let e = from_each (op_wires via m) m.body k h in of_wire e.0 e.1 e.2 (emission_of m.ports m.body e.0 e.1) refl e.3
+    following (inr h) = let e = from_each (op_blocks via m) m.body k h in of_block e.0 e.1 e.2 (emission_of m.ports m.body e.0 e.1) refl e.3
 
-    go : In k (port_identifiers_from 0 m.ports) ⊎ In k (each (op_wires m) 0 m.body ++ each (op_blocks m) 0 m.body) → In k (module_identifiers m)
+    go : In k (port_identifiers_from 0 m.ports) ⊎ In k (each (op_wires via m) 0 m.body ++ each (op_blocks via m) 0 m.body) → In k (module_identifiers m)
     go (inl h) = port_identifiers_within m k h
-    go (inr h) = following (in_append k (each (op_wires m) 0 m.body) (each (op_blocks m) 0 m.body) h)
+    go (inr h) = following (in_append k (each (op_wires via m) 0 m.body) (each (op_blocks via m) 0 m.body) h)
 
   identifiers_of : (are : AreNames m) (ks : List Identifier) → ((k : Identifier) → In k ks → In k (module_identifiers m)) → all_identifiers (map (identifier_text m) ks) ≡ true
   identifiers_of are [] within = refl
@@ -264,8 +266,8 @@ module _ (m : Module) where
       and_intro (is_identifier (identifier_text m k)) (all_identifiers (map (identifier_text m) ks)) (name_is_identifier m are k (identifier_text m k) (text_named m are k (within k (inl refl))))
       (identifiers_of are ks (λ l h. within l (inr h)))
 
-  pub names_are_checked : (d : Design) (are : AreNames m) → names_check (map (λ (y : Declared). y.name) (declared_in (vmodule d m))) ≡ true
+  pub names_are_checked : (d : Design) (are : AreNames m) → names_check (map (λ (y : Declared). y.name) (declared_in (vmodule via d m))) ≡ true
   names_are_checked d are =
-      ap names_check (declared_names m d)
-      ∙ and_intro (are_distinct (map (identifier_text m) (declared_identifiers m))) (all_identifiers (map (identifier_text m) (declared_identifiers m)))
-      (texts_distinct m are (declared_identifiers m) declared_within declared_apart) (identifiers_of are (declared_identifiers m) declared_within)
+      ap names_check (declared_names via m d)
+      ∙ and_intro (are_distinct (map (identifier_text m) (declared_identifiers via m))) (all_identifiers (map (identifier_text m) (declared_identifiers via m)))
+      (texts_distinct m are (declared_identifiers via m) declared_within declared_apart) (identifiers_of are (declared_identifiers via m) declared_within)

@@ -13,6 +13,8 @@ use Rattle.verilog_model.specs.Tree.Expr.{name}
 use Rattle.verilog_model.specs.Tree.Item.{assign, always}
 use Rattle.verilog_model.specs.Hierarchy.{find_vmodule, find_port, vports_of}
 use Rattle.verilog_model.specs.Checks.{outputs_joined, driver_count}
+use Rattle.lowering_options.specs.declared.lowering.Lowering.{Lowering}
+use Rattle.export_verilog.specs.Lowerings.{load_place, own_place}
 use Rattle.export_verilog.specs.Identifiers.{Identifier, Emission, same_identifier, value_name, name_or_nothing, each, emission_of, result_identifiers, identifier_text, module_identifiers}
 use Rattle.export_verilog.specs.Identifiers.Identifier.{port_identifier, value_identifier}
 use Rattle.export_verilog.specs.Identifiers.Emission.{inline, as_wire, as_reg, as_instance}
@@ -56,7 +58,7 @@ count_once k (a ∷ ks) apart here = go (same_identifier a k) refl here (count_o
   go false e (inl same) rest = let other : same_identifier a k ≡ true = ap (λ z. same_identifier z k) (sym same) ∙ identifier_self k in cc
   go false e (inr h) rest = let one : identifier_count k ks ≡ 1 = rest h in omega (arith, one)
 
-module _ (m : Module) (are : AreNames m) where
+module _ (via : Lowering) (m : Module) (are : AreNames m) where
   -- texts tell things apart as their keys do
   text_same : (a k : Identifier) → In a (module_identifiers m) → In k (module_identifiers m) → same_name (identifier_text m a) (identifier_text m k) ≡ same_identifier a k
   text_same a k here there = go (same_name (identifier_text m a) (identifier_text m k)) (same_identifier a k) refl refl where
@@ -67,9 +69,9 @@ module _ (m : Module) (are : AreNames m) where
         let other : same_identifier a k ≡ true = ap (λ z. same_identifier z k) same ∙ identifier_self k in cc
     go false true e f = let other : same_name (identifier_text m a) (identifier_text m k) ≡ true = ap (λ z. same_name (identifier_text m z) (identifier_text m k)) (identifier_from a k f) ∙ name_self (identifier_text m k) in cc
 
-module _ (d : Design) (x : Setting d) (s : Name) (m : Module) (is : find_module d s ≡ Some m) (k : Identifier) (here : In k (module_identifiers m)) where
+module _ (via : Lowering) (d : Design) (x : Setting d) (s : Name) (m : Module) (is : find_module d s ≡ Some m) (k : Identifier) (here : In k (module_identifiers m)) where
   abbrev t : Tree
-  t = tree_of d
+  t = tree_of via d
 
   are : AreNames m
   are = x.names s m is
@@ -128,7 +130,7 @@ module _ (d : Design) (x : Setting d) (s : Name) (m : Module) (is : find_module 
     go false rs e more_of same_of = same_of e
 
   joined_count : (i : ℕ) (c : Module) (names : AreNames c) (j l : ℕ) (ps : List Port) (rs : List Ref) → ((p : ℕ) → slice_get ps p ≡ slice_get c.ports (j + p))
-      → ((a : Identifier) → In a (out_identifiers i l ps) → In a (module_identifiers m)) → outputs_joined (identifier_text m k) (vports c) (connections_of c m i j l ps rs) ≡ identifier_count k (out_identifiers i l ps)
+      → ((a : Identifier) → In a (out_identifiers i l ps) → In a (module_identifiers m)) → outputs_joined (identifier_text m k) (vports c) (connections_of via c m i j l ps rs) ≡ identifier_count k (out_identifiers i l ps)
   joined_count i c names j l [] rs stands within = refl
   joined_count i c names j l (p ∷ ps) rs stands within =
       go p.is_output refl within (λ h. joined_count i c names (suc j) (suc l) ps rs later h) (λ h. joined_count i c names (suc j) l ps (others rs) later h) where
@@ -146,7 +148,7 @@ module _ (d : Design) (x : Setting d) (s : Name) (m : Module) (is : find_module 
 
         driven_head : p.is_output ≡ true → In (value_identifier i l) (module_identifiers m) → (cs : List Connection) → outputs_joined (identifier_text m k) (vports c) (head (name (identifier_text m (value_identifier i l))) ∷ cs)
             ≡ once_if (same_identifier (value_identifier i l) k) + outputs_joined (identifier_text m k) (vports c) cs
-        driven_head out in_identifiers cs = simp (port_here, out, text_same m are (value_identifier i l) k in_identifiers here) (by_identifier (same_identifier (value_identifier i l) k)) where
+        driven_head out in_identifiers cs = simp (port_here, out, text_same via m are (value_identifier i l) k in_identifiers here) (by_identifier (same_identifier (value_identifier i l) k)) where
           by_identifier : (b : Bool) → cond b (suc (outputs_joined (identifier_text m k) (vports c) cs)) (outputs_joined (identifier_text m k) (vports c) cs) ≡ once_if b + outputs_joined (identifier_text m k) (vports c) cs
           by_identifier true = omega arith
           by_identifier false = sym (zero-add (outputs_joined (identifier_text m k) (vports c) cs))
@@ -155,41 +157,42 @@ module _ (d : Design) (x : Setting d) (s : Name) (m : Module) (is : find_module 
         silent_head out e cs = simp (port_here, out) refl
 
         go : (b : Bool) → p.is_output ≡ b → ((a : Identifier) → In a (cond b (value_identifier i l ∷ out_identifiers i (suc l) ps) (out_identifiers i l ps)) → In a (module_identifiers m))
-            → (((a : Identifier) → In a (out_identifiers i (suc l) ps) → In a (module_identifiers m)) → outputs_joined (identifier_text m k) (vports c) (connections_of c m i (suc j) (suc l) ps rs)
+            → (((a : Identifier) → In a (out_identifiers i (suc l) ps) → In a (module_identifiers m)) → outputs_joined (identifier_text m k) (vports c) (connections_of via c m i (suc j) (suc l) ps rs)
             ≡ identifier_count k (out_identifiers i (suc l) ps))
-            → (((a : Identifier) → In a (out_identifiers i l ps) → In a (module_identifiers m)) → outputs_joined (identifier_text m k) (vports c) (connections_of c m i (suc j) l ps (others rs)) ≡ identifier_count k (out_identifiers i l ps))
-            → outputs_joined (identifier_text m k) (vports c) (cond b (head (name (identifier_text m (value_identifier i l))) ∷ connections_of c m i (suc j) (suc l) ps rs)
-            (head (expr_or_none (expression m) rs) ∷ connections_of c m i (suc j) l ps (others rs)))
+            → (((a : Identifier) → In a (out_identifiers i l ps) → In a (module_identifiers m))
+            → outputs_joined (identifier_text m k) (vports c) (connections_of via c m i (suc j) l ps (others rs)) ≡ identifier_count k (out_identifiers i l ps))
+            → outputs_joined (identifier_text m k) (vports c) (cond b (head (name (identifier_text m (value_identifier i l))) ∷ connections_of via c m i (suc j) (suc l) ps rs)
+            (head (expr_or_none (expression m (own_place via)) rs) ∷ connections_of via c m i (suc j) l ps (others rs)))
             ≡ identifier_count k (cond b (value_identifier i l ∷ out_identifiers i (suc l) ps) (out_identifiers i l ps))
         go true out all first second =
-            driven_head out (all (value_identifier i l) (inl refl)) (connections_of c m i (suc j) (suc l) ps rs)
+            driven_head out (all (value_identifier i l) (inl refl)) (connections_of via c m i (suc j) (suc l) ps rs)
             ∙ ap (λ z. once_if (same_identifier (value_identifier i l) k) + z) (first (λ a h. all a (inr h)))
-        go false out all first second = silent_head out (expr_or_none (expression m) rs) (connections_of c m i (suc j) l ps (others rs)) ∙ second all
+        go false out all first second = silent_head out (expr_or_none (expression m (own_place via)) rs) (connections_of via c m i (suc j) l ps (others rs)) ∙ second all
 
   -- ---- what an operation's statement drives
 
   one_driven : (a : Identifier) (y : Item) → In a (module_identifiers m) → driver_count t (identifier_text m k) (y ∷ []) ≡ cond (same_name (identifier_text m a) (identifier_text m k)) 1 0 + 0
       → driver_count t (identifier_text m k) (y ∷ []) ≡ identifier_count k (a ∷ [])
-  one_driven a y in_identifiers e = e ∙ by_identifier (same_identifier a k) (text_same m are a k in_identifiers here) where
+  one_driven a y in_identifiers e = e ∙ by_identifier (same_identifier a k) (text_same via m are a k in_identifiers here) where
     by_identifier : (b : Bool) → same_name (identifier_text m a) (identifier_text m k) ≡ b → cond (same_name (identifier_text m a) (identifier_text m k)) 1 0 + 0 ≡ once_if b + 0
     by_identifier true f = ap (λ z. cond z 1 0 + 0) f
     by_identifier false f = ap (λ z. cond z 1 0 + 0) f
 
-  states_drive : (i : ℕ) (o : Op) → slice_get m.body i ≡ Some o → driver_count t (identifier_text m k) (states d m i o) ≡ identifier_count k (op_wires m i o)
+  states_drive : (i : ℕ) (o : Op) → slice_get m.body i ≡ Some o → driver_count t (identifier_text m k) (states via d m i o) ≡ identifier_count k (op_wires via m i o)
   states_drive i o there = go (emission_of m.ports m.body i o) refl where
-    go : (r : Emission) → emission_of m.ports m.body i o ≡ r → driver_count t (identifier_text m k) (stated_as d m i o r) ≡ identifier_count k (wire_identifiers r i o)
+    go : (r : Emission) → emission_of m.ports m.body i o ≡ r → driver_count t (identifier_text m k) (stated_as via d m i o r) ≡ identifier_count k (wire_identifiers r i o)
     go inline emission = refl
-    go as_wire emission = one_driven (value_identifier i 0) (assign (identifier_text m (value_identifier i 0)) (assigned_expr m (result i 0))) (net_in m i o there emission) refl
+    go as_wire emission = one_driven (value_identifier i 0) (assign (identifier_text m (value_identifier i 0)) (assigned_expr via m (result i 0))) (net_in m i o there emission) refl
     go as_reg emission = let r = register_of d x s m is i o there emission in
-        ap (λ z. driver_count t (identifier_text m k) (always_of m (identifier_text m (value_identifier i 0)) (async_reset_in o) z)) r.1
-        ∙ one_driven (value_identifier i 0) (always (name_or_nothing (value_name m r.0.clock)) (module_block m (identifier_text m (value_identifier i 0)) r.0 (async_reset_in o))) (variable_in m i o there emission)
-        (ap (λ z. cond (same_name z (identifier_text m k)) 1 0 + 0) (module_block_target m (identifier_text m (value_identifier i 0)) r.0 (async_reset_in o)))
+        ap (λ z. driver_count t (identifier_text m k) (always_of via m (identifier_text m (value_identifier i 0)) (async_reset_in o) z)) r.1
+        ∙ one_driven (value_identifier i 0) (always (name_or_nothing (value_name m r.0.clock)) (module_block via m (identifier_text m (value_identifier i 0)) r.0 (async_reset_in o))) (variable_in m i o there emission)
+        (ap (λ z. cond (same_name z (identifier_text m k)) 1 0 + 0) (module_block_target via m (identifier_text m (value_identifier i 0)) r.0 (async_reset_in o)))
     go as_instance emission =
         let c : Called d m o = called_by_emission d x s m is i o there emission in
         let identifiers : out_identifiers i 0 c.module_of.ports ≡ result_identifiers i 0 o.results = out_identifiers_are i 0 c.module_of.ports o.results c.outputs in
-        ap (λ z. driver_count t (identifier_text m k) (instance_of d m i o z)) c.is_kind
-        ∙ add-zero (outputs_joined (identifier_text m k) (vports_of (find_vmodule t (symbol_name d c.kind.symbol))) (connections_to (find_module d c.kind.symbol) m i o))
-        ∙ ap₂ (λ a b. outputs_joined (identifier_text m k) (vports_of a) (connections_to b m i o)) (vmodule_found d x.ok x.symbols c.kind.symbol c.module_of c.there) c.there
+        ap (λ z. driver_count t (identifier_text m k) (instance_of via d m i o z)) c.is_kind
+        ∙ add-zero (outputs_joined (identifier_text m k) (vports_of (find_vmodule t (symbol_name d c.kind.symbol))) (connections_to via (find_module d c.kind.symbol) m i o))
+        ∙ ap₂ (λ a b. outputs_joined (identifier_text m k) (vports_of a) (connections_to via b m i o)) (vmodule_found d x.ok x.symbols via c.kind.symbol c.module_of c.there) c.there
         ∙ joined_count i c.module_of (x.names c.kind.symbol c.module_of c.there) 0 0 c.module_of.ports o.operands (λ p. ap (slice_get c.module_of.ports) (sym (zero-add p)))
         (λ a h. let e = in_results i 0 o.results a (subst (λ z. In a z) identifiers h) in
         subst (λ z. In z (module_identifiers m)) (sym (e.3 ∙ ap (value_identifier i) (zero-add e.0))) (result_in_identifiers m i e.0 o e.1 there emission e.2))
@@ -202,7 +205,7 @@ module _ (d : Design) (x : Setting d) (s : Name) (m : Module) (is : find_module 
   output_identifiers j (p ∷ ps) = cond p.is_output (port_identifier j ∷ output_identifiers (suc j) ps) (output_identifiers (suc j) ps)
 
   outputs_drive : (j : ℕ) (ps : List Port) (rs : List Ref) → ((a : Identifier) → In a (output_identifiers j ps) → In a (module_identifiers m))
-      → driver_count t (identifier_text m k) (output_assigns m j ps rs) ≡ identifier_count k (output_identifiers j ps)
+      → driver_count t (identifier_text m k) (output_assigns via m j ps rs) ≡ identifier_count k (output_identifiers j ps)
   outputs_drive j [] rs within = refl
   outputs_drive j (p ∷ ps) rs within = go p.is_output within (λ h. outputs_drive (suc j) ps (others rs) h) (λ h. outputs_drive (suc j) ps rs h) where
     by_identifier : (b c : Bool) → b ≡ c → cond b 1 0 ≡ once_if c
@@ -210,19 +213,20 @@ module _ (d : Design) (x : Setting d) (s : Name) (m : Module) (is : find_module 
     by_identifier false c e = ap once_if e
 
     go : (b : Bool) → ((a : Identifier) → In a (cond b (port_identifier j ∷ output_identifiers (suc j) ps) (output_identifiers (suc j) ps)) → In a (module_identifiers m))
-        → (((a : Identifier) → In a (output_identifiers (suc j) ps) → In a (module_identifiers m)) → driver_count t (identifier_text m k) (output_assigns m (suc j) ps (others rs)) ≡ identifier_count k (output_identifiers (suc j) ps))
-        → (((a : Identifier) → In a (output_identifiers (suc j) ps) → In a (module_identifiers m)) → driver_count t (identifier_text m k) (output_assigns m (suc j) ps rs) ≡ identifier_count k (output_identifiers (suc j) ps))
-        → driver_count t (identifier_text m k) (cond b (assign (identifier_text m (port_identifier j)) (expr_or_none (expression m) rs) ∷ output_assigns m (suc j) ps (others rs)) (output_assigns m (suc j) ps rs))
+        → (((a : Identifier) → In a (output_identifiers (suc j) ps) → In a (module_identifiers m)) → driver_count t (identifier_text m k) (output_assigns via m (suc j) ps (others rs)) ≡ identifier_count k (output_identifiers (suc j) ps))
+        → (((a : Identifier) → In a (output_identifiers (suc j) ps) → In a (module_identifiers m)) → driver_count t (identifier_text m k) (output_assigns via m (suc j) ps rs) ≡ identifier_count k (output_identifiers (suc j) ps))
+        → driver_count t (identifier_text m k) (cond b (assign (identifier_text m (port_identifier j)) (expr_or_none (expression m (load_place via)) rs) ∷ output_assigns via m (suc j) ps (others rs)) (output_assigns via m (suc j) ps rs))
         ≡ identifier_count k (cond b (port_identifier j ∷ output_identifiers (suc j) ps) (output_identifiers (suc j) ps))
     go true all first second =
-        ap₂ (λ a b. a + b) (by_identifier (same_name (identifier_text m (port_identifier j)) (identifier_text m k)) (same_identifier (port_identifier j) k) (text_same m are (port_identifier j) k (all (port_identifier j) (inl refl)) here))
+        ap₂ (λ a b. a + b) (by_identifier (same_name (identifier_text m (port_identifier j)) (identifier_text m k)) (same_identifier (port_identifier j) k)
+        (text_same via m are (port_identifier j) k (all (port_identifier j) (inl refl)) here))
         (first (λ a h. all a (inr h)))
     go false all first second = second all
 
   -- ---- what the whole module drives
 
   abbrev pub driven_identifiers : List Identifier
-  driven_identifiers = each (op_wires m) 0 m.body ++ output_identifiers 0 m.ports
+  driven_identifiers = each (op_wires via m) 0 m.body ++ output_identifiers 0 m.ports
 
   pub output_among : (j : ℕ) (ps : List Port) (a : Identifier) → In a (output_identifiers j ps) → (n : ℕ) × (p : Port) × (slice_get ps n ≡ Some p) × (p.is_output ≡ true) × (a ≡ port_identifier (j + n))
   output_among j [] a h = absurd h
@@ -262,25 +266,26 @@ module _ (d : Design) (x : Setting d) (s : Name) (m : Module) (is : find_module 
 
   driven_apart : AreApart driven_identifiers
   driven_apart =
-      joined_apart (each (op_wires m) 0 m.body) (output_identifiers 0 m.ports) (each_apart (op_wires m) (wires_placed m) (wires_apart m) 0 m.body) (outputs_apart 0 m.ports)
-      (λ a u v. let b = wire_kind m a u in let c = output_among 0 m.ports a v in clash b.0 b.1 (0 + c.0) (sym b.2 ∙ c.4)) where
+      joined_apart (each (op_wires via m) 0 m.body) (output_identifiers 0 m.ports) (each_apart (op_wires via m) (wires_placed via m) (wires_apart via m) 0 m.body) (outputs_apart 0 m.ports)
+      (λ a u v. let b = wire_kind via m a u in let c = output_among 0 m.ports a v in clash b.0 b.1 (0 + c.0) (sym b.2 ∙ c.4)) where
         clash : (i l j : ℕ) → value_identifier i l ≡ port_identifier j → ⊥
         clash i l j e = cc
 
-  pub drivers_are : driver_count t (identifier_text m k) (vitems d m) ≡ identifier_count k driven_identifiers
+  pub drivers_are : driver_count t (identifier_text m k) (vitems via d m) ≡ identifier_count k driven_identifiers
   drivers_are =
-      counts_joined (each (declares m) 0 m.body) (each (states d m) 0 m.body ++ output_assigns m 0 m.ports (output_refs m.body))
+      counts_joined (each (declares m) 0 m.body) (each (states via d m) 0 m.body ++ output_assigns via m 0 m.ports (output_refs m.body))
       ∙ ap₂ (λ a b. a + b) (declarations_drive_nothing 0 m.body)
-      (counts_joined (each (states d m) 0 m.body) (output_assigns m 0 m.ports (output_refs m.body))
-      ∙ ap₂ (λ a b. a + b) (counts_each (states d m) (op_wires m) 0 m.body (λ p o there. subst (λ z. driver_count t (identifier_text m k) (states d m z o) ≡ identifier_count k (op_wires m z o)) (sym (zero-add p)) (states_drive p o there)))
+      (counts_joined (each (states via d m) 0 m.body) (output_assigns via m 0 m.ports (output_refs m.body))
+      ∙ ap₂ (λ a b. a + b) (counts_each (states via d m) (op_wires via m) 0 m.body (λ p o there. subst
+      (λ z. driver_count t (identifier_text m k) (states via d m z o) ≡ identifier_count k (op_wires via m z o)) (sym (zero-add p)) (states_drive p o there)))
       (outputs_drive 0 m.ports (output_refs m.body) output_within)
-      ∙ sym (count_joined k (each (op_wires m) 0 m.body) (output_identifiers 0 m.ports)))
+      ∙ sym (count_joined k (each (op_wires via m) 0 m.body) (output_identifiers 0 m.ports)))
       ∙ zero-add (identifier_count k driven_identifiers)
 
   -- a wire, a variable and an output port have one driver
-  pub driven_once : In k driven_identifiers → driver_count t (identifier_text m k) (vitems d m) ≡ 1
+  pub driven_once : In k driven_identifiers → driver_count t (identifier_text m k) (vitems via d m) ≡ 1
   driven_once h = drivers_are ∙ count_once k driven_identifiers driven_apart h
 
   -- anything else has none
-  pub driven_never : (In k driven_identifiers → ⊥) → driver_count t (identifier_text m k) (vitems d m) ≡ 0
+  pub driven_never : (In k driven_identifiers → ⊥) → driver_count t (identifier_text m k) (vitems via d m) ≡ 0
   driven_never away = drivers_are ∙ count_none k driven_identifiers away

@@ -16,6 +16,7 @@ use Rattle.verilog_model.specs.Tree.{Item}
 use Rattle.verilog_model.specs.Tree.Item.{wire, reg, assign, always, instance}
 use Rattle.verilog_model.specs.Checks.{instances_end, items_of, ends_within, nesting_checks}
 use Rattle.verilog_model.proofs.Numerals.{and_intro}
+use Rattle.lowering_options.specs.declared.lowering.Lowering.{Lowering}
 use Rattle.export_verilog.specs.Exported.{symbol_name, vitems, vmodule, tree_of}
 use Rattle.export_verilog.proofs.names.Symbols.{vmodule_found}
 use Rattle.export_verilog.proofs.items.Items.{From, from_items}
@@ -34,7 +35,7 @@ ends_more ends (assign n e) ys a b = b
 ends_more ends (always c e) ys a b = b
 ends_more ends (instance m u cs) ys a b = and_intro (ends m) (instances_end ends ys) a b
 
-module _ (d : Design) (x : Setting d) where
+module _ (via : Lowering) (d : Design) (x : Setting d) where
   heights : HasHeights (calls d)
   heights = call_heights d x.ok.finite
 
@@ -43,7 +44,7 @@ module _ (d : Design) (x : Setting d) where
 
   -- each instance's module ends
   module _ (s : Name) (m : Module) (is : find_module d s ≡ Some m) (ends : Name → Bool) (each_ends : (i : ℕ) (o : Op) (y : Instance) → slice_get m.body i ≡ Some o → instance_in o.kind ≡ Some y → ends (symbol_name d y.symbol) ≡ true) where
-    one_ends : (y : Item) → From d m y → item_ends ends y ≡ true
+    one_ends : (y : Item) → From via d m y → item_ends ends y ≡ true
     one_ends y (net_wire i o there emission same) = ap (item_ends ends) same
     one_ends y (variable_reg i o there emission same) = ap (item_ends ends) same
     one_ends y (result_wire i k o r there emission at same) = ap (item_ends ends) same
@@ -52,12 +53,12 @@ module _ (d : Design) (x : Setting d) where
     one_ends y (an_instance i o z there emission at same) = ap (item_ends ends) same ∙ each_ends i o z there at
     one_ends y (output_assign j p there out same) = ap (item_ends ends) same
 
-    all_end : (ys : List Item) → ((y : Item) → In y ys → From d m y) → instances_end ends ys ≡ true
+    all_end : (ys : List Item) → ((y : Item) → In y ys → From via d m y) → instances_end ends ys ≡ true
     all_end [] from = refl
     all_end (y ∷ ys) from = ends_more ends y ys (one_ends y (from y (inl refl))) (all_end ys (λ z w. from z (inr w)))
 
-    items_end : instances_end ends (vitems d m) ≡ true
-    items_end = all_end (vitems d m) (λ y w. from_items d m y w)
+    items_end : instances_end ends (vitems via d m) ≡ true
+    items_end = all_end (vitems via d m) (λ y w. from_items via d m y w)
 
   lower : (s : Name) (m : Module) → find_module d s ≡ Some m → (i : ℕ) (o : Op) (y : Instance) → slice_get m.body i ≡ Some o → instance_in o.kind ≡ Some y → h y.symbol < h s
   unfolding h
@@ -65,20 +66,20 @@ module _ (d : Design) (x : Setting d) where
       FallsAlong-height (calls d) (heights.0) (heights.1) s y.symbol
       (subst (λ z. In y.symbol (callee_symbols (body_of z))) (sym is) (called_In m.body o y (In-slice_get o m.body i there) kind))
 
-  ends_by_height : (n : ℕ) (s : Name) (m : Module) → find_module d s ≡ Some m → h s ≤ n → ends_within n (tree_of d) (symbol_name d s) ≡ true
+  ends_by_height : (n : ℕ) (s : Name) (m : Module) → find_module d s ≡ Some m → h s ≤ n → ends_within n (tree_of via d) (symbol_name d s) ≡ true
   unfolding h
   ends_by_height zero s m is low = let positive : heights.0 s ≡ suc _ = heights.1 s in absurd (omega (arith, positive, low))
   ends_by_height (suc n) s m is low =
-      ap (λ z. instances_end (ends_within n (tree_of d)) (items_of z)) (vmodule_found d x.ok x.symbols s m is)
-      ∙ items_end s m is (ends_within n (tree_of d)) (λ i o y there kind. let c : Called d m o = called_by d x s m is i o there y kind in
+      ap (λ z. instances_end (ends_within n (tree_of via d)) (items_of z)) (vmodule_found d x.ok x.symbols via s m is)
+      ∙ items_end s m is (ends_within n (tree_of via d)) (λ i o y there kind. let c : Called d m o = called_by d x s m is i o there y kind in
       let less : heights.0 y.symbol < heights.0 s = lower s m is i o y there kind in
       ends_by_height n y.symbol c.module_of c.there (omega (arith, less, low)))
 
-  pub nesting_is_checked : (s : Name) (m : Module) → find_module d s ≡ Some m → nesting_checks (tree_of d) (vmodule d m) ≡ true
+  pub nesting_is_checked : (s : Name) (m : Module) → find_module d s ≡ Some m → nesting_checks (tree_of via d) (vmodule via d m) ≡ true
   unfolding h
   nesting_is_checked s m is =
-      items_end s m is (ends_within (length (tree_of d)) (tree_of d)) (λ i o y there kind. let c : Called d m o = called_by d x s m is i o there y kind in
+      items_end s m is (ends_within (length (tree_of via d)) (tree_of via d)) (λ i o y there kind. let c : Called d m o = called_by d x s m is i o there y kind in
       let less : heights.0 y.symbol < heights.0 s = lower s m is i o y there kind in
       let few : heights.0 s ≤ suc (length d) = subst (λ k. heights.0 s ≤ suc k) (length-map d (λ (z : Module). z.symbol)) (height-le (calls d) (map (λ (z : Module). z.symbol) d) (calls_within d) heights.0 heights.1 s) in
-      let many : length (tree_of d) ≡ length d = length-map d (vmodule d) in
-      ends_by_height (length (tree_of d)) y.symbol c.module_of c.there (omega (arith, less, few, many)))
+      let many : length (tree_of via d) ≡ length d = length-map d (vmodule via d) in
+      ends_by_height (length (tree_of via d)) y.symbol c.module_of c.there (omega (arith, less, few, many)))

@@ -15,6 +15,9 @@ use Rattle.verilog_expr.proofs.Checked.{IsWell, IsWide}
 use Rattle.verilog_expr.proofs.BodiesChecked.{AreKnown, body_well, own_well}
 use Rattle.verilog_expr.proofs.Depths.{expressions_hold}
 use Rattle.verilog_expr.specs.Values.{gives_values}
+use Rattle.verilog_expr.specs.declared.extending.Extending.{Extending}
+use Rattle.lowering_options.specs.declared.lowering.Lowering.{Lowering}
+use Rattle.export_verilog.specs.Lowerings.{load_place}
 use Rattle.export_verilog.specs.Identifiers.{Identifier, Emission, emission_of, identifier_text, module_identifiers, value_name}
 use Rattle.export_verilog.specs.Identifiers.Identifier.{port_identifier, value_identifier}
 use Rattle.export_verilog.specs.Identifiers.Emission.{inline, as_wire, as_reg, as_instance}
@@ -28,7 +31,7 @@ use Rattle.export_verilog.proofs.behaviour.Sources.{inner_acyclic}
 use Rattle.export_verilog.proofs.items.Writable.NamedAs.{by_port, by_value}
 use Rattle.export_verilog.proofs.checks.Known.{identifier_word, declared_port, declared_result, result_emission, KnowsAll}
 
-module _ (d : Design) (x : Setting d) (s : Name) (m : Module) (is : find_module d s ≡ Some m) (known : List Declared) (knows : KnowsAll d x s m is known) where
+module _ (via : Lowering) (d : Design) (x : Setting d) (s : Name) (m : Module) (is : find_module d s ≡ Some m) (known : List Declared) (knows : KnowsAll d x s m is known) where
   -- what a thing that is no instance is declared as
   pub record IsDeclared (k : Identifier) : Type 0 where
     pub as_it : Declared
@@ -132,12 +135,12 @@ module _ (d : Design) (x : Setting d) (s : Name) (m : Module) (is : find_module 
 
   -- ---- expressions
 
-  pub expression_well : (r : Ref) (t : HwType) → type_in m.ports m.body r ≡ Some t → IsWell known (expression m r)
-  expression_well r t typed =
+  pub expression_well : (y : Extending) (r : Ref) (t : HwType) → type_in m.ports m.body r ≡ Some t → IsWell known (expression m y r)
+  expression_well y r t typed =
       body_well known (value_name m) m.ports m.body (expression m) (writable d x s m is) (inner_acyclic d s m is (one_result_of d x s m is) (x.ok.acyclic s))
-      (expressions_hold (value_name m) m.ports m.body (writable d x s m is) (inner_acyclic d s m is (one_result_of d x s m is) (x.ok.acyclic s))) are_known r t typed
+      (expressions_hold (value_name m) m.ports m.body (writable d x s m is) (inner_acyclic d s m is (one_result_of d x s m is) (x.ok.acyclic s))) are_known y r t typed
 
-  pub assigned_well : (i k : ℕ) (o : Op) (t : HwType) → slice_get m.body i ≡ Some o → gives_values o ≡ true → result_type o k ≡ Some t → IsWell known (assigned_expr m (result i k))
+  pub assigned_well : (i k : ℕ) (o : Op) (t : HwType) → slice_get m.body i ≡ Some o → gives_values o ≡ true → result_type o k ≡ Some t → IsWell known (assigned_expr via m (result i k))
   assigned_well i k o t there values typed =
       own_well known (value_name m) m.ports m.body (expression m) (writable d x s m is) (inner_acyclic d s m is (one_result_of d x s m is) (x.ok.acyclic s))
-      (expressions_hold (value_name m) m.ports m.body (writable d x s m is) (inner_acyclic d s m is (one_result_of d x s m is) (x.ok.acyclic s))) are_known i k o t there values typed
+      (expressions_hold (value_name m) m.ports m.body (writable d x s m is) (inner_acyclic d s m is (one_result_of d x s m is) (x.ok.acyclic s))) are_known (load_place via) i k o t there values typed

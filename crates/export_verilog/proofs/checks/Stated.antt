@@ -19,6 +19,9 @@ use Rattle.verilog_model.proofs.Numerals.{and_intro, is_decimal-decimal}
 use Rattle.verilog_model.specs.Digits.{high_of}
 use Rattle.verilog_expr.specs.Expressions.{constant_expr}
 use Rattle.verilog_expr.specs.Values.{gives_values}
+use Rattle.verilog_expr.specs.declared.extending.Extending.{Extending}
+use Rattle.lowering_options.specs.declared.lowering.Lowering.{Lowering}
+use Rattle.export_verilog.specs.Lowerings.{load_place, own_place}
 use Rattle.export_verilog.specs.Identifiers.{Emission, each, emission_of, identifier_text, value_name, name_or_nothing}
 use Rattle.export_verilog.specs.Identifiers.Identifier.{port_identifier, value_identifier}
 use Rattle.export_verilog.specs.Identifiers.Emission.{inline, as_wire, as_reg, as_instance}
@@ -73,9 +76,9 @@ items_split t known (x ∷ xs) ys all rest =
     (items_split t (known ++ declared_by x) xs ys (λ y kn h. all y kn (inr h))
     (subst (λ k. items_check t k ys ≡ true) (sym (append_assoc known (declared_by x) (declared_items xs))) rest))
 
-module _ (d : Design) (x : Setting d) (s : Name) (m : Module) (is : find_module d s ≡ Some m) where
+module _ (via : Lowering) (d : Design) (x : Setting d) (s : Name) (m : Module) (is : find_module d s ≡ Some m) where
   abbrev pub t : Tree
-  t = tree_of d
+  t = tree_of via d
 
   typed_first : (o : Op) (r : OpResult) → slice_get o.results 0 ≡ Some r → result_type o 0 ≡ Some r.type
   typed_first o r e = ap (option_map (λ (z : OpResult). z.type)) e
@@ -100,55 +103,58 @@ module _ (d : Design) (x : Setting d) (s : Name) (m : Module) (is : find_module 
         ap (item_checks t kn) w.3 ∙ high_decimal (width w.1.type) (result_small i w.0 o w.1 there w.2)
 
   module _ (known : List Declared) (knows : KnowsAll d x s m is known) where
-    good : (r : Ref) (ty : HwType) → type_in m.ports m.body r ≡ Some ty → expr_checks known (expression m r) ≡ true
-    good r ty typed = (expression_well d x s m is known knows r ty typed).checks
+    good : (y : Extending) (r : Ref) (ty : HwType) → type_in m.ports m.body r ≡ Some ty → expr_checks known (expression m y r) ≡ true
+    good y r ty typed = (expression_well via d x s m is known knows y r ty typed).checks
 
     -- ---- registers
 
-    load_good : (q : Name) (r : Ref) (ty : HwType) → type_in m.ports m.body r ≡ Some ty → load_checks known q (loads q (expression m r)) ≡ true
-    load_good q r ty typed = and_intro (same_name q q) (expr_checks known (expression m r)) (name_self q) (good r ty typed)
+    load_good : (q : Name) (r : Ref) (ty : HwType) → type_in m.ports m.body r ≡ Some ty → load_checks known q (loads q (expression m (load_place via) r)) ≡ true
+    load_good q r ty typed = and_intro (same_name q q) (expr_checks known (expression m (load_place via) r)) (name_self q) (good (load_place via) r ty typed)
 
-    block_good : (q : Name) (ty : HwType) (r : Register) → AreOperands (type_in m.ports m.body) ty r → block_checks known q (block_of (expression m) q r.next r.enable r.reset) ≡ true
+    block_good : (q : Name) (ty : HwType) (r : Register) → AreOperands (type_in m.ports m.body) ty r → block_checks known q (block_of (expression m (own_place via)) (expression m (load_place via)) q r.next r.enable r.reset) ≡ true
     block_good q ty r are = go r.enable r.reset refl refl where
-      next_good : load_checks known q (loads q (expression m r.next)) ≡ true
+      next_good : load_checks known q (loads q (expression m (load_place via) r.next)) ≡ true
       next_good = load_good q r.next ty are.next
 
-      go : (e : Option Ref) (b : Option ResetBy) → r.enable ≡ e → r.reset ≡ b → block_checks known q (block_of (expression m) q r.next e b) ≡ true
+      go : (e : Option Ref) (b : Option ResetBy) → r.enable ≡ e → r.reset ≡ b → block_checks known q (block_of (expression m (own_place via)) (expression m (load_place via)) q r.next e b) ≡ true
       go None None u v = next_good
-      go (Some e) None u v = and_intro (expr_checks known (expression m e)) (load_checks known q (loads q (expression m r.next))) (good e _ (are.enable e u)) next_good
+      go (Some e) None u v = and_intro (expr_checks known (expression m (own_place via) e)) (load_checks known q (loads q (expression m (load_place via) r.next))) (good (own_place via) e _ (are.enable e u)) next_good
       go None (Some b) u v =
-          and_intro (expr_checks known (expression m b.signal)) (load_checks known q (loads q (expression m b.value)) && load_checks known q (loads q (expression m r.next))) (good b.signal _ (are.signal b v))
-          (and_intro (load_checks known q (loads q (expression m b.value))) (load_checks known q (loads q (expression m r.next))) (load_good q b.value ty (are.value b v)) next_good)
+          and_intro (expr_checks known (expression m (own_place via) b.signal)) (load_checks known q (loads q (expression m (load_place via) b.value)) && load_checks known q
+          (loads q (expression m (load_place via) r.next))) (good (own_place via) b.signal _ (are.signal b v))
+          (and_intro (load_checks known q (loads q (expression m (load_place via) b.value))) (load_checks known q (loads q (expression m (load_place via) r.next))) (load_good q b.value ty (are.value b v)) next_good)
       go (Some e) (Some b) u v =
-          and_intro (expr_checks known (expression m b.signal) && load_checks known q (loads q (expression m b.value))) (expr_checks known (expression m e) && load_checks known q (loads q (expression m r.next)))
-          (and_intro (expr_checks known (expression m b.signal)) (load_checks known q (loads q (expression m b.value))) (good b.signal _ (are.signal b v)) (load_good q b.value ty (are.value b v)))
-          (and_intro (expr_checks known (expression m e)) (load_checks known q (loads q (expression m r.next))) (good e _ (are.enable e u)) next_good)
+          and_intro (expr_checks known (expression m (own_place via) b.signal) && load_checks known q (loads q (expression m (load_place via) b.value)))
+          (expr_checks known (expression m (own_place via) e) && load_checks known q (loads q (expression m (load_place via) r.next)))
+          (and_intro (expr_checks known (expression m (own_place via) b.signal)) (load_checks known q (loads q (expression m (load_place via) b.value)))
+          (good (own_place via) b.signal _ (are.signal b v)) (load_good q b.value ty (are.value b v)))
+          (and_intro (expr_checks known (expression m (own_place via) e)) (load_checks known q (loads q (expression m (load_place via) r.next))) (good (own_place via) e _ (are.enable e u)) next_good)
 
     -- the literal of a reset's value, and the signal's name
     literal_good : (q : Name) (o : Op) (b : ResetBy) (ty : HwType) → In o m.body → async_reset_in o ≡ Some b → type_in m.ports m.body b.value ≡ Some ty
         → load_checks known q (loads q (constant_expr m.ports m.body b.value)) ≡ true
     literal_good q o b ty within at typed =
-        let v = value_of_reset d x s m is o b within at ty typed in
+        let v = value_of_reset via d x s m is o b within at ty typed in
         and_intro (same_name q q) (expr_checks known (constant_expr m.ports m.body b.value)) (name_self q)
-        (ap (expr_checks known) (literal_own d x s m is b.value ty v) ∙ (assigned_well d x s m is known knows v.position 0 v.op ty v.there v.gives v.typed).checks)
+        (ap (expr_checks known) (literal_own via d x s m is b.value ty v) ∙ (assigned_well via d x s m is known knows v.position 0 v.op ty v.there v.gives v.typed).checks)
 
     signal_good : (o : Op) (b : ResetBy) → In o m.body → async_reset_in o ≡ Some b → has_role is_input (find_declared known (name_or_nothing (value_name m b.signal))) ≡ true
     signal_good o b within at =
-        let p = signal_port d x s m is o b within at in
-        ap (λ n. has_role is_input (find_declared known n)) p.called ∙ ap (has_role is_input) (found_port d x s m is known knows p.number p.port_of p.there) ∙ ap (λ z. is_input (port_role z)) p.input
+        let p = signal_port via d x s m is o b within at in
+        ap (λ n. has_role is_input (find_declared known n)) p.called ∙ ap (has_role is_input) (found_port via d x s m is known knows p.number p.port_of p.there) ∙ ap (λ z. is_input (port_role z)) p.input
 
     -- the block of a register that an asynchronous reset resets or not
     any_good : (q : Name) (o : Op) (ty : HwType) (r : Register) (a : Option ResetBy) → In o m.body → register_in o ≡ Some r → async_reset_in o ≡ a → AreOperands (type_in m.ports m.body) ty r
-        → block_checks known q (module_block m q r a) ≡ true
+        → block_checks known q (module_block via m q r a) ≡ true
     any_good q o ty r None within is_register_of at are = block_good q ty r are
     any_good q o ty r (Some b) within is_register_of at are =
         and_intro (has_role is_input (find_declared known (name_or_nothing (value_name m b.signal))))
-        (load_checks known q (loads q (constant_expr m.ports m.body b.value)) && load_checks known q (loads q (expression m r.next)))
+        (load_checks known q (loads q (constant_expr m.ports m.body b.value)) && load_checks known q (loads q (expression m (load_place via) r.next)))
         (signal_good o b within at)
-        (and_intro (load_checks known q (loads q (constant_expr m.ports m.body b.value))) (load_checks known q (loads q (expression m r.next)))
+        (and_intro (load_checks known q (loads q (constant_expr m.ports m.body b.value))) (load_checks known q (loads q (expression m (load_place via) r.next)))
         (literal_good q o b ty within at (are.value b (async_reset_of o b at r is_register_of))) (load_good q r.next ty are.next))
 
-    pub register_good : (i : ℕ) (o : Op) (r : Register) → slice_get m.body i ≡ Some o → emission_of m.ports m.body i o ≡ as_reg → register_in o ≡ Some r → item_checks t known (block_at m i o r) ≡ true
+    pub register_good : (i : ℕ) (o : Op) (r : Register) → slice_get m.body i ≡ Some o → emission_of m.ports m.body i o ≡ as_reg → register_in o ≡ Some r → item_checks t known (block_at via m i o r) ≡ true
     register_good i o r there emission is_register_of =
         let first = result_at_first d x s m is i o there (inr emission) in
         let typed = typed_register d x s m is i o there emission first.0.type (typed_first o first.0 first.1) in
@@ -158,35 +164,35 @@ module _ (d : Design) (x : Setting d) (s : Name) (m : Module) (is : find_module 
         let clock_name : name_or_nothing (value_name m r.clock) ≡ identifier_text m (port_identifier c.number) = ap (λ z. name_or_nothing (value_name m z)) c.is_port
         ∙ ap name_or_nothing (named_input d x s m is c.number c.clock c.there c.input) in
         let q = identifier_text m (value_identifier i 0) in
-        let b = module_block m q r (async_reset_in o) in
-        let target : block_target b ≡ q = module_block_target m q r (async_reset_in o) in
+        let b = module_block via m q r (async_reset_in o) in
+        let target : block_target b ≡ q = module_block_target via m q r (async_reset_in o) in
         and_intro (has_role is_input (find_declared known (name_or_nothing (value_name m r.clock)))) (has_role is_variable (find_declared known (block_target b)) && block_checks known (block_target b) b)
-        (ap (λ n. has_role is_input (find_declared known n)) clock_name ∙ ap (has_role is_input) (found_port d x s m is known knows c.number c.clock c.there) ∙ ap (λ z. is_input (port_role z)) c.input)
+        (ap (λ n. has_role is_input (find_declared known n)) clock_name ∙ ap (has_role is_input) (found_port via d x s m is known knows c.number c.clock c.there) ∙ ap (λ z. is_input (port_role z)) c.input)
         (and_intro (has_role is_variable (find_declared known (block_target b))) (block_checks known (block_target b) b)
         (ap (λ n. has_role is_variable (find_declared known n)) target ∙ ap (has_role is_variable)
-        (found_result d x s m is known knows i 0 o first.0 (variable_in m i o there emission) there first.1) ∙ ap (λ z. is_variable (result_emission z)) emission)
+        (found_result via d x s m is known knows i 0 o first.0 (variable_in m i o there emission) there first.1) ∙ ap (λ z. is_variable (result_emission z)) emission)
         (ap (λ n. block_checks known n b) target ∙ any_good q o first.0.type r (async_reset_in o) (In-slice_get o m.body i there) is_register_of refl are))
 
     -- ---- wires and outputs
 
-    pub net_good : (i : ℕ) (o : Op) → slice_get m.body i ≡ Some o → emission_of m.ports m.body i o ≡ as_wire → item_checks t known (assign (identifier_text m (value_identifier i 0)) (assigned_expr m (result i 0))) ≡ true
+    pub net_good : (i : ℕ) (o : Op) → slice_get m.body i ≡ Some o → emission_of m.ports m.body i o ≡ as_wire → item_checks t known (assign (identifier_text m (value_identifier i 0)) (assigned_expr via m (result i 0))) ≡ true
     net_good i o there emission =
         let first = result_at_first d x s m is i o there (inl emission) in
         let sort = made_of_emission m.ports m.body i o emission in
-        and_intro (has_role can_assign (find_declared known (identifier_text m (value_identifier i 0)))) (expr_checks known (assigned_expr m (result i 0)))
-        (ap (has_role can_assign) (found_result d x s m is known knows i 0 o first.0 (net_in m i o there emission) there first.1) ∙ ap (λ z. can_assign (result_emission z)) emission)
-        ((assigned_well d x s m is known knows i 0 o first.0.type there (values sort.0 sort.1 sort.2) (typed_first o first.0 first.1)).checks) where
+        and_intro (has_role can_assign (find_declared known (identifier_text m (value_identifier i 0)))) (expr_checks known (assigned_expr via m (result i 0)))
+        (ap (has_role can_assign) (found_result via d x s m is known knows i 0 o first.0 (net_in m i o there emission) there first.1) ∙ ap (λ z. can_assign (result_emission z)) emission)
+        ((assigned_well via d x s m is known knows i 0 o first.0.type there (values sort.0 sort.1 sort.2) (typed_first o first.0 first.1)).checks) where
           values : register_form o.kind ≡ None → instance_in o.kind ≡ None → is_output_kind o.kind ≡ false → gives_values o ≡ true
           values r n u = simp (r, n, u) refl
 
     pub output_good : (j : ℕ) (p : Port) → slice_get m.ports j ≡ Some p → p.is_output ≡ true
-        → item_checks t known (assign (identifier_text m (port_identifier j)) (expr_for (expression m) (slice_get (output_refs m.body) (output_count (take j m.ports))))) ≡ true
+        → item_checks t known (assign (identifier_text m (port_identifier j)) (expr_for (expression m (load_place via)) (slice_get (output_refs m.body) (output_count (take j m.ports))))) ≡ true
     output_good j p there out =
         let at = position_of_output m.ports j p there out in
         let g = placed_in (type_in m.ports m.body) (λ (u : HwType). Some u) (output_refs m.body) (output_types m.ports) (output_count (take j m.ports)) p.type ((module_sound d x s m is).outputs) at.1 in
-        and_intro (has_role can_assign (find_declared known (identifier_text m (port_identifier j)))) (expr_checks known (expr_for (expression m) (slice_get (output_refs m.body) (output_count (take j m.ports)))))
-        (ap (has_role can_assign) (found_port d x s m is known knows j p there) ∙ ap (λ z. can_assign (port_role z)) out)
-        (ap (λ z. expr_checks known (expr_for (expression m) z)) g.1 ∙ good g.0 p.type g.2)
+        and_intro (has_role can_assign (find_declared known (identifier_text m (port_identifier j)))) (expr_checks known (expr_for (expression m (load_place via)) (slice_get (output_refs m.body) (output_count (take j m.ports)))))
+        (ap (has_role can_assign) (found_port via d x s m is known knows j p there) ∙ ap (λ z. can_assign (port_role z)) out)
+        (ap (λ z. expr_checks known (expr_for (expression m (load_place via)) z)) g.1 ∙ good (load_place via) g.0 p.type g.2)
 
     -- ---- instances
 
@@ -201,26 +207,26 @@ module _ (d : Design) (x : Setting d) (s : Name) (m : Module) (is : find_module 
           map_same (u ∷ us) = ap (λ z. u ∷ z) (map_same us)
 
     pub connection_good : (i : ℕ) (o : Op) → slice_get m.body i ≡ Some o → emission_of m.ports m.body i o ≡ as_instance → (c : Called d m o) → (j : ℕ) (p : Port) → slice_get c.module_of.ports j ≡ Some p
-        → (e : Connection) → e ≡ connection_of c.module_of m i j 0 (take j c.module_of.ports) p o.operands
+        → (e : Connection) → e ≡ connection_of via c.module_of m i j 0 (take j c.module_of.ports) p o.operands
         → connection_checks known (find_port (vports c.module_of) e.port) e.value ≡ true
     connection_good i o there emission c j p at e same =
         ap (λ (z : Connection). connection_checks known (find_port (vports c.module_of) z.port) z.value) same
-        ∙ ap (λ z. connection_checks known z (connection_of c.module_of m i j 0 (take j c.module_of.ports) p o.operands).value)
+        ∙ ap (λ z. connection_checks known z (connection_of via c.module_of m i j 0 (take j c.module_of.ports) p o.operands).value)
         (port_under c.module_of (x.names c.kind.symbol c.module_of c.there) (port_identifier j) (port_in c.module_of j p at) ∙ ap (option_map (vport_at c.module_of j)) at)
         ∙ go p.is_output refl where
           n : ℕ
           n = output_count (take j c.module_of.ports)
 
           value_at : Bool → Expr
-          value_at b = cond b (name (identifier_text m (value_identifier i (0 + n)))) (expr_for (expression m) (slice_get o.operands (input_count (take j c.module_of.ports))))
+          value_at b = cond b (name (identifier_text m (value_identifier i (0 + n)))) (expr_for (expression m (own_place via)) (slice_get o.operands (input_count (take j c.module_of.ports))))
 
           go : (b : Bool) → p.is_output ≡ b → cond b (joins_net known (value_at b)) (expr_checks known (value_at b)) ≡ true
           go true out = let r = result_there i o c j p at out in
               ap (λ a. has_role can_assign (find_declared known (identifier_text m (value_identifier i a)))) (zero-add n)
-              ∙ ap (has_role can_assign) (found_result d x s m is known knows i n o r.0 (result_in_identifiers m i n o r.0 there emission r.1) there r.1) ∙ ap (λ z. can_assign (result_emission z)) emission
+              ∙ ap (has_role can_assign) (found_result via d x s m is known knows i n o r.0 (result_in_identifiers m i n o r.0 there emission r.1) there r.1) ∙ ap (λ z. can_assign (result_emission z)) emission
           go false out =
               let g = placed_in (type_in m.ports m.body) (λ (u : HwType). Some u) o.operands (input_types c.module_of.ports) (input_count (take j c.module_of.ports)) p.type c.inputs (position_of_input c.module_of.ports j p at out) in
-              ap (λ z. expr_checks known (expr_for (expression m) z)) g.1 ∙ good g.0 p.type g.2
+              ap (λ z. expr_checks known (expr_for (expression m (own_place via)) z)) g.1 ∙ good (own_place via) g.0 p.type g.2
 
     pub all_connections : (i : ℕ) (o : Op) → slice_get m.body i ≡ Some o → emission_of m.ports m.body i o ≡ as_instance → (c : Called d m o) → (cs : List Connection)
         → ((e : Connection) → In e cs → connection_checks known (find_port (vports c.module_of) e.port) e.value ≡ true) → connections_check known (vports c.module_of) cs ≡ true

@@ -13,6 +13,8 @@ use Rattle.verilog_model.specs.Tree.Expr.{name}
 use Rattle.verilog_model.specs.Tree.Item.{assign}
 use Rattle.verilog_model.specs.Hierarchy.{first_some, or_else, when, find_port, VPath, vnet, Drive, block_target, loads, vbase, vstate_before, is_name, joined_output, vports_of, item_drive, inner_drive, drive_in, drive_or_nothing, width_in}
 use Rattle.verilog_model.specs.Hierarchy.Drive.{nothing, held, expression as driven_by, net as driven_from}
+use Rattle.lowering_options.specs.declared.lowering.Lowering.{Lowering}
+use Rattle.export_verilog.specs.Lowerings.{load_place, own_place}
 use Rattle.export_verilog.specs.Identifiers.{Identifier, Emission, emission_of, identifier_text, module_identifiers}
 use Rattle.export_verilog.specs.Identifiers.Identifier.{port_identifier, value_identifier, instance_identifier}
 use Rattle.export_verilog.specs.Identifiers.Emission.{inline, as_wire, as_reg, as_instance}
@@ -78,27 +80,27 @@ output_of_number (x ∷ ps) k t is = go x.is_output refl k is (λ n h. output_of
 
 -- ---- what an instance's outputs drive
 
-module _ (c m : Module) (are : AreNames c) (i : ℕ) (o : Op) (q : VPath) (u n : Name) where
+module _ (via : Lowering) (c m : Module) (are : AreNames c) (i : ℕ) (o : Op) (q : VPath) (u n : Name) where
   abbrev output_drive : ℕ → Drive
   output_drive j = driven_from (vnet (u ∷ q) (identifier_text c (port_identifier j)))
 
-  joined_at : (j : ℕ) (p : Port) → slice_get c.ports j ≡ Some p → joined_output q u n (vports c) (connection_of c m i j 0 (take j c.ports) p o.operands)
+  joined_at : (j : ℕ) (p : Port) → slice_get c.ports j ≡ Some p → joined_output q u n (vports c) (connection_of via c m i j 0 (take j c.ports) p o.operands)
       ≡ cond p.is_output (when (is_name n (cond p.is_output (name (identifier_text m (value_identifier i (0 + output_count (take j c.ports)))))
-      (expr_for (expression m) (slice_get o.operands (input_count (take j c.ports)))))) (output_drive j)) None
+      (expr_for (expression m (own_place via)) (slice_get o.operands (input_count (take j c.ports)))))) (output_drive j)) None
   joined_at j p there =
       ap (λ z. option_and_then (λ (y : VPort). cond y.is_output (when (is_name n (cond p.is_output (name (identifier_text m (value_identifier i (0 + output_count (take j c.ports)))))
-      (expr_for (expression m) (slice_get o.operands (input_count (take j c.ports)))))) (driven_from (vnet (u ∷ q) y.name))) None) z)
+      (expr_for (expression m (own_place via)) (slice_get o.operands (input_count (take j c.ports)))))) (driven_from (vnet (u ∷ q) y.name))) None) z)
       (port_under c are (port_identifier j) (port_in c j p there) ∙ ap (option_map (vport_at c j)) there)
 
-  pub joined_gives : (y : Connection) (w : Drive) → In y (connections_of c m i 0 0 c.ports o.operands) → joined_output q u n (vports c) y ≡ Some w
+  pub joined_gives : (y : Connection) (w : Drive) → In y (connections_of via c m i 0 0 c.ports o.operands) → joined_output q u n (vports c) y ≡ Some w
       → (j : ℕ) × (p : Port) × (slice_get c.ports j ≡ Some p) × (p.is_output ≡ true) × (n ≡ identifier_text m (value_identifier i (output_count (take j c.ports)))) × (output_drive j ≡ w)
   joined_gives y w here gives =
-      let e = from_connections c m i 0 0 c.ports o.operands y here in
-      let same : y ≡ connection_of c m i e.0 0 (take e.0 c.ports) e.1 o.operands = e.3 ∙ ap (λ a. connection_of c m i a 0 (take e.0 c.ports) e.1 o.operands) (zero-add e.0) in
+      let e = from_connections via c m i 0 0 c.ports o.operands y here in
+      let same : y ≡ connection_of via c m i e.0 0 (take e.0 c.ports) e.1 o.operands = e.3 ∙ ap (λ a. connection_of via c m i a 0 (take e.0 c.ports) e.1 o.operands) (zero-add e.0) in
       go e.0 e.1 e.2 e.1.is_output refl (sym (joined_at e.0 e.1 e.2) ∙ sym (ap (joined_output q u n (vports c)) same) ∙ gives) where
         go : (j : ℕ) (p : Port) → slice_get c.ports j ≡ Some p → (b : Bool) → p.is_output ≡ b
             → cond b (when (is_name n (cond b (name (identifier_text m (value_identifier i (0 + output_count (take j c.ports)))))
-            (expr_for (expression m) (slice_get o.operands (input_count (take j c.ports)))))) (output_drive j)) None ≡ Some w
+            (expr_for (expression m (own_place via)) (slice_get o.operands (input_count (take j c.ports)))))) (output_drive j)) None ≡ Some w
             → (j : ℕ) × (p : Port) × (slice_get c.ports j ≡ Some p) × (p.is_output ≡ true) × (n ≡ identifier_text m (value_identifier i (output_count (take j c.ports)))) × (output_drive j ≡ w)
         go j p there true way is =
             let h = when_some (same_name (identifier_text m (value_identifier i (0 + output_count (take j c.ports)))) n) (output_drive j) w is in
@@ -106,36 +108,36 @@ module _ (c m : Module) (are : AreNames c) (i : ℕ) (o : Op) (q : VPath) (u n :
         go j p there false way is = cc
 
   pub output_joined : (j : ℕ) (p : Port) → slice_get c.ports j ≡ Some p → p.is_output ≡ true → n ≡ identifier_text m (value_identifier i (output_count (take j c.ports)))
-      → joined_output q u n (vports c) (connection_of c m i j 0 (take j c.ports) p o.operands) ≡ Some (output_drive j)
+      → joined_output q u n (vports c) (connection_of via c m i j 0 (take j c.ports) p o.operands) ≡ Some (output_drive j)
   output_joined j p there out called =
       joined_at j p there
       ∙ ap (λ b. cond b (when (is_name n (cond b (name (identifier_text m (value_identifier i (0 + output_count (take j c.ports)))))
-      (expr_for (expression m) (slice_get o.operands (input_count (take j c.ports)))))) (output_drive j)) None) out
+      (expr_for (expression m (own_place via)) (slice_get o.operands (input_count (take j c.ports)))))) (output_drive j)) None) out
       ∙ ap (λ b. when b (output_drive j)) (ap (λ z. same_name z n) (ap (λ a. identifier_text m (value_identifier i a)) (zero-add (output_count (take j c.ports))) ∙ sym called) ∙ name_self n)
 
 -- ---- what an item of the module drives
 
-module _ (d : Design) (x : Setting d) (s : Name) (m : Module) (is : find_module d s ≡ Some m) (top : Name) (q : VPath) where
+module _ (via : Lowering) (d : Design) (x : Setting d) (s : Name) (m : Module) (is : find_module d s ≡ Some m) (top : Name) (q : VPath) where
   abbrev vm : VModule
-  vm = vmodule d m
+  vm = vmodule via d m
 
   are : AreNames m
   are = x.names s m is
 
   abbrev pub held_drive : ℕ → Drive
-  held_drive i = held (vbase (tree_of d) top q + vstate_before (tree_of d) (loads (identifier_text m (value_identifier i 0))) (Some (vmodule d m))) (width_in (vmodule d m) (identifier_text m (value_identifier i 0)))
+  held_drive i = held (vbase (tree_of via d) top q + vstate_before (tree_of via d) (loads (identifier_text m (value_identifier i 0))) (Some (vmodule via d m))) (width_in (vmodule via d m) (identifier_text m (value_identifier i 0)))
 
   abbrev pub result_drive : ℕ → ℕ → Op → Option Drive
   result_drive i k o = option_and_then (λ (c : Module). option_map (λ j. driven_from (vnet (identifier_text m (instance_identifier i) ∷ q) (identifier_text c (port_identifier j)))) (output_position k c.ports)) (callee d o)
 
   abbrev pub emission_drive : ℕ → ℕ → Op → Emission → Option Drive
   emission_drive i k o inline = None
-  emission_drive i k o as_wire = Some (driven_by q (assigned_expr m (result i 0)))
+  emission_drive i k o as_wire = Some (driven_by q (assigned_expr via m (result i 0)))
   emission_drive i k o as_reg = Some (held_drive i)
   emission_drive i k o as_instance = result_drive i k o
 
   abbrev pub output_expr : ℕ → Expr
-  output_expr j = expr_for (expression m) (slice_get (output_refs m.body) (output_count (take j m.ports)))
+  output_expr j = expr_for (expression m (load_place via)) (slice_get (output_refs m.body) (output_count (take j m.ports)))
 
   abbrev pub drive_value : Identifier → Option Drive
   drive_value (port_identifier j) = option_and_then (λ (p : Port). cond p.is_output (Some (driven_by q (output_expr j))) None) (slice_get m.ports j)
@@ -147,16 +149,16 @@ module _ (d : Design) (x : Setting d) (s : Name) (m : Module) (is : find_module 
   value_by_emission i k o r there emission = ap (λ z. option_and_then (λ (o : Op). emission_drive i k o (emission_of m.ports m.body i o)) z) there ∙ ap (emission_drive i k o) emission
 
   abbrev gives : Name → Item → Option Drive
-  gives n y = item_drive (tree_of d) top q (vmodule d m) n y
+  gives n y = item_drive (tree_of via d) top q (vmodule via d m) n y
 
-  pub block_name : (i : ℕ) (r : Register) (a : Option ResetBy) → block_target (module_block m (identifier_text m (value_identifier i 0)) r a) ≡ identifier_text m (value_identifier i 0)
-  block_name i r a = module_block_target m (identifier_text m (value_identifier i 0)) r a
+  pub block_name : (i : ℕ) (r : Register) (a : Option ResetBy) → block_target (module_block via m (identifier_text m (value_identifier i 0)) r a) ≡ identifier_text m (value_identifier i 0)
+  block_name i r a = module_block_target via m (identifier_text m (value_identifier i 0)) r a
 
   -- an instance's items
-  instance_drive : (n : Name) (i : ℕ) (o : Op) (c : Called d m o) → gives n (instance_at d m i o c.kind)
-      ≡ first_some (joined_output q (identifier_text m (instance_identifier i)) n (vports c.module_of)) (connections_of c.module_of m i 0 0 c.module_of.ports o.operands)
-  instance_drive n i o c = ap₂ (λ v f. first_some (joined_output q (identifier_text m (instance_identifier i)) n (vports_of v)) (connections_to f m i o))
-      (vmodule_found d x.ok x.symbols c.kind.symbol c.module_of c.there) c.there
+  instance_drive : (n : Name) (i : ℕ) (o : Op) (c : Called d m o) → gives n (instance_at via d m i o c.kind)
+      ≡ first_some (joined_output q (identifier_text m (instance_identifier i)) n (vports c.module_of)) (connections_of via c.module_of m i 0 0 c.module_of.ports o.operands)
+  instance_drive n i o c = ap₂ (λ v f. first_some (joined_output q (identifier_text m (instance_identifier i)) n (vports_of v)) (connections_to via f m i o))
+      (vmodule_found d x.ok x.symbols via c.kind.symbol c.module_of c.there) c.there
 
   pub value_of_result : (i : ℕ) (o : Op) (c : Called d m o) → slice_get m.body i ≡ Some o → emission_of m.ports m.body i o ≡ as_instance → (k j : ℕ) → output_position k c.module_of.ports ≡ Some j
       → drive_value (value_identifier i k) ≡ Some (driven_from (vnet (identifier_text m (instance_identifier i) ∷ q) (identifier_text c.module_of (port_identifier j))))
@@ -165,14 +167,14 @@ module _ (d : Design) (x : Setting d) (s : Name) (m : Module) (is : find_module 
       ∙ ap (λ z. option_and_then (λ (y : Module). option_map (λ a. driven_from (vnet (identifier_text m (instance_identifier i) ∷ q) (identifier_text y (port_identifier a)))) (output_position k y.ports)) z) (callee_is d m o c)
       ∙ ap (option_map (λ a. driven_from (vnet (identifier_text m (instance_identifier i) ∷ q) (identifier_text c.module_of (port_identifier a))))) at
 
-  drives_back : (n : Name) (y : Item) (w : Drive) → In y (vitems d m) → gives n y ≡ Some w → (k : Identifier) × In k (module_identifiers m) × (n ≡ identifier_text m k) × (drive_value k ≡ Some w)
-  drives_back n y w here is_given = go (from_items d m y here) where
-    by_instance : (i : ℕ) (o : Op) (c : Called d m o) → slice_get m.body i ≡ Some o → emission_of m.ports m.body i o ≡ as_instance → gives n (instance_at d m i o c.kind) ≡ Some w
+  drives_back : (n : Name) (y : Item) (w : Drive) → In y (vitems via d m) → gives n y ≡ Some w → (k : Identifier) × In k (module_identifiers m) × (n ≡ identifier_text m k) × (drive_value k ≡ Some w)
+  drives_back n y w here is_given = go (from_items via d m y here) where
+    by_instance : (i : ℕ) (o : Op) (c : Called d m o) → slice_get m.body i ≡ Some o → emission_of m.ports m.body i o ≡ as_instance → gives n (instance_at via d m i o c.kind) ≡ Some w
         → (k : Identifier) × In k (module_identifiers m) × (n ≡ identifier_text m k) × (drive_value k ≡ Some w)
     by_instance i o c there emission given =
         let u : Name = identifier_text m (instance_identifier i) in
-        let f = first_from (joined_output q u n (vports c.module_of)) (connections_of c.module_of m i 0 0 c.module_of.ports o.operands) w (sym (instance_drive n i o c) ∙ given) in
-        let j = joined_gives c.module_of m (x.names c.kind.symbol c.module_of c.there) i o q u n f.0 w f.1 f.2 in
+        let f = first_from (joined_output q u n (vports c.module_of)) (connections_of via c.module_of m i 0 0 c.module_of.ports o.operands) w (sym (instance_drive n i o c) ∙ given) in
+        let j = joined_gives via c.module_of m (x.names c.kind.symbol c.module_of c.there) i o q u n f.0 w f.1 f.2 in
         let p = position_of_output c.module_of.ports j.0 j.1 j.2 j.3 in
         let typed : option_map (λ (r : OpResult). r.type) (slice_get o.results (output_count (take j.0 c.module_of.ports))) ≡ Some j.1.type =
         sym (slice_of_map o.results (output_count (take j.0 c.module_of.ports))) ∙ ap (λ ts. slice_get ts (output_count (take j.0 c.module_of.ports))) c.outputs ∙ p.1 in
@@ -187,13 +189,13 @@ module _ (d : Design) (x : Setting d) (s : Name) (m : Module) (is : find_module 
           slice_of_map (r ∷ rs) zero = refl
           slice_of_map (r ∷ rs) (suc k) = slice_of_map rs k
 
-    go : From d m y → (k : Identifier) × In k (module_identifiers m) × (n ≡ identifier_text m k) × (drive_value k ≡ Some w)
+    go : From via d m y → (k : Identifier) × In k (module_identifiers m) × (n ≡ identifier_text m k) × (drive_value k ≡ Some w)
     go (net_assign i o there emission same) =
-        let h = when_some (same_name (identifier_text m (value_identifier i 0)) n) (driven_by q (assigned_expr m (result i 0))) w (sym (ap (gives n) same) ∙ is_given) in
+        let h = when_some (same_name (identifier_text m (value_identifier i 0)) n) (driven_by q (assigned_expr via m (result i 0))) w (sym (ap (gives n) same) ∙ is_given) in
         (value_identifier i 0, net_in m i o there emission, sym (name_from (identifier_text m (value_identifier i 0)) n h.0), value_by_emission i 0 o as_wire there emission ∙ ap (λ (z : Drive). Some z) h.1)
     go (variable_block i o r there emission at same) =
-        let given : gives n (block_at m i o r) ≡ Some w = sym (ap (gives n) same) ∙ is_given in
-        let held_under : Name → Drive = λ z. held (vbase (tree_of d) top q + vstate_before (tree_of d) (loads z) (Some (vmodule d m))) (width_in (vmodule d m) z) in
+        let given : gives n (block_at via m i o r) ≡ Some w = sym (ap (gives n) same) ∙ is_given in
+        let held_under : Name → Drive = λ z. held (vbase (tree_of via d) top q + vstate_before (tree_of via d) (loads z) (Some (vmodule via d m))) (width_in (vmodule via d m) z) in
         let h = when_some (same_name (identifier_text m (value_identifier i 0)) n) (held_under n) w (ap (λ z. when (same_name z n) (held_under n)) (sym (block_name i r (async_reset_in o))) ∙ given) in
         let called : identifier_text m (value_identifier i 0) ≡ n = name_from (identifier_text m (value_identifier i 0)) n h.0 in
         (value_identifier i 0, variable_in m i o there emission, sym called, value_by_emission i 0 o as_reg there emission ∙ ap (λ z. Some (held_under z)) called ∙ ap (λ (z : Drive). Some z) h.1)
@@ -209,16 +211,16 @@ module _ (d : Design) (x : Setting d) (s : Name) (m : Module) (is : find_module 
     go (variable_reg i o there emission same) = absurd (let h : None ≡ Some w = sym (ap (gives n) same) ∙ is_given in cc)
     go (result_wire i k o r there emission at same) = absurd (let h : None ≡ Some w = sym (ap (gives n) same) ∙ is_given in cc)
 
-  drives_forth : (k : Identifier) (w : Drive) → In k (module_identifiers m) → drive_value k ≡ Some w → (y : Item) × In y (vitems d m) × (gives (identifier_text m k) y ≡ Some w)
+  drives_forth : (k : Identifier) (w : Drive) → In k (module_identifiers m) → drive_value k ≡ Some w → (y : Item) × In y (vitems via d m) × (gives (identifier_text m k) y ≡ Some w)
   drives_forth k w here value = go (owner_of m k here) where
     chosen : (l : Identifier) (v : Drive) → k ≡ l → drive_value l ≡ Some v → when (same_name (identifier_text m l) (identifier_text m k)) v ≡ Some w
     chosen l v same given = ap (λ z. when (same_name (identifier_text m z) (identifier_text m k)) v) (sym same) ∙ ap (λ b. when b v) (name_self (identifier_text m k))
         ∙ sym given ∙ ap drive_value (sym same) ∙ value
 
-    of_port : (j : ℕ) (p : Port) → slice_get m.ports j ≡ Some p → k ≡ port_identifier j → (b : Bool) → p.is_output ≡ b → (y : Item) × In y (vitems d m) × (gives (identifier_text m k) y ≡ Some w)
+    of_port : (j : ℕ) (p : Port) → slice_get m.ports j ≡ Some p → k ≡ port_identifier j → (b : Bool) → p.is_output ≡ b → (y : Item) × In y (vitems via d m) × (gives (identifier_text m k) y ≡ Some w)
     of_port j p there same true out = (
-      output_item m j (take j m.ports) (output_refs m.body),
-      into_items d m (output_item m j (take j m.ports) (output_refs m.body)) (output_assign j p there out refl),
+      output_item via m j (take j m.ports) (output_refs m.body),
+      into_items via d m (output_item via m j (take j m.ports) (output_refs m.body)) (output_assign j p there out refl),
       chosen (port_identifier j) (driven_by q (output_expr j)) same
           (ap (λ z. option_and_then (λ (p : Port). cond p.is_output (Some (driven_by q (output_expr j))) None) z) there ∙ ap (λ b. cond b (Some (driven_by q (output_expr j))) None) out),
     )
@@ -226,7 +228,7 @@ module _ (d : Design) (x : Setting d) (s : Name) (m : Module) (is : find_module 
         sym (ap drive_value same ∙ ap (λ z. option_and_then (λ (p : Port). cond p.is_output (Some (driven_by q (output_expr j))) None) z) there ∙ ap (λ b. cond b (Some (driven_by q (output_expr j))) None) out) ∙ value in cc)
 
     of_result : (i l : ℕ) (o : Op) (r : OpResult) → slice_get m.body i ≡ Some o → emission_of m.ports m.body i o ≡ as_instance → slice_get o.results l ≡ Some r → k ≡ value_identifier i l → (c : Called d m o)
-        → (y : Item) × In y (vitems d m) × (gives (identifier_text m k) y ≡ Some w)
+        → (y : Item) × In y (vitems via d m) × (gives (identifier_text m k) y ≡ Some w)
     of_result i l o r there emission at same c = found_output (output_of_number c.module_of.ports l r.type typed) where
       slice_of_map : (rs : List OpResult) (k : ℕ) → slice_get (map (λ (r : OpResult). r.type) rs) k ≡ option_map (λ (r : OpResult). r.type) (slice_get rs k)
       slice_of_map [] k = refl
@@ -236,16 +238,16 @@ module _ (d : Design) (x : Setting d) (s : Name) (m : Module) (is : find_module 
       typed : slice_get (output_types c.module_of.ports) l ≡ Some r.type
       typed = ap (λ ts. slice_get ts l) (sym c.outputs) ∙ slice_of_map o.results l ∙ ap (option_map (λ (r : OpResult). r.type)) at
 
-      found_output : OutputAt c.module_of.ports l r.type → (y : Item) × In y (vitems d m) × (gives (identifier_text m k) y ≡ Some w)
+      found_output : OutputAt c.module_of.ports l r.type → (y : Item) × In y (vitems via d m) × (gives (identifier_text m k) y ≡ Some w)
       found_output e = (
-        instance_at d m i o c.kind,
-        into_items d m (instance_at d m i o c.kind) (an_instance i o c.kind there emission c.is_kind refl),
+        instance_at via d m i o c.kind,
+        into_items via d m (instance_at via d m i o c.kind) (an_instance i o c.kind there emission c.is_kind refl),
         instance_drive (identifier_text m k) i o c
-            ∙ first_found (joined_output q (identifier_text m (instance_identifier i)) (identifier_text m k) (vports c.module_of)) (the_drive e.position) (connections_of c.module_of m i 0 0 c.module_of.ports o.operands)
-            (connection_of c.module_of m i e.position 0 (take e.position c.module_of.ports) e.port o.operands)
-            (subst (λ a. In (connection_of c.module_of m i a 0 (take e.position c.module_of.ports) e.port o.operands) (connections_of c.module_of m i 0 0 c.module_of.ports o.operands)) (zero-add e.position)
-            (into_connections c.module_of m i 0 0 c.module_of.ports o.operands e.position e.port e.there))
-            (output_joined c.module_of m (x.names c.kind.symbol c.module_of c.there) i o q (identifier_text m (instance_identifier i)) (identifier_text m k) e.position e.port e.there e.out
+            ∙ first_found (joined_output q (identifier_text m (instance_identifier i)) (identifier_text m k) (vports c.module_of)) (the_drive e.position) (connections_of via c.module_of m i 0 0 c.module_of.ports o.operands)
+            (connection_of via c.module_of m i e.position 0 (take e.position c.module_of.ports) e.port o.operands)
+            (subst (λ a. In (connection_of via c.module_of m i a 0 (take e.position c.module_of.ports) e.port o.operands) (connections_of via c.module_of m i 0 0 c.module_of.ports o.operands)) (zero-add e.position)
+            (into_connections via c.module_of m i 0 0 c.module_of.ports o.operands e.position e.port e.there))
+            (output_joined via c.module_of m (x.names c.kind.symbol c.module_of c.there) i o q (identifier_text m (instance_identifier i)) (identifier_text m k) e.position e.port e.there e.out
             (ap (identifier_text m) same ∙ ap (λ a. identifier_text m (value_identifier i a)) (sym e.number)))
             only
             ∙ sym (value_of_result i o c there emission l e.position at_position) ∙ ap drive_value (sym same) ∙ value,
@@ -256,10 +258,10 @@ module _ (d : Design) (x : Setting d) (s : Name) (m : Module) (is : find_module 
         at_position : output_position l c.module_of.ports ≡ Some e.position
         at_position = ap (λ a. output_position a c.module_of.ports) (sym e.number) ∙ (position_of_output c.module_of.ports e.position e.port e.there e.out).0
 
-        only : (y : Connection) (v : Drive) → In y (connections_of c.module_of m i 0 0 c.module_of.ports o.operands)
+        only : (y : Connection) (v : Drive) → In y (connections_of via c.module_of m i 0 0 c.module_of.ports o.operands)
             → joined_output q (identifier_text m (instance_identifier i)) (identifier_text m k) (vports c.module_of) y ≡ Some v → v ≡ the_drive e.position
         only y v within given =
-            let j = joined_gives c.module_of m (x.names c.kind.symbol c.module_of c.there) i o q (identifier_text m (instance_identifier i)) (identifier_text m k) y v within given in
+            let j = joined_gives via c.module_of m (x.names c.kind.symbol c.module_of c.there) i o q (identifier_text m (instance_identifier i)) (identifier_text m k) y v within given in
             let p = position_of_output c.module_of.ports j.0 j.1 j.2 j.3 in
             let other : In (value_identifier i (output_count (take j.0 c.module_of.ports))) (module_identifiers m) = other_in j.0 j.1 p.1 in
             let identifiers : k ≡ value_identifier i (output_count (take j.0 c.module_of.ports)) = texts_apart m are k (value_identifier i (output_count (take j.0 c.module_of.ports))) here other j.4 in
@@ -276,27 +278,27 @@ module _ (d : Design) (x : Setting d) (s : Name) (m : Module) (is : find_module 
                   let r = option_map_some (λ (r : OpResult). r.type) (slice_get o.results n) t in
                   result_in_identifiers m i n o r.0 there emission r.1
 
-    go : Owner m k → (y : Item) × In y (vitems d m) × (gives (identifier_text m k) y ≡ Some w)
+    go : Owner m k → (y : Item) × In y (vitems via d m) × (gives (identifier_text m k) y ≡ Some w)
     go (a_port j p there same) = of_port j p there same p.is_output refl
     go (a_net i o there emission same) = (
-      assign (identifier_text m (value_identifier i 0)) (assigned_expr m (result i 0)),
-      into_items d m (assign (identifier_text m (value_identifier i 0)) (assigned_expr m (result i 0))) (net_assign i o there emission refl),
-      chosen (value_identifier i 0) (driven_by q (assigned_expr m (result i 0))) same (value_by_emission i 0 o as_wire there emission),
+      assign (identifier_text m (value_identifier i 0)) (assigned_expr via m (result i 0)),
+      into_items via d m (assign (identifier_text m (value_identifier i 0)) (assigned_expr via m (result i 0))) (net_assign i o there emission refl),
+      chosen (value_identifier i 0) (driven_by q (assigned_expr via m (result i 0))) same (value_by_emission i 0 o as_wire there emission),
     )
     go (a_variable i o there emission same) =
         let r = register_of d x s m is i o there emission in (
-          block_at m i o r.0,
-          into_items d m (block_at m i o r.0) (variable_block i o r.0 there emission r.1 refl),
-          ap₂ (λ a b. when (same_name a (identifier_text m k)) (held (vbase (tree_of d) top q + vstate_before (tree_of d) (loads (identifier_text m b)) (Some (vmodule d m)))
-              (width_in (vmodule d m) (identifier_text m b)))) (block_name i r.0 (async_reset_in o)) same
+          block_at via m i o r.0,
+          into_items via d m (block_at via m i o r.0) (variable_block i o r.0 there emission r.1 refl),
+          ap₂ (λ a b. when (same_name a (identifier_text m k)) (held (vbase (tree_of via d) top q + vstate_before (tree_of via d) (loads (identifier_text m b)) (Some (vmodule via d m)))
+              (width_in (vmodule via d m) (identifier_text m b)))) (block_name i r.0 (async_reset_in o)) same
               ∙ chosen (value_identifier i 0) (held_drive i) same (value_by_emission i 0 o as_reg there emission),
         )
     go (owns_instance i o there emission same) = absurd (let h : None ≡ Some w = sym (ap drive_value same) ∙ value in cc)
     go (a_result i l o r there emission at same) = of_result i l o r there emission at same (called_by_emission d x s m is i o there emission)
 
-  pub drive_under : (k : Identifier) → In k (module_identifiers m) → inner_drive (tree_of d) top q (vmodule d m) (identifier_text m k) ≡ drive_or_nothing (drive_value k)
-  drive_under k here = ap drive_or_nothing (found m are (item_drive (tree_of d) top q (vmodule d m)) (vitems d m) drive_value drives_back drives_forth k here)
+  pub drive_under : (k : Identifier) → In k (module_identifiers m) → inner_drive (tree_of via d) top q (vmodule via d m) (identifier_text m k) ≡ drive_or_nothing (drive_value k)
+  drive_under k here = ap drive_or_nothing (found m are (item_drive (tree_of via d) top q (vmodule via d m)) (vitems via d m) drive_value drives_back drives_forth k here)
 
-  pub no_drive_under : (n : Name) → ((k : Identifier) → In k (module_identifiers m) → n ≡ identifier_text m k → ⊥) → drive_in (tree_of d) top q (vmodule d m) n (find_port (vports m) n) ≡ nothing
-  no_drive_under n never = ap (drive_in (tree_of d) top q (vmodule d m) n) (no_port_under m are n never)
-      ∙ ap drive_or_nothing (unfound m are (item_drive (tree_of d) top q (vmodule d m)) (vitems d m) drive_value drives_back drives_forth n never)
+  pub no_drive_under : (n : Name) → ((k : Identifier) → In k (module_identifiers m) → n ≡ identifier_text m k → ⊥) → drive_in (tree_of via d) top q (vmodule via d m) n (find_port (vports m) n) ≡ nothing
+  no_drive_under n never = ap (drive_in (tree_of via d) top q (vmodule via d m) n) (no_port_under m are n never)
+      ∙ ap drive_or_nothing (unfound m are (item_drive (tree_of via d) top q (vmodule via d m)) (vitems via d m) drive_value drives_back drives_forth n never)

@@ -10,6 +10,8 @@ use Rattle.hw_model.specs.Flat.{Register, ResetBy, register_parts, register_in, 
 use Rattle.hw_model.specs.Sound.{type_in, register_types, Fits}
 use Rattle.verilog_model.specs.Tree.{Expr}
 use Rattle.verilog_model.specs.Hierarchy.{block_target}
+use Rattle.lowering_options.specs.declared.lowering.Lowering.{Lowering}
+use Rattle.export_verilog.specs.Lowerings.{load_place, own_place}
 use Rattle.export_verilog.specs.Identifiers.{emission_of}
 use Rattle.export_verilog.specs.Identifiers.Emission.{as_reg}
 use Rattle.export_verilog.specs.Exported.{expression, block_of, module_block}
@@ -118,16 +120,16 @@ async_reset_of o b is r at = (async_parts_of o b is r at).0
 
 -- ---- blocks
 
-block_of_target : (ex : Ref → Expr) (q : Name) (next : Ref) (e : Option Ref) (b : Option ResetBy) → block_target (block_of ex q next e b) ≡ q
-block_of_target ex q next None None = refl
-block_of_target ex q next (Some e) None = refl
-block_of_target ex q next None (Some b) = refl
-block_of_target ex q next (Some e) (Some b) = refl
+block_of_target : (asked ex : Ref → Expr) (q : Name) (next : Ref) (e : Option Ref) (b : Option ResetBy) → block_target (block_of asked ex q next e b) ≡ q
+block_of_target asked ex q next None None = refl
+block_of_target asked ex q next (Some e) None = refl
+block_of_target asked ex q next None (Some b) = refl
+block_of_target asked ex q next (Some e) (Some b) = refl
 
 -- the block of a register loads the register
-pub module_block_target : (m : Module) (q : Name) (r : Register) (a : Option ResetBy) → block_target (module_block m q r a) ≡ q
-module_block_target m q r None = block_of_target (expression m) q r.next r.enable r.reset
-module_block_target m q r (Some b) = refl
+pub module_block_target : (via : Lowering) (m : Module) (q : Name) (r : Register) (a : Option ResetBy) → block_target (module_block via m q r a) ≡ q
+module_block_target via m q r None = block_of_target (expression m (own_place via)) (expression m (load_place via)) q r.next r.enable r.reset
+module_block_target via m q r (Some b) = refl
 
 module _ (d : Design) (x : Setting d) (s : Name) (m : Module) (is : find_module d s ≡ Some m) where
   pub typed_register : (i : ℕ) (o : Op) → slice_get m.body i ≡ Some o → emission_of m.ports m.body i o ≡ as_reg → (t : HwType) → result_type o 0 ≡ Some t

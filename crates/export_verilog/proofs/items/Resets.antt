@@ -15,6 +15,9 @@ use Rattle.verilog_expr.specs.Expressions.{name_or, constant_expr, own_expr}
 use Rattle.verilog_expr.specs.Values.{is_aggregate_kind, gives_values}
 use Rattle.verilog_expr.proofs.Constants.{constant_own}
 use Rattle.verilog_expr.proofs.Depths.{expressions_hold}
+use Rattle.verilog_expr.specs.declared.extending.Extending.{Extending}
+use Rattle.lowering_options.specs.declared.lowering.Lowering.{Lowering}
+use Rattle.export_verilog.specs.Lowerings.{load_place, own_place}
 use Rattle.export_verilog.specs.Identifiers.{identifier_text, value_name, name_or_nothing}
 use Rattle.export_verilog.specs.Identifiers.Identifier.{port_identifier}
 use Rattle.export_verilog.specs.Exported.{expression, assigned_expr}
@@ -23,12 +26,12 @@ use Rattle.export_verilog.proofs.items.Writable.{named_input, only_first, writab
 use Rattle.export_verilog.proofs.behaviour.Sources.{inner_acyclic}
 use Rattle.export_verilog.proofs.behaviour.NetValues.{made_gives}
 
-module _ (d : Design) (x : Setting d) (s : Name) (m : Module) (is : find_module d s ≡ Some m) where
+module _ (via : Lowering) (d : Design) (x : Setting d) (s : Name) (m : Module) (is : find_module d s ≡ Some m) where
   -- an input port is written by its name
-  pub input_written : (j : ℕ) (p : Port) → slice_get m.ports j ≡ Some p → p.is_output ≡ false → expression m (port j) ≡ name (identifier_text m (port_identifier j))
-  input_written j p there out =
-      expressions_hold (value_name m) m.ports m.body (writable d x s m is) (inner_acyclic d s m is (one_result_of d x s m is) (x.ok.acyclic s)) (port j)
-      ∙ ap (λ z. name_or z (own_expr (value_name m) m.ports m.body (expression m) (port j))) (named_input d x s m is j p there out)
+  pub input_written : (y : Extending) (j : ℕ) (p : Port) → slice_get m.ports j ≡ Some p → p.is_output ≡ false → expression m y (port j) ≡ name (identifier_text m (port_identifier j))
+  input_written y j p there out =
+      expressions_hold (value_name m) m.ports m.body (writable d x s m is) (inner_acyclic d s m is (one_result_of d x s m is) (x.ok.acyclic s)) y (port j)
+      ∙ ap (λ z. name_or z (own_expr (value_name m) m.ports m.body (expression m) y (port j))) (named_input d x s m is j p there out)
 
   -- a value that is an input port with a mark, and has the port's name
   pub record IsSignalPort (r : Ref) : Type 0 where
@@ -39,7 +42,7 @@ module _ (d : Design) (x : Setting d) (s : Name) (m : Module) (is : find_module 
     pub input : port_of.is_output ≡ false
     pub has_mark : x.ok.marked m number ≡ true
     pub called : name_or_nothing (value_name m r) ≡ identifier_text m (port_identifier number)
-    pub written : expression m r ≡ name (identifier_text m (port_identifier number))
+    pub written : expression m (own_place via) r ≡ name (identifier_text m (port_identifier number))
 
   pub signal_port : (o : Op) (b : ResetBy) → In o m.body → async_reset_in o ≡ Some b → IsSignalPort b.signal
   signal_port o b within at = let p = x.ok.resets.signals s m o b is within at in record {
@@ -50,7 +53,7 @@ module _ (d : Design) (x : Setting d) (s : Name) (m : Module) (is : find_module 
     input = p.is_input;
     has_mark = p.has_mark;
     called = ap (λ z. name_or_nothing (value_name m z)) p.is_port ∙ ap name_or_nothing (named_input d x s m is p.number p.port_of p.there p.is_input);
-    written = ap (expression m) p.is_port ∙ input_written p.number p.port_of p.there p.is_input;
+    written = ap (expression m (own_place via)) p.is_port ∙ input_written (own_place via) p.number p.port_of p.there p.is_input;
   }
 
   -- a value that is an integer constant's of a type
@@ -91,5 +94,5 @@ module _ (d : Design) (x : Setting d) (s : Name) (m : Module) (is : find_module 
         }
 
   -- its literal is what is assigned to its name
-  pub literal_own : (r : Ref) (t : HwType) (v : IsValueOf r t) → constant_expr m.ports m.body r ≡ assigned_expr m (result v.position 0)
-  literal_own r t v = ap (constant_expr m.ports m.body) v.is_result ∙ constant_own (value_name m) m.ports m.body (expression m) v.position v.op v.number t v.there v.kind v.typed
+  pub literal_own : (r : Ref) (t : HwType) (v : IsValueOf r t) → constant_expr m.ports m.body r ≡ assigned_expr via m (result v.position 0)
+  literal_own r t v = ap (constant_expr m.ports m.body) v.is_result ∙ constant_own (value_name m) m.ports m.body (expression m) (load_place via) v.position v.op v.number t v.there v.kind v.typed

@@ -7,6 +7,8 @@ use Rattle.verilog_model.specs.Tree.{Expr, Connection}
 use Rattle.verilog_model.specs.Tree.Expr.{name}
 use Rattle.verilog_model.specs.Checks.{contains_name, are_distinct}
 use Rattle.verilog_model.proofs.Numerals.{and_intro}
+use Rattle.lowering_options.specs.declared.lowering.Lowering.{Lowering}
+use Rattle.export_verilog.specs.Lowerings.{own_place}
 use Rattle.export_verilog.specs.Identifiers.{Identifier, identifier_text, module_identifiers}
 use Rattle.export_verilog.specs.Identifiers.Identifier.{port_identifier, value_identifier}
 use Rattle.export_verilog.specs.Exported.{expression, expr_or_none, connections_of, others}
@@ -72,21 +74,22 @@ port_identifiers_within m k here = let e = port_identifiers_above 0 m.ports k he
     subst (λ z. In z (module_identifiers m)) (sym (e.3 ∙ ap port_identifier (zero-add e.0))) (port_in m e.0 e.1 e.2)
 
 -- the ports that an instance joins
-pub connected_ports : (c m : Module) (i j k : ℕ) (ps : List Port) (rs : List Ref) → map (λ (y : Connection). y.port) (connections_of c m i j k ps rs) ≡ map (identifier_text c) (port_identifiers_from j ps)
+pub connected_ports : (via : Lowering) (c m : Module) (i j k : ℕ) (ps : List Port) (rs : List Ref) → map (λ (y : Connection). y.port) (connections_of via c m i j k ps rs) ≡ map (identifier_text c) (port_identifiers_from j ps)
 unfolding port_identifiers_from
-connected_ports c m i j k [] rs = refl
-connected_ports c m i j k (p ∷ ps) rs = go p.is_output (connected_ports c m i (suc j) (suc k) ps rs) (connected_ports c m i (suc j) k ps (others rs)) where
+connected_ports via c m i j k [] rs = refl
+connected_ports via c m i j k (p ∷ ps) rs = go p.is_output (connected_ports via c m i (suc j) (suc k) ps rs) (connected_ports via c m i (suc j) k ps (others rs)) where
   head : Expr → Connection
   head e = record { port = identifier_text c (port_identifier j); value = e }
 
-  go : (b : Bool) → map (λ (y : Connection). y.port) (connections_of c m i (suc j) (suc k) ps rs) ≡ map (identifier_text c) (port_identifiers_from (suc j) ps)
-      → map (λ (y : Connection). y.port) (connections_of c m i (suc j) k ps (others rs)) ≡ map (identifier_text c) (port_identifiers_from (suc j) ps)
-      → map (λ (y : Connection). y.port) (cond b (head (name (identifier_text m (value_identifier i k))) ∷ connections_of c m i (suc j) (suc k) ps rs) (head (expr_or_none (expression m) rs) ∷ connections_of c m i (suc j) k ps (others rs)))
+  go : (b : Bool) → map (λ (y : Connection). y.port) (connections_of via c m i (suc j) (suc k) ps rs) ≡ map (identifier_text c) (port_identifiers_from (suc j) ps)
+      → map (λ (y : Connection). y.port) (connections_of via c m i (suc j) k ps (others rs)) ≡ map (identifier_text c) (port_identifiers_from (suc j) ps)
+      → map (λ (y : Connection). y.port) (cond b (head (name (identifier_text m (value_identifier i k))) ∷ connections_of via c m i (suc j) (suc k) ps rs)
+      (head (expr_or_none (expression m (own_place via)) rs) ∷ connections_of via c m i (suc j) k ps (others rs)))
       ≡ identifier_text c (port_identifier j) ∷ map (identifier_text c) (port_identifiers_from (suc j) ps)
   go true x y = ap (λ z. identifier_text c (port_identifier j) ∷ z) x
   go false x y = ap (λ z. identifier_text c (port_identifier j) ∷ z) y
 
-pub ports_distinct : (c m : Module) (are : AreNames c) (i : ℕ) (rs : List Ref) → are_distinct (map (λ (y : Connection). y.port) (connections_of c m i 0 0 c.ports rs)) ≡ true
-ports_distinct c m are i rs =
-    ap are_distinct (connected_ports c m i 0 0 c.ports rs)
+pub ports_distinct : (via : Lowering) (c m : Module) (are : AreNames c) (i : ℕ) (rs : List Ref) → are_distinct (map (λ (y : Connection). y.port) (connections_of via c m i 0 0 c.ports rs)) ≡ true
+ports_distinct via c m are i rs =
+    ap are_distinct (connected_ports via c m i 0 0 c.ports rs)
     ∙ texts_distinct c are (port_identifiers_from 0 c.ports) (port_identifiers_within c) (port_identifiers_apart 0 c.ports)

@@ -9,6 +9,7 @@ use Rattle.verilog_model.specs.Tree.{VModule}
 use Rattle.verilog_model.specs.Hierarchy.{when, find_vmodule}
 use Rattle.verilog_model.specs.Checks.{contains_name, are_distinct, names_check, all_identifiers}
 use Rattle.verilog_model.proofs.Numerals.{and_first, and_second}
+use Rattle.lowering_options.specs.declared.lowering.Lowering.{Lowering}
 use Rattle.export_verilog.specs.Exported.{symbol_names, symbol_among, symbol_name, vmodule, tree_of}
 use Rattle.export_verilog.specs.Exportable.{IsExportable}
 use Rattle.export_verilog.proofs.items.Lists.{first_found}
@@ -95,20 +96,20 @@ module _ (d : Design) (x : IsExportable d) where
         distinct_positions (symbol_names d) i j (symbol_name d n.symbol) (and_first (are_distinct (symbol_names d)) (all_identifiers (symbol_names d)) are.check)
         (symbol_at i m here ∙ ap (λ (y : Name). Some y) same) (symbol_at j n there)
 
-    pub vmodule_found : (s : Name) (m : Module) → find_module d s ≡ Some m → find_vmodule (tree_of d) (symbol_name d s) ≡ Some (vmodule d m)
-    vmodule_found s m is = let at = found_symbol d s m is in
-        first_found (λ (v : VModule). when (same_name v.name (symbol_name d s)) v) (vmodule d m) (tree_of d) (vmodule d m)
-        (In-map (vmodule d) m d (In-slice_get m d at.0 at.1))
-        (ap (λ b. when b (vmodule d m)) (ap (λ y. same_name (symbol_name d y) (symbol_name d s)) at.2 ∙ name_self (symbol_name d s)))
+    pub vmodule_found : (via : Lowering) (s : Name) (m : Module) → find_module d s ≡ Some m → find_vmodule (tree_of via d) (symbol_name d s) ≡ Some (vmodule via d m)
+    vmodule_found via s m is = let at = found_symbol d s m is in
+        first_found (λ (v : VModule). when (same_name v.name (symbol_name d s)) v) (vmodule via d m) (tree_of via d) (vmodule via d m)
+        (In-map (vmodule via d) m d (In-slice_get m d at.0 at.1))
+        (ap (λ b. when b (vmodule via d m)) (ap (λ y. same_name (symbol_name d y) (symbol_name d s)) at.2 ∙ name_self (symbol_name d s)))
         (λ v w here gives. only at.0 at.1 at.2 v w here gives) where
-          only : (i : ℕ) → slice_get d i ≡ Some m → m.symbol ≡ s → (v w : VModule) → In v (tree_of d) → when (same_name v.name (symbol_name d s)) v ≡ Some w → w ≡ vmodule d m
+          only : (i : ℕ) → slice_get d i ≡ Some m → m.symbol ≡ s → (v w : VModule) → In v (tree_of via d) → when (same_name v.name (symbol_name d s)) v ≡ Some w → w ≡ vmodule via d m
           only i there named v w here gives =
               let h = when_some (same_name v.name (symbol_name d s)) v w gives in
-              let f = from_In-map (vmodule d) v d here in
+              let f = from_In-map (vmodule via d) v d here in
               let p = position_of_In f.0 d f.1 in
               let same : symbol_name d f.0.symbol ≡ symbol_name d m.symbol =
               ap (λ (y : VModule). y.name) (sym f.2) ∙ name_from v.name (symbol_name d s) h.0 ∙ ap (symbol_name d) (sym named) in
               let e : p.0 ≡ i = symbols_apart p.0 i f.0 m p.1 there same in
               let g : Some f.0 ≡ Some m = sym p.1 ∙ ap (slice_get d) e ∙ there in
               let k : f.0 ≡ m = cc in
-              sym h.1 ∙ f.2 ∙ ap (vmodule d) k
+              sym h.1 ∙ f.2 ∙ ap (vmodule via d) k

@@ -5,6 +5,7 @@ use Rattle.hw_model.specs.Kinds.Kind.{constant, extract, output, async_firreg}
 use Rattle.hw_model.specs.Design.{Design}
 use Rattle.hw_model.specs.Design.Ref.{port, result}
 use Rattle.hw_model.proofs.Samples.{operation, in_port, out_port, module_of}
+use Rattle.lowering_options.specs.declared.lowering.Lowering.TheVariants.{Plain}
 use Rattle.export_verilog.specs.Layout.{verilog_text, tree_text, further_text, module_text, items_text, item_text, connections_text, connection_lines, connection_text, event_text, block_text, if_text}
 use Rattle.export_verilog.specs.Layout.{load_text, ports_text, port_lines, port_text, range_text}
 use Rattle.export_verilog.specs.Identifiers.{names}
@@ -47,6 +48,6 @@ reset_lines =
     (codes "  assign e = _GEN[" ∷ decimal 3 ∷ codes ":" ∷ decimal 0 ∷ codes "];" ∷ []) ∷
     (codes "endmodule" ∷ []) ∷ []
 
-reset_register_text : verilog_text reset_register ≡ lines reset_lines []
+reset_register_text : verilog_text Plain reset_register ≡ lines reset_lines []
 unfolding verilog_text tree_text further_text module_text items_text item_text connections_text connection_lines connection_text event_text block_text if_text load_text ports_text port_lines port_text range_text names symbol_names clean free_name reserved_words expr_to spilled height hex expr_text exprs_text
 reset_register_text = refl

@@ -7,6 +7,7 @@ use Rattle.hw_model.specs.Types.{Name}
 use Rattle.hw_model.specs.Design.{Port, Module, Design}
 use Rattle.verilog_model.specs.Tree.{VPort, Item, VModule, Tree}
 use Rattle.wiring.proofs.Joined.{split_at}
+use Rattle.lowering_options.specs.declared.lowering.Lowering.{Lowering}
 use Rattle.export_verilog.specs.Identifiers.{identifier_text, name_or_nothing}
 use Rattle.export_verilog.specs.Identifiers.Identifier.{port_identifier}
 use Rattle.export_verilog.specs.Exported.{vports, vmodule}
@@ -79,9 +80,9 @@ unfolding modules_left tree_text further_text
 left_none zero = refl
 left_none (suc n) = refl
 
-pub left_all : (d : Design) → modules_left 0 (map (vmodule d) d) ≡ verilog_text d
+pub left_all : (via : Lowering) (d : Design) → modules_left 0 (map (vmodule via d) d) ≡ verilog_text via d
 unfolding modules_left verilog_text
-left_all d = refl
+left_all via d = refl
 
 found : {A : Type 0} (xs : List A) (i : ℕ) → i < length xs → (x : A) × (slice_get xs i ≡ Some x)
 found [] i lt = absurd (omega (arith, lt))

@@ -9,6 +9,7 @@ use Rattle.hw_model.specs.Kinds.Reset.{sync_reset}
 use Rattle.hw_model.specs.Design.{Ref, Port, Op, Module, Design}
 use Rattle.hw_model.specs.Design.Ref.{port, result}
 use Rattle.hw_model.proofs.Samples.{operation, in_port, out_port, module_of}
+use Rattle.lowering_options.specs.declared.lowering.Lowering.TheVariants.{Plain}
 use Rattle.export_verilog.specs.Layout.{verilog_text, tree_text, further_text, module_text, items_text, item_text, connections_text, connection_lines, connection_text, event_text, block_text, if_text}
 use Rattle.export_verilog.specs.Layout.{load_text, ports_text, port_lines, port_text, range_text}
 use Rattle.export_verilog.specs.Identifiers.{names}
@@ -101,6 +102,6 @@ two_lines =
     (codes "  assign b = _u2_q;" ∷ []) ∷
     (codes "endmodule" ∷ []) ∷ []
 
-two_registers_text : verilog_text two_registers ≡ lines register_lines (lines two_lines [])
+two_registers_text : verilog_text Plain two_registers ≡ lines register_lines (lines two_lines [])
 unfolding verilog_text tree_text further_text module_text items_text item_text connections_text connection_lines connection_text event_text block_text if_text load_text ports_text port_lines port_text range_text names symbol_names clean free_name reserved_words expr_to spilled height hex expr_text exprs_text
 two_registers_text = refl

@@ -35,8 +35,8 @@ written_event q next (Some en) None bs = refl
 written_event q next None (Some r) bs = refl
 written_event q next (Some en) (Some r) bs = refl
 
-module _ (ex : Ref → Expr) (q : Name) where
-  block_event : (next : Ref) (en : Option Ref) (r : Option ResetBy) (bs : Text) → event_text (block_of ex q next en r) bs ≡ 41 ∷ 10 ∷ bs
+module _ (asked ex : Ref → Expr) (q : Name) where
+  block_event : (next : Ref) (en : Option Ref) (r : Option ResetBy) (bs : Text) → event_text (block_of asked ex q next en r) bs ≡ 41 ∷ 10 ∷ bs
   unfolding event_text
   block_event next None None bs = refl
   block_event next (Some en) None bs = refl
@@ -45,35 +45,35 @@ module _ (ex : Ref → Expr) (q : Name) where
 
   -- the parts of a reset
   abbrev pub parts_text : ResetBy → WrittenReset
-  parts_text r = record { signal = expr_text (ex r.signal) []; value = expr_text (ex r.value) [] }
+  parts_text r = record { signal = expr_text (asked r.signal) []; value = expr_text (ex r.value) [] }
 
   pub block_same : (next : Ref) (en : Option Ref) (r : Option ResetBy) (bs : Text)
-      → block_text (written_block q (expr_text (ex next) []) (option_map (λ x. expr_text (ex x) []) en) (option_map parts_text r)) bs ≡ block_text (block_of ex q next en r) bs
+      → block_text (written_block q (expr_text (ex next) []) (option_map (λ x. expr_text (asked x) []) en) (option_map parts_text r)) bs ≡ block_text (block_of asked ex q next en r) bs
   unfolding block_text
   block_same next None None bs = load_same (codes "    ") q (ex next) bs
   block_same next (Some en) None bs =
-      if_same (codes "    ") (ex en) (load_text (codes "      ") (written_load q (expr_text (ex next) [])) bs)
-      ∙ ap (if_text (codes "    ") (ex en)) (load_same (codes "      ") q (ex next) bs)
+      if_same (codes "    ") (asked en) (load_text (codes "      ") (written_load q (expr_text (ex next) [])) bs)
+      ∙ ap (if_text (codes "    ") (asked en)) (load_same (codes "      ") q (ex next) bs)
   block_same next None (Some r) bs =
-      if_same (codes "    ") (ex r.signal) (load_text (codes "      ") (written_load q (expr_text (ex r.value) [])) (codes "    else" ++ (10 ∷ load_text (codes "      ") (written_load q (expr_text (ex next) [])) bs)))
-      ∙ ap (if_text (codes "    ") (ex r.signal)) (load_same (codes "      ") q (ex r.value) (codes "    else" ++ (10 ∷ load_text (codes "      ") (written_load q (expr_text (ex next) [])) bs)))
-      ∙ ap (λ x. if_text (codes "    ") (ex r.signal) (load_text (codes "      ") (loads q (ex r.value)) (codes "    else" ++ (10 ∷ x)))) (load_same (codes "      ") q (ex next) bs)
+      if_same (codes "    ") (asked r.signal) (load_text (codes "      ") (written_load q (expr_text (ex r.value) [])) (codes "    else" ++ (10 ∷ load_text (codes "      ") (written_load q (expr_text (ex next) [])) bs)))
+      ∙ ap (if_text (codes "    ") (asked r.signal)) (load_same (codes "      ") q (ex r.value) (codes "    else" ++ (10 ∷ load_text (codes "      ") (written_load q (expr_text (ex next) [])) bs)))
+      ∙ ap (λ x. if_text (codes "    ") (asked r.signal) (load_text (codes "      ") (loads q (ex r.value)) (codes "    else" ++ (10 ∷ x)))) (load_same (codes "      ") q (ex next) bs)
   block_same next (Some en) (Some r) bs =
-      if_same (codes "    ") (ex r.signal) (load_text (codes "      ") (written_load q (expr_text (ex r.value) []))
-      (if_text (codes "    else ") (verbatim (expr_text (ex en) [])) (load_text (codes "      ") (written_load q (expr_text (ex next) [])) bs)))
-      ∙ ap (if_text (codes "    ") (ex r.signal)) (load_same (codes "      ") q (ex r.value) (if_text (codes "    else ") (verbatim (expr_text (ex en) [])) (load_text (codes "      ") (written_load q (expr_text (ex next) [])) bs)))
-      ∙ ap (λ x. if_text (codes "    ") (ex r.signal) (load_text (codes "      ") (loads q (ex r.value)) x))
-      (if_same (codes "    else ") (ex en) (load_text (codes "      ") (written_load q (expr_text (ex next) [])) bs)
-      ∙ ap (if_text (codes "    else ") (ex en)) (load_same (codes "      ") q (ex next) bs))
+      if_same (codes "    ") (asked r.signal) (load_text (codes "      ") (written_load q (expr_text (ex r.value) []))
+      (if_text (codes "    else ") (verbatim (expr_text (asked en) [])) (load_text (codes "      ") (written_load q (expr_text (ex next) [])) bs)))
+      ∙ ap (if_text (codes "    ") (asked r.signal)) (load_same (codes "      ") q (ex r.value) (if_text (codes "    else ") (verbatim (expr_text (asked en) [])) (load_text (codes "      ") (written_load q (expr_text (ex next) [])) bs)))
+      ∙ ap (λ x. if_text (codes "    ") (asked r.signal) (load_text (codes "      ") (loads q (ex r.value)) x))
+      (if_same (codes "    else ") (asked en) (load_text (codes "      ") (written_load q (expr_text (ex next) [])) bs)
+      ∙ ap (if_text (codes "    else ") (asked en)) (load_same (codes "      ") q (ex next) bs))
 
   pub always_same : (clock : Text) (next : Ref) (en : Option Ref) (r : Option ResetBy) (bs : Text)
-      → item_text (always clock (written_block q (expr_text (ex next) []) (option_map (λ x. expr_text (ex x) []) en) (option_map parts_text r))) bs ≡ item_text (always clock (block_of ex q next en r)) bs
+      → item_text (always clock (written_block q (expr_text (ex next) []) (option_map (λ x. expr_text (asked x) []) en) (option_map parts_text r))) bs ≡ item_text (always clock (block_of asked ex q next en r)) bs
   unfolding item_text
   always_same clock next en r bs =
       ap (λ x. codes "  always @(posedge " ++ (clock ++ x))
-      (written_event q (expr_text (ex next) []) (option_map (λ x. expr_text (ex x) []) en) (option_map parts_text r)
-      (block_text (written_block q (expr_text (ex next) []) (option_map (λ x. expr_text (ex x) []) en) (option_map parts_text r)) bs)
-      ∙ ap (λ x. 41 ∷ 10 ∷ x) (block_same next en r bs) ∙ sym (block_event next en r (block_text (block_of ex q next en r) bs)))
+      (written_event q (expr_text (ex next) []) (option_map (λ x. expr_text (asked x) []) en) (option_map parts_text r)
+      (block_text (written_block q (expr_text (ex next) []) (option_map (λ x. expr_text (asked x) []) en) (option_map parts_text r)) bs)
+      ∙ ap (λ x. 41 ∷ 10 ∷ x) (block_same next en r bs) ∙ sym (block_event next en r (block_text (block_of asked ex q next en r) bs)))
 
   -- the same of a block with an asynchronous reset
   pub async_same : (clock : Text) (named : Ref → Option Name) (literal : Ref → Expr) (next : Ref) (r : ResetBy) (bs : Text)

@@ -18,7 +18,7 @@ returns-in-MlirPieces g c =
 pub returns-in-Verilog : goal.returns-in-Verilog
 returns-in-Verilog g c =
     subst (λ (w : Work). Gives (work_of w) c.args.sources.now c.without_finding-in-Verilog.result) (sym c.in-Verilog.is)
-    (c.without_finding-in-Verilog.ensures (verilog c.in-Verilog.passes) c.args.sources.now (c.translate_whole.ensures c.args.sources.now (sym c.first_input-source.ensures)))
+    (c.without_finding-in-Verilog.ensures (verilog c.in-Verilog.passes c.in-Verilog.options) c.args.sources.now (c.translate_whole.ensures c.args.sources.now (sym c.first_input-source.ensures)))
 
 pub returns-in-GeneratedSummary : goal.returns-in-GeneratedSummary
 returns-in-GeneratedSummary g c =

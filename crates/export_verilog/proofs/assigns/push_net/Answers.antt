@@ -3,6 +3,7 @@ use Rattle.verilog_model.specs.Tree.Item.{assign}
 use Rattle.verilog_expr.specs.Expressions.{own_expr}
 use Rattle.verilog_expr.specs.Scopes.{scope_ports, scope_ops, scope_ref}
 use Rattle.verilog_expr.specs.Named.{named_of}
+use Rattle.export_verilog.specs.Lowerings.{load_place}
 use Rattle.export_verilog.specs.Identifiers.{name_or_nothing}
 use Rattle.export_verilog.specs.Layout.{item_text}
 use Rattle.export_verilog.specs.Written.{verbatim}
@@ -18,4 +19,4 @@ returns c =
     let n = name_or_nothing (named_of v r) in
     c.in_ok-push_assign.ensures ∙ ap (λ x. c.args.out.now ++ item_text (assign x (verbatim c.as_bytes.result.now)) []) c.name_text-name.ensures
     ∙ ap (λ x. c.args.out.now ++ item_text (assign n (verbatim x)) []) (c.as_bytes.ensures ∙ c.in_ok-text.ensures)
-    ∙ ap (λ x. c.args.out.now ++ x) (assign_same n (own_expr (named_of v) (scope_ports s) (scope_ops s) (value_expr s v) r) [])
+    ∙ ap (λ x. c.args.out.now ++ x) (assign_same n (own_expr (named_of v) (scope_ports s) (scope_ops s) (value_expr s v) (load_place c.args.writer.now.options) r) [])

@@ -7,4 +7,4 @@ use Rattle.export_verilog.proofs.export.design_text.Given as goal
 
 abbrev pub invariant-loop-number : goal.invariant-loop-number
 invariant-loop-number l =
-    l.out ++ modules_left l.number (map (vmodule (design_of l.all.design.now)) (drop l.number (design_of l.all.design.now))) ≡ verilog_text (design_of l.all.design.now)
+    l.out ++ modules_left l.number (map (vmodule l.options (design_of l.all.design.now)) (drop l.number (design_of l.all.design.now))) ≡ verilog_text l.options (design_of l.all.design.now)

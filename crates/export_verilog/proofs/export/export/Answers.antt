@@ -13,4 +13,4 @@ export_design-requires g c =
     (c.type_bounds.sync-R, (subst IsAccepted same c.args.verified.now.accepted, subst HasNoAggregates same c.requires))
 
 pub returns : goal.returns
-returns g c = subst (λ (d : Design). IfOk c.export_design.result (λ text. text ≡ verilog_text d)) (ap (map numbered_module) c.design.ensures) c.export_design.ensures
+returns g c = subst (λ (d : Design). IfOk c.export_design.result (λ text. text ≡ verilog_text c.args.options d)) (ap (map numbered_module) c.design.ensures) c.export_design.ensures

@@ -10,18 +10,18 @@ use Rattle.export_verilog.proofs.export.joined_text.Goals as goal
 pub loop-number-init : goal.loop-number-init
 loop-number-init c =
     let d = design_of c.args.all.now.design.now in
-    ap (λ t. t ++ modules_left 0 (map (vmodule d) d)) c.new-out.ensures ∙ left_all d
+    ap (λ t. t ++ modules_left 0 (map (vmodule c.args.options d) d)) c.new-out.ensures ∙ left_all c.args.options d
 
 pub loop-number-preserved : goal.loop-number-preserved
 loop-number-preserved c =
     let d = design_of c.args.all.now.design.now in
-    module_step (vmodule d) d c.loop-number.number _ c.loop-number.out c.push_between.new.out c.push_bytes.new.self (verilog_text d)
+    module_step (vmodule c.args.options d) d c.loop-number.number _ c.loop-number.out c.push_between.new.out c.push_bytes.new.self (verilog_text c.args.options d)
     (omega (arith, c.loop-number-test.true, c.module_count-number-end.ensures, stored_count (modules_of c.args.all.now.design.now))) refl
     c.loop-number.invariant c.in_ok-push_between.ensures
-    (λ m at. c.in_ok-push_bytes.ensures.ok ∙ ap (λ t. c.push_between.new.out ++ t) (c.as_bytes.ensures ∙ c.index-texts-number.is ∙ text_at d c.args.texts.now c.loop-number.number _ c.requires m at))
+    (λ m at. c.in_ok-push_bytes.ensures.ok ∙ ap (λ t. c.push_between.new.out ++ t) (c.as_bytes.ensures ∙ c.index-texts-number.is ∙ text_at c.args.options d c.args.texts.now c.loop-number.number _ c.requires m at))
 
 pub returns : goal.returns
 returns c =
     let d = design_of c.args.all.now.design.now in
-    modules_end (vmodule d) d c.loop-number.number c.loop-number.out (verilog_text d)
+    modules_end (vmodule c.args.options d) d c.loop-number.number c.loop-number.out (verilog_text c.args.options d)
     (omega (arith, c.loop-number-test.false, c.module_count-number-end.ensures, stored_count (modules_of c.args.all.now.design.now))) c.loop-number.invariant

@@ -25,11 +25,12 @@ loop-position-preserved c =
     let r = emission_seen c.emission_of-emission.result in
     let lt : i < length O = omega (arith, c.loop-position-test.true, c.count-position-end.ensures) in
     let emission : r ≡ emission_of (scope_ports s) O i x = c.emission_of-emission.ensures ∙ ap (λ b. emission_by b (kind_of o.kind.now)) (c.has_wire.ensures ∙ c.args.writer.now.wires_are i lt) in
-    each_step (states d m) O i x (stated_as d m i x r) c.loop-position.out c.push_statements.new.out (c.args.out.now ++ each_left (states d m) O 0) c.op_at-op.ensures
-    (ap (stated_as d m i x) emission) c.in_ok-push_statements.ensures c.loop-position.invariant
+    each_step (states c.args.writer.now.options d m) O i x (stated_as c.args.writer.now.options d m i x r) c.loop-position.out c.push_statements.new.out
+    (c.args.out.now ++ each_left (states c.args.writer.now.options d m) O 0) c.op_at-op.ensures
+    (ap (stated_as c.args.writer.now.options d m i x) emission) c.in_ok-push_statements.ensures c.loop-position.invariant
 
 pub returns : goal.returns
 returns c =
     let s = c.args.writer.now.scope in
-    let f = states (design_of c.args.writer.now.design.now.design.now) (scope_module s) in
+    let f = states c.args.writer.now.options (design_of c.args.writer.now.design.now.design.now) (scope_module s) in
     each_end f (scope_ops s) c.loop-position.position c.loop-position.out (c.args.out.now ++ each_left f (scope_ops s) 0) (omega (arith, c.loop-position-test.false, c.count-position-end.ensures)) c.loop-position.invariant

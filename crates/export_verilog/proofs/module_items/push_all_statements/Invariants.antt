@@ -8,5 +8,5 @@ use Rattle.export_verilog.proofs.module_items.push_all_statements.Given as goal
 
 abbrev pub invariant-loop-position : goal.invariant-loop-position
 invariant-loop-position l =
-    let f = states (design_of l.writer.design.now.design.now) (scope_module l.writer.scope) in
+    let f = states l.writer.options (design_of l.writer.design.now.design.now) (scope_module l.writer.scope) in
     l.out ++ each_left f (scope_ops l.writer.scope) l.position ≡ l.initial.out ++ each_left f (scope_ops l.writer.scope) 0

@@ -8,6 +8,6 @@ abbrev pub invariant-loop-position : goal.invariant-loop-position
 invariant-loop-position l =
     let m = scope_module l.writer.scope in
     record {
-      bytes : l.out ++ outputs_left m (scope_ref l.writer.scope) l.operands l.position l.number ≡ l.initial.out ++ outputs_left m (scope_ref l.writer.scope) l.operands 0 0;
+      bytes : l.out ++ outputs_left l.writer.options m (scope_ref l.writer.scope) l.operands l.position l.number ≡ l.initial.out ++ outputs_left l.writer.options m (scope_ref l.writer.scope) l.operands 0 0;
       number : l.number ≤ l.position;
     }

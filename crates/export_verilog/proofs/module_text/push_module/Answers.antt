@@ -10,13 +10,13 @@ pub of-requires : goal.of-requires
 of-requires c =
     let x = c.module-module.result.now in
     record {
-      small = (scope_writable (modules_of c.args.all.now.design.now) c.requires.writable c.args.number (module_of x) c.module-module.ensures
+      small = (scope_writable c.args.options (modules_of c.args.all.now.design.now) c.requires.writable c.args.number (module_of x) c.module-module.ensures
           (ports_in x.ports) (ops_by_position (ops_of x.body)) refl refl).small;
     }
 
 pub of-requires-2 : goal.of-requires-2
 of-requires-2 c =
-    (scope_writable (modules_of c.args.all.now.design.now) c.requires.writable c.args.number (module_of c.module-module.result.now) c.module-module.ensures
+    (scope_writable c.args.options (modules_of c.args.all.now.design.now) c.requires.writable c.args.number (module_of c.module-module.result.now) c.module-module.ensures
     (scope_ports c.in_ok-scope.scope) (scope_ops c.in_ok-scope.scope) c.in_ok-scope.ensures.ports c.in_ok-scope.ensures.ops).acyclic
 
 pub invariant_of-writer : goal.invariant_of-writer
@@ -27,11 +27,11 @@ invariant_of-writer c = record {
 
 pub returns : goal.returns
 returns c =
-    scope_text (modules_of c.args.all.now.design.now) c.requires.writable c.args.number (module_of c.module-module.result.now) c.module-module.ensures
+    scope_text c.args.options (modules_of c.args.all.now.design.now) c.requires.writable c.args.number (module_of c.module-module.result.now) c.module-module.ensures
     (scope_ports c.in_ok-scope.scope) (scope_ops c.in_ok-scope.scope) c.in_ok-scope.ensures.ports c.in_ok-scope.ensures.ops
     c.symbol_at.result.now c.args.out.now c.push_under.new.out c.symbol_at.ensures c.in_ok-push_under.ensures
 
 pub push_under-requires : goal.push_under-requires
 push_under-requires c =
-    (scope_writable (modules_of c.args.all.now.design.now) c.requires.writable c.args.number (module_of c.module-module.result.now) c.module-module.ensures
+    (scope_writable c.args.options (modules_of c.args.all.now.design.now) c.requires.writable c.args.number (module_of c.module-module.result.now) c.module-module.ensures
     (scope_ports c.in_ok-scope.scope) (scope_ops c.in_ok-scope.scope) c.in_ok-scope.ensures.ports c.in_ok-scope.ensures.ops).narrow

@@ -18,7 +18,7 @@ push_ports-requires c = record {
 pub returns : goal.returns
 returns c =
     let m = scope_module c.args.writer.now.scope in
-    module_parts c.args.name.now (vports m) (vitems (design_of c.args.writer.now.design.now.design.now) m)
+    module_parts c.args.name.now (vports m) (vitems c.args.writer.now.options (design_of c.args.writer.now.design.now.design.now) m)
     c.args.out.now c.push_bytes.new.self c.push_bytes-2.new.self c.push_ports.new.out c.push_items.new.out c.push_bytes-3.new.self
     c.in_ok-push_bytes.ensures.ok c.in_ok-push_bytes-2.ensures.ok
     (c.in_ok-push_ports.ensures

@@ -8,6 +8,7 @@ use Rattle.ir_store.specs.Designs.{design_of, port_of}
 use Rattle.ir_store.specs.Numbered.{position_of}
 use Rattle.verilog_expr.specs.Scopes.{scope_ids, op_read}
 use Rattle.verilog_expr.specs.Named.{named_of}
+use Rattle.export_verilog.specs.Lowerings.{own_place}
 use Rattle.export_verilog.specs.Held.{ArePortNames}
 use Rattle.export_verilog.specs.Identifiers.{name_or_nothing, identifier_text}
 use Rattle.export_verilog.specs.Identifiers.Identifier.{value_identifier, instance_identifier}
@@ -41,10 +42,12 @@ returns-in_ok-push_instance c =
     let own_is : own ≡ identifier_text m (instance_identifier i) =
     c.as_bytes-in-Instance.ensures ∙ c.index.ensures ∙ get_or_from_slice_get c.args.writer.now.names.own.items i (identifier_text m (instance_identifier i)) _ (c.args.writer.now.names_are.own_are i o x c.requires.there kind) in
     let results : (k : ℕ) → given k ≡ identifier_text m (value_identifier i k) = λ k. ap (λ n. name_or_nothing (named_of v (result n k))) c.requires.id ∙ ap name_or_nothing (values (result i k)) in
-    let joins : connections_from (value_expr s v) given 0 port_names (map port_of called.ports.now) o.operands ≡ connections_to (find_module d q) m i o =
-    joined_same m i (value_expr s v) given (used_same s v values) results (find_module d q) o port_names (map port_of called.ports.now) c.callee_of-called.ensures.ports
+    let joins : connections_from (value_expr s v (own_place c.args.writer.now.options)) given 0 port_names (map port_of called.ports.now) o.operands ≡ connections_to c.args.writer.now.options (find_module d q) m i o =
+    joined_same c.args.writer.now.options m i (value_expr s v (own_place c.args.writer.now.options)) given
+    (used_same c.args.writer.now.options s v values (own_place c.args.writer.now.options)) results (find_module d q) o port_names (map port_of called.ports.now) c.callee_of-called.ensures.ports
     c.chosen_names-port_names.ensures.0 (subst (λ ps. ArePortNames ps port_names) c.callee_of-called.ensures.ports c.chosen_names-port_names.ensures.1) in
     c.in_ok-push_instance.ensures
     ∙ ap (λ is. c.args.out.now ++ items_text is [])
-    (instance_same d m i o x q called.symbol.now own (connections_from (value_expr s v) given 0 port_names (map port_of called.ports.now) o.operands) c.as_bytes.ensures c.callee_of-called.ensures.symbol own_is joins
-    ∙ sym (ap (instance_of d m i o) kind))
+    (instance_same c.args.writer.now.options d m i o x q called.symbol.now own (connections_from (value_expr s v (own_place c.args.writer.now.options)) given 0 port_names
+    (map port_of called.ports.now) o.operands) c.as_bytes.ensures c.callee_of-called.ensures.symbol own_is joins
+    ∙ sym (ap (instance_of c.args.writer.now.options d m i o) kind))

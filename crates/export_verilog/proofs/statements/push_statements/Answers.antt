@@ -18,7 +18,8 @@ returns-in_ok-push_net-in-Wire c =
     let o = op_read s c.args.op.now in
     c.in_ok-push_net-in-Wire.ensures
     ∙ ap (λ is. c.args.out.now ++ items_text is [])
-    (net_same s c.args.writer.now.names.values c.args.writer.now.names_are.values_are d i (position_of (scope_ids s) c.args.id.index) o c.requires.id ∙ ap (λ r. stated_as d (scope_module s) i o (emission_seen r)) (sym c.in-Wire.is))
+    (net_same c.args.writer.now.options s c.args.writer.now.names.values c.args.writer.now.names_are.values_are d i (position_of (scope_ids s) c.args.id.index) o c.requires.id
+    ∙ ap (λ r. stated_as c.args.writer.now.options d (scope_module s) i o (emission_seen r)) (sym c.in-Wire.is))
 
 pub returns-in_ok-push_register-in-Reg : goal.returns-in_ok-push_register-in-Reg
 returns-in_ok-push_register-in-Reg c =
@@ -28,5 +29,5 @@ returns-in_ok-push_register-in-Reg c =
     let o = op_read s c.args.op.now in
     c.in_ok-push_register-in-Reg.ensures
     ∙ ap (λ is. c.args.out.now ++ items_text is [])
-    (variable_same s c.args.writer.now.names.values c.args.writer.now.names_are.values_are d i (position_of (scope_ids s) c.args.id.index) o c.requires.id c.name_text-name.result.now c.name_text-name.ensures
-    ∙ ap (λ r. stated_as d (scope_module s) i o (emission_seen r)) (sym c.in-Reg.is))
+    (variable_same c.args.writer.now.options s c.args.writer.now.names.values c.args.writer.now.names_are.values_are d i (position_of (scope_ids s) c.args.id.index) o c.requires.id c.name_text-name.result.now c.name_text-name.ensures
+    ∙ ap (λ r. stated_as c.args.writer.now.options d (scope_module s) i o (emission_seen r)) (sym c.in-Reg.is))

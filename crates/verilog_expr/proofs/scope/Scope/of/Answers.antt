@@ -1,5 +1,5 @@
-use Rattle.std.proofs.Common.{ap, sym, subst}
-use Rattle.ir_store.specs.Bodies.{ids_of, ops_of}
+use Rattle.std.proofs.Common.{sym, subst}
+use Rattle.ir_store.specs.Bodies.{ops_of}
 use Rattle.ir_store.specs.Designs.{ports_in}
 use Rattle.ir_store.specs.Numbered.{ops_by_position}
 use Rattle.ir_store.specs.declared.body.Body.{Body}

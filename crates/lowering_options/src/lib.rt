@@ -1,0 +1,4 @@
+//! How a design is written as Verilog, as the option `--lowering-options` says.
+#![tactic(auto)]
+
+pub mod lowering;
