@@ -1,5 +1,5 @@
 pub mod Soundness
-pub mod Splitting
+pub mod NumberStarts
 pub mod Judging
 pub mod Walking
 pub mod Verifying

@@ -13,13 +13,13 @@ use Rattle.resolution_proof.specs.Clause.{is_among, is_within}
 use Rattle.resolution_proof.proofs.Sets.{among_low, among_high}
 use Rattle.lrat_text.specs.declared.word.Word.{Word}
 use Rattle.lrat_text.specs.declared.word.Word.TheVariants.{End, Signed, Delete, Other}
-use Rattle.lrat_text.specs.Lines.{is_blank, onto, lines, goes_on, words}
+use Rattle.text_lines.specs.Lines.{is_blank, onto, lines, goes_on, words}
 use Rattle.lrat_text.specs.Numbers.{is_digit, with_digit, takes_digit, number_from, number}
 use Rattle.lrat_text.specs.Words.{unsigned, negative, word_of, line_words}
 use Rattle.lrat_text.specs.ProofLine.{and_more, until_end}
 use Rattle.lrat_text.specs.Dimacs.{is_comment}
 use Rattle.lrat_text.specs.Written.{literal_text, literals_text, hint_text, hints_text}
-use Rattle.lrat_text.proofs.Splitting.{number_begins}
+use Rattle.lrat_text.proofs.NumberStarts.{number_begins}
 use Rattle.lrat_text.proofs.Reversal.{hint_of, hint_list}
 
 -- digits that write a number

@@ -5,7 +5,7 @@ use Rattle.std.specs.Prelude.{Some, None, Ok, Err, codes}
 use Rattle.resolution_proof.specs.declared.literal.Literal.{Literal}
 use Rattle.resolution_proof.specs.Formula.{Formula}
 use Rattle.diag.specs.declared.cause.Cause.TheVariants.{BadFormula, BadProofLine, UnknownClause, StepDoesNotFollow, HintOutsideProfile, NoEmptyClause}
-use Rattle.lrat_text.specs.Lines.{lines, words}
+use Rattle.text_lines.specs.Lines.{lines, words}
 use Rattle.lrat_text.specs.Numbers.{number}
 use Rattle.lrat_text.specs.Words.{word_of}
 use Rattle.lrat_text.specs.Dimacs.{formula_of}

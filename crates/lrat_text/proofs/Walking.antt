@@ -11,7 +11,7 @@ use Rattle.lrat_text.specs.declared.judged.Judged.TheVariants.{Conflict, Forces,
 use Rattle.lrat_text.specs.declared.marks.Marks.{Marks}
 use Rattle.lrat_text.specs.declared.word.Word.{Word}
 use Rattle.lrat_text.specs.Hints.{Store, clause_in, has_negative, judged, after_judged, hints_fault}
-use Rattle.lrat_text.specs.Lines.{lines}
+use Rattle.text_lines.specs.Lines.{lines}
 use Rattle.lrat_text.specs.Words.{line_words}
 use Rattle.lrat_text.specs.ProofLine.{Line, line_of, proof_lines, and_more}
 use Rattle.lrat_text.specs.Checking.{State, clashes_after, negations, without_one, are_there, without_all, numbered, first_fault}

@@ -9,9 +9,9 @@ use Rattle.resolution_proof.specs.Formula.{Formula, are_clauses}
 use Rattle.resolution_proof.proofs.Sets.{among_high}
 use Rattle.lrat_text.specs.declared.word.Word.{Word}
 use Rattle.lrat_text.specs.declared.word.Word.TheVariants.{End, Signed}
-use Rattle.lrat_text.specs.Lines.{lines, words}
+use Rattle.text_lines.specs.Lines.{lines, words, is_wordless}
 use Rattle.lrat_text.specs.Words.{line_words}
-use Rattle.lrat_text.specs.Dimacs.{is_comment, is_wordless, is_skipped, Reading, both, header_of, read_words, read_line, read_on, clauses_from, begun, formula_from, dimacs}
+use Rattle.lrat_text.specs.Dimacs.{is_comment, is_skipped, Reading, both, header_of, read_words, read_line, read_on, clauses_from, begun, formula_from, dimacs}
 use Rattle.lrat_text.specs.Written.{literal_text, literals_text, clause_line, clause_lines, header_text, dimacs_text}
 use Rattle.lrat_text.proofs.Logs.{clauses_within}
 use Rattle.lrat_text.proofs.PrintedWords.{has_no_lf, both_in_line, decimal_some, decimal_number, decimal_solid, decimal_in_line, word_then, word_ends, line_then, literals_said, end_last, literals_in_line, literal_no_comment}

@@ -12,7 +12,7 @@ use Rattle.resolution_proof.specs.Regular.{is_regular_log}
 use Rattle.resolution_proof.specs.Proof.{EndsEmpty}
 use Rattle.lrat_text.specs.declared.word.Word.{Word}
 use Rattle.lrat_text.specs.declared.word.Word.TheVariants.{End, Signed}
-use Rattle.lrat_text.specs.Lines.{lines}
+use Rattle.text_lines.specs.Lines.{lines}
 use Rattle.lrat_text.specs.Words.{line_words}
 use Rattle.lrat_text.specs.ProofLine.{Line, adds, until_end, alone, with_hints, addition, after_id, line_of, proof_lines}
 use Rattle.lrat_text.specs.Checking.{start}

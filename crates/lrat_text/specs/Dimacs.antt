@@ -1,5 +1,5 @@
 -- Formulas as texts in the DIMACS CNF format (DIMACS challenge on satisfiability, 1993; SAT competitions).
-use Rattle.std.specs.Prelude.{◌≡◌, ℕ, Bool, true, false, cond, ◌==◌, nat_lt, nat_le, ◌||◌, ◌&&◌, ◌+◌, ◌^◌, ◌++◌, List, [], ◌∷◌, length, codes, nat_eq, Option, Some, None, Result, Ok, Err}
+use Rattle.std.specs.Prelude.{◌≡◌, ℕ, Bool, false, cond, ◌==◌, nat_lt, nat_le, ◌||◌, ◌&&◌, ◌+◌, ◌^◌, ◌++◌, List, [], ◌∷◌, length, codes, nat_eq, Option, Some, None, Result, Ok, Err}
 use Rattle.std.specs.Cmp.Lexicographic.{pointwise}
 use Rattle.resolution_proof.specs.declared.literal.Literal.{Literal}
 use Rattle.resolution_proof.specs.Formula.{Formula}
@@ -9,7 +9,7 @@ use Rattle.lrat_text.specs.declared.fail.CheckFail.{CheckFail}
 use Rattle.lrat_text.specs.declared.fail.CheckFail.TheVariants.{Refused, NoMemory}
 use Rattle.lrat_text.specs.declared.word.Word.{Word}
 use Rattle.lrat_text.specs.declared.word.Word.TheVariants.{End, Signed, Delete, Other}
-use Rattle.lrat_text.specs.Lines.{lines, words}
+use Rattle.text_lines.specs.Lines.{lines, words, is_wordless}
 use Rattle.lrat_text.specs.Numbers.{number}
 use Rattle.lrat_text.specs.Words.{line_words}
 
@@ -17,11 +17,6 @@ use Rattle.lrat_text.specs.Words.{line_words}
 abbrev pub is_comment : List ℕ → Bool
 is_comment [] = false
 is_comment (b ∷ bs) = b == 99
-
--- there is no word
-abbrev pub is_wordless : List (List ℕ) → Bool
-is_wordless [] = true
-is_wordless (w ∷ ws) = false
 
 -- a comment, or a line without words
 abbrev pub is_skipped : List ℕ → Bool

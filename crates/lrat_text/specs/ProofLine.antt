@@ -4,7 +4,7 @@ use Rattle.std.specs.List.{list_all}
 use Rattle.resolution_proof.specs.declared.literal.Literal.{Literal}
 use Rattle.lrat_text.specs.declared.word.Word.{Word}
 use Rattle.lrat_text.specs.declared.word.Word.TheVariants.{End, Signed, Delete, Other}
-use Rattle.lrat_text.specs.Lines.{lines}
+use Rattle.text_lines.specs.Lines.{lines}
 use Rattle.lrat_text.specs.Words.{line_words}
 
 -- a line: without words; a clause with its number and its hints; a deletion of clauses by their numbers; or none of these

@@ -3,7 +3,7 @@ use Rattle.std.specs.Prelude.{ℕ, true, false, cond, ◌==◌, map, codes, nat_
 use Rattle.std.specs.Cmp.Lexicographic.{pointwise}
 use Rattle.lrat_text.specs.declared.word.Word.{Word}
 use Rattle.lrat_text.specs.declared.word.Word.TheVariants.{End, Signed, Delete, Other}
-use Rattle.lrat_text.specs.Lines.{words}
+use Rattle.text_lines.specs.Lines.{words}
 use Rattle.lrat_text.specs.Numbers.{number}
 
 -- a number without a sign: 0 ends a list

@@ -7,13 +7,13 @@ ghost use Rattle.lrat_text.specs.Verified.{is_verified, IsUnverified};
 
 use crate::dimacs_cnf::DimacsCnf;
 use crate::fail::{CheckFail, CheckRefusal};
-use crate::lines::first_line;
 use crate::marks::Marks;
 use crate::progress::Progress;
 use crate::proof_line::ProofLine;
 use crate::steps::check_line;
 use diag::cause::Cause;
 use std::alloc::{AllocError, Global};
+use text_lines::lines::first_line;
 
 /// The greatest number of bytes that a text may have.
 pub(crate) const MOST_BYTES: usize = 1 << 26;
@@ -56,7 +56,7 @@ fn first_refusal(
 }
 
 /// The first fault of the lines.
-#[tactic(auto, using(crate::proofs::Splitting::no_lines))]
+#[tactic(auto, using(text_lines::proofs::Splitting::no_lines))]
 fn check_lines(
     alloc: Global,
     cnf: &DimacsCnf,

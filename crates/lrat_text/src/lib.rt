@@ -7,7 +7,6 @@ pub mod dimacs_cnf;
 pub mod fail;
 mod hints;
 mod judged;
-mod lines;
 mod marks;
 mod progress;
 mod proof_line;

@@ -4,10 +4,10 @@ ghost use Rattle.lrat_text.specs.Words.{line_words};
 ghost use Rattle.lrat_text.specs.ProofLine.{are_positive, line_of, until_end, alone, after_id, deletion, addition};
 ghost use Rattle.lrat_text.specs.Reads.{line_in, line_by};
 
-use crate::lines::next_word;
 use crate::word::{Word, word_of};
 use resolution_proof::literal::Literal;
 use std::alloc::{AllocError, Global};
+use text_lines::words::next_word;
 
 /// What a line writes.
 #[derive(Clone, Copy)]

@@ -2,16 +2,16 @@
 ghost use Rattle.std.specs.Prelude.{◌≡◌, ◌≤◌, ◌+◌, ◌^◌, length, Ok, IfOk, IfErr};
 ghost use Rattle.diag.specs.declared.cause.Cause.TheVariants.{BadFormula};
 ghost use Rattle.lrat_text.specs.declared.fail.CheckFail.TheVariants.{Refused};
-ghost use Rattle.lrat_text.specs.Lines.{lines};
+ghost use Rattle.text_lines.specs.Lines.{lines};
 ghost use Rattle.lrat_text.specs.Dimacs.{dimacs, formula_of, clauses_from, IsReadFail, IsLineFail};
 
 use crate::check::MOST_BYTES;
 use crate::dimacs_cnf::DimacsCnf;
 use crate::fail::{CheckFail, CheckRefusal};
-use crate::lines::first_line;
 use crate::reading::{CnfReading, header_of, is_skipped};
 use diag::cause::Cause;
 use std::alloc::Global;
+use text_lines::lines::first_line;
 
 /// Reads a formula in the DIMACS CNF format.
 #[tactic(auto, unfolding(crate::specs::Dimacs::formula_of))]
@@ -40,7 +40,7 @@ fn bad_formula(line: u32) -> CheckFail
 }
 
 /// Reads up to the header and on.
-#[tactic(auto, using(crate::proofs::Splitting::no_lines))]
+#[tactic(auto, using(text_lines::proofs::Splitting::no_lines))]
 fn read_formula(alloc: Global, source: &[u8]) -> Result<DimacsCnf, CheckFail>
     requires { length source.now ≤ 2 ^ 26 }
     ensures ok { IfOk result (λ cnf. dimacs source.now ≡ Ok cnf) }
@@ -63,7 +63,7 @@ fn read_formula(alloc: Global, source: &[u8]) -> Result<DimacsCnf, CheckFail>
 }
 
 /// Reads the lines behind the header, of which the first has the number `line`.
-#[tactic(auto, using(crate::proofs::Splitting::no_lines))]
+#[tactic(auto, using(text_lines::proofs::Splitting::no_lines))]
 fn read_clauses(
     mut reading: CnfReading,
     mut line: u32,

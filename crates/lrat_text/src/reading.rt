@@ -1,16 +1,16 @@
 //! Formulas that are being read.
 ghost use Rattle.std.specs.Prelude.{◌≡◌, ◌++◌, ◌∷◌, [], ◌==◌, nat_lt, OnOk, IfOk, length, Some, None, option_map, if◌then◌else◌};
-ghost use Rattle.lrat_text.specs.Lines.{words};
+ghost use Rattle.text_lines.specs.Lines.{words};
 ghost use Rattle.lrat_text.specs.Dimacs.{is_comment, is_skipped, header_of, both, begun, read_word, read_line};
 
 use crate::clauses::copy_of;
 use crate::dimacs_cnf::DimacsCnf;
-use crate::lines::next_word;
 use crate::word::{Word, number, word_of};
 use resolution_proof::items::Items;
 use resolution_proof::literal::Literal;
 use std::alloc::{AllocError, Global};
 use std::marker::Model;
+use text_lines::words::next_word;
 
 /// What has been read of a formula: the numbers of its header, whole clauses, and the literals of the next one.
 #[derive(Drop)]

@@ -40,7 +40,7 @@ fn is_digit(byte: u8) -> bool
 }
 
 /// The number that a word of decimal digits writes, if it is below 2^64.
-#[tactic(auto, using(crate::proofs::Splitting::number_begins), unfolding(crate::specs::Numbers::number))]
+#[tactic(auto, using(crate::proofs::NumberStarts::number_begins), unfolding(crate::specs::Numbers::number))]
 pub fn number(word: &[u8]) -> Option<u64>
     ensures { result ≡ number word.now }
 {

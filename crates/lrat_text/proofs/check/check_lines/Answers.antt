@@ -1,6 +1,6 @@
 use Rattle.std.proofs.Common.{rules, ◌≡◌, length, ◌∙◌}
 use Rattle.lrat_text.specs.Stored.{state_of}
-use Rattle.lrat_text.proofs.Splitting.{no_lines}
+use Rattle.text_lines.proofs.Splitting.{no_lines}
 use Rattle.lrat_text.proofs.Walking.{checking_ends}
 use Rattle.lrat_text.proofs.check.check_lines.Goals as goal
 

@@ -1,5 +1,5 @@
 use Rattle.std.proofs.Common.{◌≡◌, ◌+◌, ◌≤◌, ◌^◌, length}
-use Rattle.lrat_text.specs.Lines.{lines}
+use Rattle.text_lines.specs.Lines.{lines}
 use Rattle.lrat_text.specs.Dimacs.{formula_from, dimacs}
 use Rattle.lrat_text.proofs.read_cnf.read_formula.Given as goal
 

@@ -1,7 +1,6 @@
 -- Lines and words, taken from the front.
 use Rattle.std.proofs.Common.{◌≡◌, ℕ, suc, ◌+◌, ◌<◌, ◌≤◌, Bool, true, false, not, cond, List, [], ◌∷◌, length, eqb, take, drop, refl, sym, ◌∙◌, ap, subst, arith, add-one}
-use Rattle.lrat_text.specs.Lines.{is_blank, onto, lines, goes_on, words, line_length, word_length}
-use Rattle.lrat_text.specs.Numbers.{number, number_from}
+use Rattle.text_lines.specs.Lines.{is_blank, onto, lines, goes_on, words, line_length, word_length}
 
 -- a text with no byte has no line
 pub no_lines : (text : List ℕ) → length text ≡ 0 → lines text ≡ []
@@ -68,9 +67,3 @@ pub no_words : (line : List ℕ) → length line ≡ 0 → words line ≡ []
 unfolding words
 no_words [] h = refl
 no_words (b ∷ bs) h = absurd (omega (arith, h))
-
--- a word of one digit or more begins at 0
-pub number_begins : (word : List ℕ) → 0 < length word → number_from 0 word ≡ number word
-unfolding number
-number_begins [] h = absurd (omega (arith, h))
-number_begins (b ∷ bs) h = refl

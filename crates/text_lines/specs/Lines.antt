@@ -1,5 +1,5 @@
 -- Texts as lines, and lines as words.
-use Rattle.std.specs.Prelude.{ℕ, Bool, false, not, cond, ◌==◌, ◌||◌, ◌+◌, List, [], ◌∷◌}
+use Rattle.std.specs.Prelude.{ℕ, Bool, true, false, not, cond, ◌==◌, ◌||◌, ◌+◌, List, [], ◌∷◌}
 
 -- space, tab or CR
 abbrev pub is_blank : ℕ → Bool
@@ -24,6 +24,11 @@ goes_on (b ∷ bs) = not (is_blank b)
 unfoldable pub words : List ℕ → List (List ℕ)
 words [] = []
 words (b ∷ bs) = cond (is_blank b) (words bs) (cond (goes_on bs) (onto b (words bs)) ((b ∷ []) ∷ words bs))
+
+-- there is no word
+abbrev pub is_wordless : List (List ℕ) → Bool
+is_wordless [] = true
+is_wordless (w ∷ ws) = false
 
 -- how many bytes stand before the first LF, or in all
 abbrev pub line_length : List ℕ → ℕ

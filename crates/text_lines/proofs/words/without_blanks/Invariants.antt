@@ -1,6 +1,6 @@
 use Rattle.std.proofs.Common.{◌≡◌, ◌≤◌, length}
-use Rattle.lrat_text.specs.Lines.{words}
-use Rattle.lrat_text.proofs.lines.without_blanks.Given as goal
+use Rattle.text_lines.specs.Lines.{words}
+use Rattle.text_lines.proofs.words.without_blanks.Given as goal
 
 abbrev pub invariant-loop-byte : goal.invariant-loop-byte
 invariant-loop-byte l = (words l.line ≡ words l.rest) × (length l.rest ≤ length l.line)

@@ -1,0 +1,3 @@
+pub mod ReadDigits
+pub mod ReadLiterals
+pub mod ReadRows

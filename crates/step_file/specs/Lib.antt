@@ -1,0 +1,5 @@
+pub mod Literals
+pub mod Rows
+pub mod StepFile
+pub mod Digits
+pub mod Answers

@@ -1,0 +1,5 @@
+//! Texts as lines, and lines as words.
+#![tactic(auto)]
+
+pub mod lines;
+pub mod words;
