@@ -4,31 +4,36 @@
     fuzz.py PROGRAM [TEXTS [SEED [FOLDER]]]     by default 10000 texts, seed 1; findings go into FOLDER, by default /tmp/findings
 
 The texts are mutations of the cases of `examples/` (bytes, tokens, lines, whole operations, numbers at limits, splices of two
-texts), drawn from the seed, so a run can be repeated. As many runs go side by side as there are processors. Of each text it asks:
+texts), drawn from the seed, so a run can be repeated. As many runs go side by side as there are processors. Every tenth text is
+a formula or a proof of one in place of a design. Of each design it asks:
 
-* no run ends by a signal, and each by a status of the table: 0 to 4, or 7 with its line where 1 GB of memory does not
-  suffice, which is counted;
+* no run ends by a signal (one that works for 120 seconds does), and each by a status of the table: 0 to 4, or 7 with its line
+  where 1 GB of memory does not suffice, which is counted;
 * a text that is refused gives one error line of the form `<stdin>:LINE:COL: error: 'OPERATION' CODE: TEXT`, whose line and
   column lie in the text, and nothing on the output; an accepted one gives no error message;
 * what `opt` prints is accepted again and printed as the same text; `translate` of it gives the Verilog of the source;
 * passes in any order are accepted, what they print is accepted again, and the Verilog of it is made;
 * `lec` of each public module of the source against itself, and against what passes made of it, says `==`, or `unknown`, or
   that the ports or registers are others, or that there are too many gates.
+
+Of each formula and proof it asks that `check` verifies it, or refuses one of both with its line, which lies in that text or just
+after it; and that what is verified is refuted indeed where the formula has few variables.
 """
-import concurrent.futures
+import multiprocessing
+import multiprocessing.util
 import os
 import pathlib
 import random
 import re
 import resource
-import subprocess
+import shutil
 import sys
 import tempfile
 
 sys.dont_write_bytecode = True
 import support
 
-ERROR_LINE = re.compile(rb"\A(?:[^\n]*):(\d+):(\d+): error: '([^'\n]*)' ([SVL]\d+): [^\n]+\n\Z", re.DOTALL)
+ERROR_LINE = re.compile(rb"\A([^\n]*):(\d+):(\d+): error: '([^'\n]*)' ([SVLP]\d+): [^\n]+\n\Z", re.DOTALL)
 TOKEN = re.compile(r"\"(?:[^\"\\\n]|\\.)*\"|[%@#!]?[A-Za-z_$.0-9][\w$.\-]*|->|[^\s]|[ \t]+|\n")
 NUMBER = re.compile(r"\d+")
 LIMITS = ["0", "1", "2", "127", "128", "129", "255", "256", "4095", "4096", "65535", "65536", "2147483647", "2147483648",
@@ -149,44 +154,49 @@ class OutOfMemory(Exception):
     """A run that wants more memory than it is given."""
 
 
-def limit_memory():
-    resource.setrlimit(resource.RLIMIT_AS, (MEMORY, MEMORY))
-
-
 class Program:
+    """The program, with a folder in which its runs have their files."""
+
     def __init__(self, path):
         self.path = path
+        self.folder = pathlib.Path(tempfile.mkdtemp(dir="/dev/shm" if os.path.isdir("/dev/shm") else None))
+        self.second = str(self.folder / "second")
+        names = [str(self.folder / name) for name in ("in", "out", "err")]
+        self.source, self.out, self.err = names
+        new = os.O_WRONLY | os.O_CREAT | os.O_TRUNC
+        self.places = [(os.POSIX_SPAWN_OPEN, 0, self.source, os.O_RDONLY, 0), (os.POSIX_SPAWN_OPEN, 1, self.out, new, 0o600),
+                       (os.POSIX_SPAWN_OPEN, 2, self.err, new, 0o600)]
 
     def run(self, words, text):
-        """The status, the output and the error message of a run on a text."""
-        try:
-            done = subprocess.run([self.path, *words], input=text, stdout=subprocess.PIPE, stderr=subprocess.PIPE, timeout=SECONDS,
-                                  preexec_fn=limit_memory)
-        except subprocess.TimeoutExpired:
-            raise Finding(f"{' '.join(words)}: no end within {SECONDS} seconds") from None
-        if done.returncode == 7 and not done.stdout and done.stderr == b"circt: out of memory\n":
+        """The status, the output and the error message of a run on a text as standard input."""
+        write(self.source, text)
+        child = os.posix_spawn(self.path, [self.path, *words], os.environ, file_actions=self.places)
+        resource.prlimit(child, resource.RLIMIT_CPU, (SECONDS, SECONDS))
+        _, status = os.waitpid(child, 0)
+        code, out, err = os.waitstatus_to_exitcode(status), read(self.out), read(self.err)
+        if code == 7 and not out and err == b"circt: out of memory\n":
             raise OutOfMemory()
-        if done.returncode < 0 or done.returncode > 4:
-            raise Finding(f"{' '.join(words)}: status {done.returncode}, {done.stderr[:300]!r}")
-        if done.returncode == 1:
-            self.check_refusal(words, text, done)
-        elif done.stderr:
-            raise Finding(f"{' '.join(words)}: status {done.returncode}, and an error message {done.stderr[:300]!r}")
-        return done.returncode, done.stdout
+        if code < 0 or code > 4:
+            raise Finding(f"{' '.join(words)}: status {code}, {err[:300]!r}")
+        if code == 1:
+            self.check_refusal(words, text, out, err)
+        elif err:
+            raise Finding(f"{' '.join(words)}: status {code}, and an error message {err[:300]!r}")
+        return code, out
 
-    @staticmethod
-    def check_refusal(words, text, done):
-        if done.stdout:
-            raise Finding(f"{' '.join(words)}: refused, and {len(done.stdout)} bytes on the output")
-        line = ERROR_LINE.match(done.stderr)
+    def check_refusal(self, words, text, out, err):
+        if out:
+            raise Finding(f"{' '.join(words)}: refused, and {len(out)} bytes on the output")
+        line = ERROR_LINE.match(err)
         if not line:
-            raise Finding(f"{' '.join(words)}: error message {done.stderr[:300]!r}")
-        if line[4].startswith(b"L"):
+            raise Finding(f"{' '.join(words)}: error message {err[:300]!r}")
+        if line[5].startswith(b"L"):
             return
-        lines = text.split(b"\n")
-        row, column = int(line[1]), int(line[2])
-        if not (1 <= row <= len(lines) and 1 <= column <= len(lines[row - 1]) + 1):
-            raise Finding(f"{' '.join(words)}: {done.stderr[:300]!r} lies outside the text")
+        lines = (read(self.second) if line[1] == self.second.encode() else text).split(b"\n")
+        row, column = int(line[2]), int(line[3])
+        last = len(lines) + 1 if line[5].startswith(b"P") else len(lines)
+        if not (1 <= row <= last and 1 <= column <= len((lines + [b""])[row - 1]) + 1):
+            raise Finding(f"{' '.join(words)}: {err[:300]!r} lies outside the text")
 
     def taken(self, words, text, why):
         """The output of a run that has to end well."""
@@ -196,13 +206,23 @@ class Program:
         return out
 
 
+def read(path):
+    with open(path, "rb") as file:
+        return file.read()
+
+
+def write(path, text):
+    with open(path, "wb") as file:
+        file.write(text)
+
+
 def pipeline_of(chance):
     passes = [chance.choice(PASSES) for _ in range(chance.randrange(1, 6))]
     items = [f"hw.module({p})" if p in ON_BODIES else p for p in passes]
     return f"--pass-pipeline=builtin.module({','.join(items)})"
 
 
-def check_text(program, text, chance, folder):
+def check_design(program, text, chance):
     """Whether the text is accepted. It raises a finding."""
     status, printed = program.run(["opt"], text)
     other, verilog = program.run(["translate", "--export-verilog"], text)
@@ -214,28 +234,77 @@ def check_text(program, text, chance, folder):
         raise Finding("opt of what opt printed is another text")
     if program.taken(["translate", "--export-verilog"], printed, "what opt printed") != verilog:
         raise Finding("translate of what opt printed is another text")
+    program.taken(["translate", "--export-verilog", "--lowering-options=implicitExtension"], text, "an accepted text")
     words = pipeline_of(chance)
     made = program.taken(["opt", words, "--workers", str(chance.choice([1, 2, 4]))], text, "an accepted text")
     if program.taken(["opt"], made, f"what {words} made") != made:
         raise Finding(f"opt of what {words} made is another text")
     program.taken(["translate", "--export-verilog"], made, f"what {words} made")
-    check_verdicts(program, text, made, words, folder)
+    check_verdicts(program, text, made, words)
     return True
 
 
-def check_verdicts(program, text, made, words, folder):
+def check_verdicts(program, text, made, words):
     names = re.findall(rb"^\s*hw\.module @([A-Za-z_][\w$.]*)\s*\(", text, re.MULTILINE)[:2]
-    with tempfile.NamedTemporaryFile(dir=folder, suffix=".mlir") as file:
-        file.write(made)
-        file.flush()
-        for name in {name.decode() for name in names}:
-            asked = ["-c1", name, "-c2", name, "--conflict-limit", "2000"]
-            status, out = program.run(["lec", "-", *asked], text)
-            if status == 3:
-                raise Finding(f"lec of {name} against itself: {out[:200]!r}")
-            status, out = program.run(["lec", "-", file.name, *asked], text)
-            if status == 3:
-                raise Finding(f"lec of {name} against what {words} made of it: {out[:200]!r}")
+    write(program.second, made)
+    for name in {name.decode() for name in names}:
+        asked = ["-c1", name, "-c2", name, "--conflict-limit", "2000"]
+        status, out = program.run(["lec", "-", *asked], text)
+        if status == 3:
+            raise Finding(f"lec of {name} against itself: {out[:200]!r}")
+        status, out = program.run(["lec", "-", program.second, *asked], text)
+        if status == 3:
+            raise Finding(f"lec of {name} against what {words} made of it: {out[:200]!r}")
+
+
+# ---- formulas and proofs
+
+
+def formula_and_proof(chance):
+    """A formula of few variables that nothing satisfies, and a proof of it that resolves all clauses of each variable in turn."""
+    variables = chance.randrange(1, 4)
+    rows = [[(v + 1) * (1 if bits >> v & 1 else -1) for v in range(variables)] for bits in range(1 << variables)]
+    lines, known, number = [], {tuple(row): k for k, row in enumerate(rows, 1)}, len(rows)
+    for size in reversed(range(variables)):
+        for bits in range(1 << size):
+            row = tuple((v + 1) * (1 if bits >> v & 1 else -1) for v in range(size))
+            number += 1
+            known[row] = number
+            lines.append(f"{number} {' '.join(map(str, row + (0,)))} {known[row + (size + 1,)]} {known[row + (-size - 1,)]} 0")
+    clauses = [" ".join(map(str, row + [0])) for row in rows]
+    return "\n".join([f"p cnf {variables} {len(rows)}", *clauses]) + "\n", "\n".join(lines) + "\n"
+
+
+def is_satisfiable(formula):
+    """Whether a formula of at most twelve variables has an assignment that satisfies it."""
+    words = [word for line in formula.split(b"\n") if not line.startswith(b"c") for word in line.split()]
+    variables, numbers = int(words[2]), [int(word) for word in words[4:]]
+    clauses, clause = [], []
+    for number in numbers:
+        if number:
+            clause.append(number)
+        else:
+            clauses.append(clause)
+            clause = []
+    return variables <= 12 and any(all(any((bits >> (abs(l) - 1) & 1) == (l > 0) for l in c) for c in clauses)
+                                   for bits in range(1 << variables))
+
+
+def check_proof(program, number):
+    """Whether a formula and a proof, of which one is changed, are verified. It raises a finding."""
+    chance = random.Random(f"{SEED} {number}")
+    texts = list(formula_and_proof(chance))
+    which = chance.randrange(2)
+    for _ in range(chance.choice([0, 1, 1, 2, 3])):
+        texts[which] = chance.choice(MUTATIONS)(chance, texts[which], formula_and_proof(chance))
+    formula, proof = (text.encode("utf-8", "surrogateescape") for text in texts)
+    write(program.second, proof)
+    status, out = program.run(["check", "-", program.second], formula)
+    if status not in (0, 1) or (status == 0 and out != b"verified\n"):
+        raise Finding(f"check: status {status}, {out[:200]!r}")
+    if status == 0 and is_satisfiable(formula):
+        raise Finding("check verifies a proof of a formula that is satisfied")
+    return status == 0
 
 
 # ---- the run
@@ -246,19 +315,30 @@ def check_number(number):
     text, chance = mutated(SEED, number, TEXTS)
     source = text.encode("utf-8", "surrogateescape")
     try:
-        return check_text(PROGRAM, source, chance, FOLDER), False, None
+        return check_proof(PROGRAM, number) if number % 10 == 9 else check_design(PROGRAM, source, chance), False, None
     except OutOfMemory:
         return True, True, None
     except Finding as finding:
-        (FOLDER / f"{SEED}_{number}.mlir").write_bytes(source)
+        for file in PROGRAM.folder.iterdir():
+            shutil.copy(file, FOLDER / f"{SEED}_{number}.{file.name}")
+        write(FOLDER / f"{SEED}_{number}.mlir", source)
         return False, False, f"{SEED}_{number}.mlir: {finding}"
 
 
-def main():
+def begin_worker(path):
+    """Each worker has its files and its limits, which its runs have too."""
+    global PROGRAM
+    PROGRAM = Program(path)
+    resource.setrlimit(resource.RLIMIT_AS, (MEMORY, MEMORY))
+    resource.setrlimit(resource.RLIMIT_CORE, (0, 0))
+    multiprocessing.util.Finalize(PROGRAM, shutil.rmtree, (PROGRAM.folder, True), exitpriority=1)
+
+
+def main(path):
     count = support.number_word(2, 10000)
     accepted, short, findings = 0, 0, 0
-    with concurrent.futures.ThreadPoolExecutor(os.cpu_count()) as pool:
-        for number, (is_accepted, is_short, finding) in enumerate(pool.map(check_number, range(count)), 1):
+    with multiprocessing.Pool(os.cpu_count(), begin_worker, (path,)) as pool:
+        for number, (is_accepted, is_short, finding) in enumerate(pool.imap(check_number, range(count), 50), 1):
             accepted += is_accepted
             short += is_short
             if finding:
@@ -266,14 +346,15 @@ def main():
                 print(finding, flush=True)
             if number % 10000 == 0:
                 print(f"{number} texts, {accepted} accepted, {short} short of memory, {findings} findings", flush=True)
+        pool.close()
+        pool.join()
     print(f"{count} texts, {accepted} accepted, {short} short of memory, {findings} findings")
     return findings > 0
 
 
 if __name__ == "__main__":
-    PROGRAM = Program(support.program_word(__doc__))
     SEED = support.number_word(3, 1)
     FOLDER = pathlib.Path(sys.argv[4] if len(sys.argv) > 4 else "/tmp/findings")
     FOLDER.mkdir(parents=True, exist_ok=True)
     TEXTS = corpus()
-    sys.exit(main())
+    sys.exit(main(os.path.abspath(support.program_word(__doc__))))

@@ -1,6 +1,6 @@
-//! Tests of the whole program, on files and sinks in memory: words, pipelines, faults, limits, generated designs, large arrays, and two files
-//! under `lec`. What is printed of each form of text, what `lec` says of two modules, and how designs and their Verilog run is checked by
-//! the crate `circt_examples`.
+//! Tests of the whole program, on files and sinks in memory: words, pipelines, faults, limits, generated designs, and large arrays. Commands of
+//! two files are tested in `two_file_tests`. What is printed of each form of text, what `lec` says of two modules, and how designs and their
+//! Verilog run is checked by the crate `circt_examples`.
 #![tactic(auto)]
 
 #[cfg(test)]
@@ -9,8 +9,6 @@ mod generation;
 mod groups;
 #[cfg(test)]
 mod large;
-#[cfg(test)]
-mod lec;
 #[cfg(test)]
 mod limits;
 #[cfg(test)]

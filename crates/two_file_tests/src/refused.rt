@@ -1,5 +1,5 @@
 //! What is not compared.
-use crate::lec::commands::{Row, first_other, run_on};
+use crate::runs::{Row, first_other, run_on};
 use std::alloc::{AllocError, AllocGlobal, Global};
 use std::test::Fail;
 use std::thread::Threads;

@@ -1,7 +1,32 @@
 //! Modules with registers.
-use crate::lec::commands::{Row, first_other, run_on};
-use crate::runs::{TWO_FLAT, TWO_REGISTERS};
+use crate::runs::{Row, first_other, run_on};
 use std::test::Fail;
+
+// Two instances of a register.
+const TWO_REGISTERS: &str =
+    "hw.module private @Reg(in %clk : !seq.clock, in %rst : i1, in %en : i1, in %d : i8, out q : i8) {
+  %z = hw.constant 9 : i8
+  %r = seq.compreg.ce %d, %clk, %en reset %rst, %z : i8
+  hw.output %r : i8
+}
+hw.module @Two(in %clk : !seq.clock, in %rst : i1, in %en : i1, in %d : i8, out a : i8, out b : i8) {
+  %u1.q = hw.instance \"u1\" @Reg(clk: %clk: !seq.clock, rst: %rst: i1, en: %en: i1, d: %d: i8) -> (q: i8)
+  %u2.q = hw.instance \"u2\" @Reg(clk: %clk: !seq.clock, rst: %rst: i1, en: %en: i1, d: %u1.q: i8) -> (q: i8)
+  hw.output %u1.q, %u2.q : i8, i8
+}
+";
+
+// That with the register in the place of its instances.
+const TWO_FLAT: &str = "module {
+  hw.module @Two(in %clk : !seq.clock, in %rst : i1, in %en : i1, in %d : i8, out a : i8, out b : i8) {
+    %c9_i8 = hw.constant 9 : i8
+    %u1_r = seq.compreg.ce %d, %clk, %en reset %rst, %c9_i8 : i8
+    %c9_i8_0 = hw.constant 9 : i8
+    %u2_r = seq.compreg.ce %u1_r, %clk, %en reset %rst, %c9_i8_0 : i8
+    hw.output %u1_r, %u2_r : i8, i8
+  }
+}
+";
 
 // The two registers with another reset value.
 const EIGHT: &str =

@@ -1,5 +1,5 @@
 //! A module of instances against a flat one.
-use crate::lec::commands::{Row, first_other};
+use crate::runs::{Row, first_other};
 use std::test::Fail;
 
 // A module that instances another one twice, which is private in one file and public in the other.

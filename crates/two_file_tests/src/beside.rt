@@ -1,5 +1,5 @@
 //! Small modules beside large ones that they do not instance.
-use crate::lec::commands::run_on;
+use crate::runs::run_on;
 use std::alloc::{AllocError, Global};
 use std::test::Fail;
 

@@ -1,5 +1,5 @@
 //! Proofs of others over formulas, and what `check` says of them.
-use crate::lec::commands::{Row, first_other};
+use crate::runs::{Row, first_other};
 use std::test::Fail;
 
 /// A formula that nothing satisfies.

@@ -1,5 +1,5 @@
 //! Worked examples of verdicts.
-use crate::lec::commands::{Row, first_other};
+use crate::runs::{Row, first_other};
 use std::test::Fail;
 
 /// Modules of which some agree.
