@@ -76,6 +76,7 @@ abbrev pub op_in_whole : Piece → OpName → OpName
 op_in_whole p (op.Listed listed) = op.Listed listed
 op_in_whole p op.File = op.File
 op_in_whole p op.Check = op.Check
+op_in_whole p op.Sim = op.Sim
 op_in_whole p (op.Other at len) = op.Other (min (at + length p.before) (2 ^ 64 - 1)) len
 
 -- a refusal of a piece, as one of the whole text

@@ -1,9 +1,9 @@
 -- The causes of refusals: their codes and their words.
 use Rattle.std.specs.Prelude.{ℕ, List, codes}
 use Rattle.diag.specs.declared.cause.Cause.{Cause}
-use Rattle.diag.specs.declared.cause.Cause.TheVariants.{BadByte, Unexpected, UnknownOperation, OutsideProfile, NumberTooLarge, TooDeep, TooLong, Redefined, Undefined, TypeMismatch, WidthLimit, ConstantRange, ExtractRange, ReplicateMultiple, ConcatWidth, Divisor, IndexWidth, Field, BitcastWidth, ClockOperand, Arity, OutputMismatch, DuplicateSymbol, UnknownModule, InstancePorts, DuplicatePort, MissingOutput, RecursiveInstance, TooLarge, CombinationalCycle, AsyncReset, NoSuchModule, PortsDiffer, RegistersDiffer, TooManyGates, BadFormula, BadProofLine, UnknownClause, StepDoesNotFollow, HintOutsideProfile, NoEmptyClause}
+use Rattle.diag.specs.declared.cause.Cause.TheVariants.{BadByte, Unexpected, UnknownOperation, OutsideProfile, NumberTooLarge, TooDeep, TooLong, Redefined, Undefined, TypeMismatch, WidthLimit, ConstantRange, ExtractRange, ReplicateMultiple, ConcatWidth, Divisor, IndexWidth, Field, BitcastWidth, ClockOperand, Arity, OutputMismatch, DuplicateSymbol, UnknownModule, InstancePorts, DuplicatePort, MissingOutput, RecursiveInstance, TooLarge, CombinationalCycle, AsyncReset, NoSuchModule, PortsDiffer, RegistersDiffer, TooManyGates, BadFormula, BadProofLine, UnknownClause, StepDoesNotFollow, HintOutsideProfile, NoEmptyClause, BadStepLine, LiteralCount, LiteralWidth}
 
--- the code of a cause: S for texts, V for designs, L for comparisons, P for formulas and proofs
+-- the code of a cause: S for texts, V for designs, L for comparisons, P for formulas and proofs, M for step files
 unfoldable pub code_of : Cause → List ℕ
 code_of BadByte = codes "S1"
 code_of Unexpected = codes "S2"
@@ -46,6 +46,9 @@ code_of UnknownClause = codes "P3"
 code_of StepDoesNotFollow = codes "P4"
 code_of HintOutsideProfile = codes "P5"
 code_of NoEmptyClause = codes "P6"
+code_of BadStepLine = codes "M1"
+code_of LiteralCount = codes "M2"
+code_of LiteralWidth = codes "M3"
 
 -- what a cause says
 unfoldable pub text_of : Cause → List ℕ
@@ -90,3 +93,6 @@ text_of UnknownClause = codes "unknown clause"
 text_of StepDoesNotFollow = codes "step does not follow"
 text_of HintOutsideProfile = codes "hint outside the profile"
 text_of NoEmptyClause = codes "no empty clause"
+text_of BadStepLine = codes "bad line"
+text_of LiteralCount = codes "wrong number of literals"
+text_of LiteralWidth = codes "wrong width"

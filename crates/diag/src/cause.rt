@@ -3,7 +3,7 @@ ghost use Rattle.std.specs.Prelude.{◌≡◌};
 ghost use Rattle.diag.specs.Cause.{code_of, text_of};
 
 /// The cause of a refusal. Those of text come first, then those of designs, those of
-/// comparisons, and those of formulas and proofs.
+/// comparisons, those of formulas and proofs, and those of step files.
 #[derive(Clone, Copy, Debug, PartialEq, Eq)]
 pub enum Cause {
     /// A byte that begins no token, an unclosed string, or a bad escape.
@@ -90,6 +90,12 @@ pub enum Cause {
     HintOutsideProfile,
     /// No step of a proof has the empty clause.
     NoEmptyClause,
+    /// A line that no step file has there: a word is no literal, or the first one does not begin with `state`, or there is none.
+    BadStepLine,
+    /// A line of a step file has more or fewer literals than there are leaves.
+    LiteralCount,
+    /// A literal of a step file has another width than its leaf.
+    LiteralWidth,
 }
 
 impl Cause {
@@ -140,6 +146,9 @@ impl Cause {
             Cause::StepDoesNotFollow => b"P4",
             Cause::HintOutsideProfile => b"P5",
             Cause::NoEmptyClause => b"P6",
+            Cause::BadStepLine => b"M1",
+            Cause::LiteralCount => b"M2",
+            Cause::LiteralWidth => b"M3",
         }
     }
 
@@ -190,6 +199,9 @@ impl Cause {
             Cause::StepDoesNotFollow => b"step does not follow",
             Cause::HintOutsideProfile => b"hint outside the profile",
             Cause::NoEmptyClause => b"no empty clause",
+            Cause::BadStepLine => b"bad line",
+            Cause::LiteralCount => b"wrong number of literals",
+            Cause::LiteralWidth => b"wrong width",
         }
     }
 }

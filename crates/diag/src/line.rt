@@ -65,6 +65,7 @@ fn operation(op: OpName, source: &[u8]) -> &[u8]
         OpName::Listed(listed) => listed.name(),
         OpName::File => b"builtin.module",
         OpName::Check => b"check",
+        OpName::Sim => b"sim",
         OpName::Other { at, len } => &source[at as usize..(at + len) as usize],
     }
 }

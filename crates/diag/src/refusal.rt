@@ -22,6 +22,8 @@ pub enum OpName {
     File,
     /// The check of a proof, which is named `check`.
     Check,
+    /// The run of a module, which is named `sim`.
+    Sim,
     /// The name that stands in the source from `at` on, `len` bytes long.
     Other { at: u64, len: u64 },
 }
