@@ -17,7 +17,7 @@ mod operands;
 mod pair;
 mod price_laws;
 mod prices;
-mod widths;
+pub mod widths;
 
 pub use comparison_laws::{formulas_are_differences, unsatisfiable_formulas_agree};
 pub use copies::flat_copy;

@@ -18,7 +18,7 @@ use ir_store::design::{Module, Port, PortList};
 use std::alloc::{AllocError, Global};
 
 /// The widths of the registers of a flat module, in order.
-pub(crate) fn register_widths(alloc: Global, module: &Module) -> Result<Vec<u32>, AllocError>
+pub fn register_widths(alloc: Global, module: &Module) -> Result<Vec<u32>, AllocError>
     ensures { IfOk result (λ v. v.items ≡ held_widths (ops_by_position (ops_of «module».now.body))) }
 {
     let ops = OpIndex::of(alloc, &module.body)?;
@@ -33,7 +33,7 @@ pub(crate) fn register_widths(alloc: Global, module: &Module) -> Result<Vec<u32>
 }
 
 /// The widths of the inputs among ports, in order.
-pub(crate) fn input_widths(alloc: Global, ports: &PortList) -> Result<Vec<u32>, AllocError>
+pub fn input_widths(alloc: Global, ports: &PortList) -> Result<Vec<u32>, AllocError>
     ensures { IfOk result (λ v. v.items ≡ input_widths (ports_in ports.now)) }
 {
     let mut widths = Vec::new(alloc);
