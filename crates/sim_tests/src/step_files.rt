@@ -373,14 +373,9 @@ fn values_of(alloc: Global, file: &StepFile) -> Result<Vec<u128>, AllocError> {
     Ok(values)
 }
 
-/// The values that a text writes; none where it is refused.
-fn values_in(
-    alloc: Global,
-    registers: &[u32],
-    inputs: &[u32],
-    text: &[u8],
-) -> Result<Vec<u128>, AllocError> {
-    match read_steps(alloc, registers, inputs, text) {
+/// The values of what was read; none where it is refused.
+fn values_in(alloc: Global, read: Result<StepFile, StepFail>) -> Result<Vec<u128>, AllocError> {
+    match read {
         Ok(file) => values_of(alloc, &file),
         Err(_) => Ok(Vec::new(alloc)),
     }
@@ -388,20 +383,18 @@ fn values_in(
 
 #[test]
 fn values_are_those_of_the_literals(rt: HostRuntime) -> Result<(), Fail> {
-    let read = values_in(
-        rt.alloc(),
-        &[8, 128],
-        &[1, 12],
-        b"state 8'hA5 128'hFfffffffffffffffffffffffffffffff\n1'h1 12'h00abc\n\n1'h0 12'h7\n",
-    )?;
+    let text = b"state 8'hA5 128'hFfffffffffffffffffffffffffffffff\n1'h1 12'h00abc\n\n1'h0 12'h7\n";
+    let read = read_steps(rt.alloc(), &[8, 128], &[1, 12], text);
+    let values = values_in(rt.alloc(), read)?;
     let wanted: [u128; 6] = [0xA5, u128::MAX, 1, 0xABC, 0, 7];
-    assert!(rt; read.as_slice() == wanted.as_slice());
+    assert!(rt; values.as_slice() == wanted.as_slice());
     Ok(())
 }
 
 #[test]
 fn a_module_without_registers_has_a_state_line(rt: HostRuntime) -> Result<(), Fail> {
-    let read = values_in(rt.alloc(), &[], &[4], b"state\n4'h3\n")?;
-    assert!(rt; read.as_slice() == [3u128].as_slice());
+    let read = read_steps(rt.alloc(), &[], &[4], b"state\n4'h3\n");
+    let values = values_in(rt.alloc(), read)?;
+    assert!(rt; values.as_slice() == [3u128].as_slice());
     Ok(())
 }
