@@ -1,3 +1,4 @@
 pub mod ReadDigits
 pub mod ReadLiterals
 pub mod ReadRows
+pub mod RowWidths

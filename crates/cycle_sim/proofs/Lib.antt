@@ -1,0 +1,3 @@
+pub mod CopyRuns
+pub mod OutputLines
+pub mod TableRuns

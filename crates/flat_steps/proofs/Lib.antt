@@ -1,0 +1,13 @@
+pub mod FittingTables
+pub mod Gathering
+pub mod Makes
+pub mod Putting
+pub mod RunNets
+pub mod RunPlaces
+pub mod RunRegisters
+pub mod RunRises
+pub mod RunSettled
+pub mod RunSteps
+pub mod RunTables
+pub mod SettledTables
+pub mod WordWidths
