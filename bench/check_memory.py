@@ -46,6 +46,8 @@ LINES = [
     ("lec equivalence.mlir - -c1 p -c2 q --conflict-limit 1", "equivalence.mlir"),
     ("lec two_registers.mlir -c1 no -c2 other", None),
     ("lec equivalence.mlir -c1 p -c2 q --proof made", None),
+    ("sim two_registers.mlir steps --top Two", None),
+    ("sim two_registers.mlir bad_steps --top Two", None),
     ("gen 7 3 --workers 1", None),
     ("gen 7 3 --verilog --workers 1 -o made.v", None),
     ("opt none.mlir", None),
@@ -59,6 +61,7 @@ WITH_WORKERS = [
 ]
 CHECKED = [("check made.cnf made", None)]
 REFUSED = b"hw.module @A(in %a : i8, out c : i8) {\n  %0 = comb.add %a, %b : i8\n  hw.output %0 : i8\n}\n"
+STEPS = b"state 8'h5 8'h6\n1'h1 1'h0 1'h1 8'h11\n1'h1 1'h0 1'h0 8'h22\n1'h1 1'h1 1'h0 8'h33\n1'h0 1'h1 1'h1 8'h44\n"
 OUT_OF_MEMORY = (7, b"", b"circt: out of memory\n")
 
 
@@ -67,6 +70,8 @@ def make_inputs(folder, _program):
     for example in EXAMPLES.glob("*.mlir"):
         shutil.copy(example, folder)
     (folder / "refused.mlir").write_bytes(REFUSED)
+    (folder / "steps").write_bytes(STEPS)
+    (folder / "bad_steps").write_bytes(STEPS + b"1'h1\n")
     (folder / "made").write_bytes(b"as it was\n")
     (folder / "made.v").write_bytes(b"as it was\n")
 

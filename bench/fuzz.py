@@ -4,8 +4,8 @@
     fuzz.py PROGRAM [TEXTS [SEED [FOLDER]]]     by default 10000 texts, seed 1; findings go into FOLDER, by default /tmp/findings
 
 The texts are mutations of the cases of `examples/` (bytes, tokens, lines, whole operations, numbers at limits, splices of two
-texts), drawn from the seed, so a run can be repeated. As many runs go side by side as there are processors. Every tenth text is
-a formula or a proof of one in place of a design. Of each design it asks:
+texts), drawn from the seed, so a run can be repeated. As many runs go side by side as there are processors. Of ten texts one is
+a formula or a proof of one, and one a step file, in place of a design. Of each design it asks:
 
 * no run ends by a signal (one that works for 120 seconds does), and each by a status of the table: 0 to 4, or 7 with its line
   where 1 GB of memory does not suffice, which is counted;
@@ -18,6 +18,9 @@ a formula or a proof of one in place of a design. Of each design it asks:
 
 Of each formula and proof it asks that `check` verifies it, or refuses one of both with its line, which lies in that text or just
 after it; and that what is verified is refuted indeed where the formula has few variables.
+
+Of each step file of two registers it asks that `sim` prints the lines that are computed here, or refuses the line for the cause that
+is found here.
 """
 import multiprocessing
 import multiprocessing.util
@@ -33,7 +36,7 @@ import tempfile
 sys.dont_write_bytecode = True
 import support
 
-ERROR_LINE = re.compile(rb"\A([^\n]*):(\d+):(\d+): error: '([^'\n]*)' ([SVLP]\d+): [^\n]+\n\Z", re.DOTALL)
+ERROR_LINE = re.compile(rb"\A([^\n]*):(\d+):(\d+): error: '([^'\n]*)' ([SVLPM]\d+): [^\n]+\n\Z", re.DOTALL)
 TOKEN = re.compile(r"\"(?:[^\"\\\n]|\\.)*\"|[%@#!]?[A-Za-z_$.0-9][\w$.\-]*|->|[^\s]|[ \t]+|\n")
 NUMBER = re.compile(r"\d+")
 LIMITS = ["0", "1", "2", "127", "128", "129", "255", "256", "4095", "4096", "65535", "65536", "2147483647", "2147483648",
@@ -194,7 +197,7 @@ class Program:
             return
         lines = (read(self.second) if line[1] == self.second.encode() else text).split(b"\n")
         row, column = int(line[2]), int(line[3])
-        last = len(lines) + 1 if line[5].startswith(b"P") else len(lines)
+        last = len(lines) + 1 if line[5][:1] in b"PM" else len(lines)
         if not (1 <= row <= last and 1 <= column <= len((lines + [b""])[row - 1]) + 1):
             raise Finding(f"{' '.join(words)}: {err[:300]!r} lies outside the text")
 
@@ -307,6 +310,81 @@ def check_proof(program, number):
     return status == 0
 
 
+# ---- step files
+
+REGISTERS = (support.EXAMPLES / "two_registers.mlir").read_bytes()
+LITERAL = re.compile(rb"([1-9][0-9]*)'h([0-9a-fA-F]+)")
+HELD, INPUTS = [8, 8], [1, 1, 1, 8]
+
+
+def row_text(chance, widths):
+    return " ".join(f"{width}'h{chance.randrange(1 << width):{chance.choice('xX')}}" for width in widths)
+
+
+def step_text(chance):
+    rows = [row_text(chance, INPUTS) + "\n" * chance.choice([1, 1, 1, 2]) for _ in range(chance.randrange(6))]
+    return f"state {row_text(chance, HELD)}\n" + "".join(rows)
+
+
+def row_of(words, widths):
+    """The values of literals of these widths, or the cause for which they are none."""
+    found = [LITERAL.fullmatch(word) for word in words]
+    if not all(found) or any(int(m[2], 16) >> min(int(m[1]), 1000) for m in found):
+        return None, b"M1"
+    if len(words) != len(widths):
+        return None, b"M2"
+    return ([int(m[2], 16) for m in found], None) if [int(m[1]) for m in found] == widths else (None, b"M3")
+
+
+def simulated(text):
+    """What `sim` prints of the two registers, or the line and the cause that it refuses."""
+    lines = text.removesuffix(b"\n").split(b"\n") if text else []
+    held, printed = None, []
+    for number, line in enumerate(lines, 1):
+        words = re.split(rb"[ \t\r]+", line.strip(b" \t\r"))
+        if words == [b""]:
+            continue
+        if held is None and words[0] != b"state":
+            return number, b"M1"
+        values, cause = row_of(words[1:], HELD) if held is None else row_of(words, INPUTS)
+        if cause:
+            return number, cause
+        if held is None:
+            held = values
+            continue
+        clock, reset, enable, data = values
+        printed.append(b"8'h%X 8'h%X\n" % tuple(held))
+        held = ([9, 9] if reset else [data, held[0]] if enable else held) if clock else held
+    return (len(lines) + 1, b"M1") if held is None else b"".join(printed)
+
+
+def check_steps(program, number):
+    """Whether a step file is run. It raises a finding."""
+    chance = random.Random(f"{SEED} {number}")
+    text = step_text(chance)
+    for _ in range(chance.choice([0, 1, 1, 2, 3])):
+        text = chance.choice(MUTATIONS)(chance, text, [step_text(chance)])
+    source = text.encode("utf-8", "surrogateescape")
+    write(program.second, REGISTERS)
+    status, out = program.run(["sim", program.second, "-", "--top", "Two"], source)
+    said = simulated(source)
+    if status == 0 and out != said:
+        raise Finding(f"sim: {out[:200]!r}, not {said!r}")
+    if status == 1 and read(program.err) != b"<stdin>:%d:1: error: 'sim' %s: %s\n" % (*said, CAUSES[said[1]]):
+        raise Finding(f"sim: {read(program.err)!r}, not {said!r}")
+    return status == 0
+
+
+CAUSES = {b"M1": b"bad line", b"M2": b"wrong number of literals", b"M3": b"wrong width"}
+
+
+def check_one(program, number, source, chance):
+    """Whether the text of a number is accepted: a design, or a formula and a proof, or a step file."""
+    if number % 10 == 9:
+        return check_proof(program, number)
+    return check_steps(program, number) if number % 10 == 8 else check_design(program, source, chance)
+
+
 # ---- the run
 
 
@@ -315,7 +393,7 @@ def check_number(number):
     text, chance = mutated(SEED, number, TEXTS)
     source = text.encode("utf-8", "surrogateescape")
     try:
-        return check_proof(PROGRAM, number) if number % 10 == 9 else check_design(PROGRAM, source, chance), False, None
+        return check_one(PROGRAM, number, source, chance), False, None
     except OutOfMemory:
         return True, True, None
     except Finding as finding:

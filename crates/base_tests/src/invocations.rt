@@ -4,7 +4,7 @@ use crate::lines::{ALL, all_say};
 use command_line::usage::UsageKind;
 use std::test::Fail;
 
-const WORDS: [(&str, Said); 81] = [
+const WORDS: [(&str, Said); 93] = [
     ("", Wrong(UsageKind::Words)),
     ("opt", Command),
     ("opt a.mlir b.mlir", Wrong(UsageKind::Words)),
@@ -120,6 +120,19 @@ const WORDS: [(&str, Said); 81] = [
     ("check a b --workers 2", Wrong(UsageKind::Words)),
     ("check a b -o c", Wrong(UsageKind::Words)),
     ("check a b --proof r", Wrong(UsageKind::Words)),
+    // `sim`
+    ("sim a b --top m", Command),
+    ("sim - b --top m", Command),
+    ("sim --top=m a -", Command),
+    ("sim - - --top m", Wrong(UsageKind::StdinTwice)),
+    ("sim a b", Wrong(UsageKind::Words)),
+    ("sim a --top m", Wrong(UsageKind::Words)),
+    ("sim --top m", Wrong(UsageKind::Words)),
+    ("sim a b --top", Wrong(UsageKind::Words)),
+    ("sim a b --top m --top n", Wrong(UsageKind::Words)),
+    ("sim a b c --top m", Wrong(UsageKind::Words)),
+    ("sim a b --top m -o c", Wrong(UsageKind::Words)),
+    ("sim a b --top m --workers 2", Wrong(UsageKind::Words)),
 ];
 
 // How many workers the words of a line say.

@@ -22,8 +22,6 @@ mod names;
 #[cfg(test)]
 mod pipelines;
 #[cfg(test)]
-mod proof_checks;
-#[cfg(test)]
 mod real_files;
 #[cfg(test)]
 mod real_sinks;
@@ -31,5 +29,7 @@ mod real_sinks;
 mod regular_words;
 #[cfg(test)]
 mod schedules;
+#[cfg(test)]
+mod two_files;
 #[cfg(test)]
 mod words;

@@ -72,7 +72,8 @@ fn is_on(work: &Work, passes: &[Pass]) -> bool {
         Work::GeneratedSummary(_)
         | Work::GeneratedVerilog(_)
         | Work::Verdict(_)
-        | Work::ProofCheck => false,
+        | Work::ProofCheck
+        | Work::Simulation(_) => false,
     }
 }
 

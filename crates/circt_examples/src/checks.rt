@@ -1,6 +1,7 @@
 //! Whether the cases of an example give what is expected.
 use crate::cases::{Case, are_labelled_alike, cases, commands};
 use crate::runs::{Ended, run};
+use crate::simulations::sim_prints;
 use crate::steps::{design_runs, run_of, verilog_runs};
 use crate::verdicts::do_differ;
 use io_edge::file_access::{FileFail, Files};
@@ -24,7 +25,7 @@ enum Expected {
     ErrorMessage,
     /// Its verdict on two modules.
     Verdict,
-    /// The steps that the text that it prints takes.
+    /// The steps that the text that it prints takes, and `sim` prints of it where that is a design.
     Steps,
 }
 
@@ -219,7 +220,7 @@ fn is_given(
         Expected::Output | Expected::StableOutput => ended.is(0, wanted, ""),
         Expected::ErrorMessage => ended.is(1, "", wanted),
         Expected::Verdict => is_verdict(alloc, &ended, source, wanted)?,
-        Expected::Steps => takes_steps(alloc, &ended, line, wanted)?,
+        Expected::Steps => takes_steps(rt, alloc, &ended, line, wanted)?,
     };
     if !is_given {
         let out = String::from_utf8_lossy(alloc, ended.out.contents())?;
@@ -244,7 +245,13 @@ fn is_verdict(alloc: Global, ended: &Ended, source: &str, wanted: &str) -> anyho
 }
 
 // Whether a run of a line's command ended well with a text that takes these steps.
-fn takes_steps(alloc: Global, ended: &Ended, line: &str, wanted: &str) -> anyhow::Result<bool> {
+fn takes_steps(
+    rt: &(impl Threads + Sync),
+    alloc: Global,
+    ended: &Ended,
+    line: &str,
+    wanted: &str,
+) -> anyhow::Result<bool> {
     let Some(run) = run_of(alloc, wanted)? else {
         return Ok(false);
     };
@@ -253,7 +260,7 @@ fn takes_steps(alloc: Global, ended: &Ended, line: &str, wanted: &str) -> anyhow
         return Ok(false);
     }
     if line.starts_with("opt") {
-        Ok(design_runs(alloc, text, &run)?)
+        Ok(design_runs(alloc, text, &run)? && sim_prints(rt, alloc, text, wanted)?)
     } else {
         Ok(verilog_runs(alloc, text, &run)?)
     }

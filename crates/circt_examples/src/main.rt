@@ -12,6 +12,7 @@ mod cases;
 mod checks;
 mod designs;
 mod runs;
+mod simulations;
 mod steps;
 mod verdicts;
 mod words;

@@ -33,12 +33,24 @@ pub fn run(
     words: &str,
     input: &str,
 ) -> Result<Ended, AllocError> {
+    run_beside(rt, alloc, words, input, "")
+}
+
+/// The same with another text in the file `steps`.
+pub fn run_beside(
+    rt: &(impl Threads + Sync),
+    alloc: Global,
+    words: &str,
+    input: &str,
+    steps: &str,
+) -> Result<Ended, AllocError> {
     let mut split = Vec::new(alloc);
     for word in words.split_whitespace() {
         split.push(String::from_str(alloc, word)?)?;
     }
     let mut files = Vec::new(alloc);
     files.push(MemoryFile::of(alloc, "-", input.as_bytes())?)?;
+    files.push(MemoryFile::of(alloc, "steps", steps.as_bytes())?)?;
     let mut files = MemoryFiles::new(alloc, files);
     let mut out = MemorySink::new(alloc, ROOM)?;
     let mut err = MemorySink::new(alloc, ROOM)?;

@@ -5,13 +5,15 @@ use Rattle.std.proofs.lemmas.List.{length-map}
 use Rattle.wiring.specs.Wiring.{In}
 use Rattle.hw_model.specs.Types.{Name}
 use Rattle.hw_model.specs.Design.{Design}
+use Rattle.hw_model.specs.Sound.{input_types}
+use Rattle.miter_blast.specs.Comparable.{register_widths}
 use Rattle.io_edge.specs.Reading.{Reads}
 use Rattle.diag.specs.Location.{start_location}
 use Rattle.diag.specs.declared.refusal.OpName.TheVariants as op
 use Rattle.diag.specs.declared.cause.Cause.TheVariants.{TooLong}
 use Rattle.diag.specs.declared.refusal.Refusal.{Refusal}
 use Rattle.command_line.specs.Line.{Command, Work}
-use Rattle.command_line.specs.Line.Work.{mlir, mlir_pieces, verilog, generated_summary, generated_verilog, comparison, proof_check}
+use Rattle.command_line.specs.Line.Work.{mlir, mlir_pieces, verilog, generated_summary, generated_verilog, comparison, proof_check, simulation}
 use Rattle.mlir_syntax.specs.Stream.{stream_of, refusal}
 use Rattle.mlir_operations.specs.ModuleText.{file_text}
 use Rattle.mlir_reader.specs.Reading.{text_limit, read, design_read}
@@ -24,14 +26,22 @@ use Rattle.lrat_text.specs.ProofLine.{proof_lines}
 use Rattle.lrat_text.specs.Checking.{start, first_fault, proof_fault}
 use Rattle.lrat_text.specs.Verified.{is_verified}
 use Rattle.lrat_text.proofs.Verifying.{none_verified, verified_none}
-use Rattle.circt_top.specs.Accepting.{Accepted, IsRefused, IsRefusedIn, first_input, unread, unaccepted}
+use Rattle.step_file.specs.StepFile.{Steps, steps_of, steps_from}
+use Rattle.step_file.specs.declared.fail.StepCause.TheVariants as step
+use Rattle.text_lines.specs.Lines.{lines}
+use Rattle.cycle_sim.specs.Simulations.{leaf_widths, steps_for, IsSimulation, IsSimRefusal}
+use Rattle.cycle_sim.specs.declared.fail.SimRefusal.{SimRefusal}
+use Rattle.cycle_sim.specs.declared.fail.SimRefusal.TheVariants.{NoModule, BadSteps}
+use Rattle.circt_top.specs.Accepting.{Accepted, IsRefused, IsRefusedIn, first_input, second_input, unread, unaccepted}
 use Rattle.circt_top.specs.Reprint.{IsReprint}
 use Rattle.circt_top.specs.PieceReprint.{IsReprintOfPieces, IsRefusedInPieces}
 use Rattle.lowering_options.specs.declared.lowering.Lowering.{Lowering}
 use Rattle.circt_top.specs.Translation.{IsTranslation}
 use Rattle.circt_top.specs.Comparing.{last_input, last_number, AreTaken, in_pair, IsRefusedPair, IsSame, IsDifference, IsGivenUp}
 use Rattle.circt_top.specs.Comparing.IsRefusedPair.{first as of_first, last as of_last, pair as of_pair}
-use Rattle.circt_top.specs.Checks.{second_input, IsRefusedProof, IsVerifiedProof}
+use Rattle.circt_top.specs.Checks.{IsRefusedProof, IsVerifiedProof}
+use Rattle.circt_top.specs.Simulations.{IsRefusedRun, IsRun}
+use Rattle.circt_top.specs.Simulations.IsRefusedRun.{first as of_unread, run as of_run}
 use Rattle.circt_top.specs.Checks.IsRefusedProof.{formula as of_formula, proof as of_proof}
 use Rattle.circt_top.specs.Outcome.{Verdict, Texts, Answer, IsText, IsRefusedBy, IsFinding, IsGiven, IsOutput, IsAnswer}
 use Rattle.circt_top.specs.Outcome.Verdict.{given, different, unknown}
@@ -167,6 +177,28 @@ fault_whole f bytes source prefix = by_size (Some (1, TooLong)) (λ b. first_fau
 verified_whole : (f : Formula) (bytes source : List ℕ) → source ≡ take read_limit bytes → IsTrue (is_verified f source) → IsTrue (is_verified f bytes)
 verified_whole f bytes source prefix h = none_verified f bytes (sym (fault_whole f bytes source prefix) ∙ verified_none f source h)
 
+-- ---- runs
+
+steps_whole : (registers inputs bytes source : List ℕ) → source ≡ take read_limit bytes → steps_of registers inputs source ≡ steps_of registers inputs bytes
+unfolding steps_of
+steps_whole registers inputs bytes source prefix = by_size (Err (1, step.TooLong)) (λ b. steps_from 1 registers inputs (lines b)) bytes source prefix
+
+simulation_whole : (d : Design) (top : Name) (bytes source text : List ℕ) → source ≡ take read_limit bytes → IsSimulation d top source text → IsSimulation d top bytes text
+simulation_whole d top bytes source text prefix is = record {
+  one = is.one;
+  found = is.found;
+  says = is.says;
+  read = sym (steps_whole (register_widths d top) (leaf_widths (input_types is.one.ports)) bytes source prefix) ∙ is.read;
+  outputs = is.outputs;
+  run = is.run;
+  is = is.is;
+}
+
+sim_refusal_whole : (d : Design) (top : Name) (bytes source : List ℕ) (x : SimRefusal) → source ≡ take read_limit bytes → IsSimRefusal d top source x → IsSimRefusal d top bytes x
+sim_refusal_whole d top bytes source NoModule prefix is = is
+sim_refusal_whole d top bytes source (BadSteps r) prefix (m, found, fault) =
+    (m, found, sym (steps_whole (register_widths d top) (leaf_widths (input_types m.ports)) bytes source prefix) ∙ fault)
+
 -- ---- comparisons
 
 first_prefix : (contents : List (List ℕ)) → first_input (prefixes contents) ≡ take read_limit (first_input contents)
@@ -258,6 +290,21 @@ module _ (contents sources : List (List ℕ)) (are : sources ≡ prefixes conten
   refused_proof_whole r (of_proof f line cause says is) =
       of_proof f line cause (sym formula_read ∙ says) (sym (fault_whole f (second_input contents) (second_input sources) proof_prefix) ∙ is)
 
+  -- ---- runs
+
+  run_whole : (top : Name) (text : List ℕ) → IsRun top sources text → IsRun top contents text
+  run_whole top text is = record {
+    design = is.design;
+    accepted = accepted_whole (first_input contents) (first_input sources) is.design first_read is.accepted;
+    simulation = simulation_whole is.design top (second_input contents) (second_input sources) text proof_prefix is.simulation;
+  }
+
+  refused_run_whole : (top : Name) (r : Refusal) → IsRefusedRun top sources r → IsRefusedRun top contents r
+  refused_run_whole top r (of_unread x is) = of_unread x (refused_in_again 0 (first_input contents) (first_input sources) x first_read is)
+  refused_run_whole top r (of_run d x a is) =
+      of_run d x (accepted_whole (first_input contents) (first_input sources) d first_read a)
+      (sim_refusal_whole d top (second_input contents) (second_input sources) x proof_prefix is)
+
   -- ---- answers
 
   -- what is made of prefixes is made of the whole
@@ -269,6 +316,7 @@ module _ (contents sources : List (List ℕ)) (are : sources ≡ prefixes conten
   text_whole (generated_verilog seed count) text is = is
   text_whole (comparison left right limit proof) text is = absurd is
   text_whole proof_check text is = verified_proof_whole text is
+  text_whole (simulation top) text is = run_whole top text is
 
   refusal_whole : (work : Work) (r : Refusal) → IsRefusedBy work sources r → IsRefusedBy work contents r
   refusal_whole (mlir passes) r is = refused_in_again 0 (first_input contents) (first_input sources) r first_read is
@@ -278,6 +326,7 @@ module _ (contents sources : List (List ℕ)) (are : sources ≡ prefixes conten
   refusal_whole (generated_verilog seed count) r is = absurd is
   refusal_whole (comparison left right limit proof) r is = refused_pair_whole left right r is
   refusal_whole proof_check r is = refused_proof_whole r is
+  refusal_whole (simulation top) r is = refused_run_whole top r is
 
   finding_whole : (left right : Name) (limit : ℕ) (proof : Option Name) (verdict : Verdict) (t : Texts) → IsFinding left right limit proof sources verdict t
       → IsFinding left right limit proof contents verdict t
@@ -298,6 +347,7 @@ module _ (contents sources : List (List ℕ)) (are : sources ≡ prefixes conten
   output_whole (generated_summary seed count) verdict t is = given_whole (generated_summary seed count) verdict t is
   output_whole (generated_verilog seed count) verdict t is = given_whole (generated_verilog seed count) verdict t is
   output_whole proof_check verdict t is = given_whole proof_check verdict t is
+  output_whole (simulation top) verdict t is = given_whole (simulation top) verdict t is
 
   -- what is answered for prefixes is answered for the whole
   answer_whole : (work : Work) (x : Answer) → IsAnswer work sources x → IsAnswer work contents x

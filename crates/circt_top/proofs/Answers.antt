@@ -5,7 +5,7 @@ use Rattle.hw_model.specs.Design.{Design}
 use Rattle.resolution_proof.specs.Formula.{Formula}
 use Rattle.resolution_proof.specs.declared.log.Step.{Step}
 use Rattle.command_line.specs.Line.{Work, proof_files, files_before}
-use Rattle.command_line.specs.Line.Work.{mlir, mlir_pieces, verilog, generated_summary, generated_verilog, comparison, proof_check}
+use Rattle.command_line.specs.Line.Work.{mlir, mlir_pieces, verilog, generated_summary, generated_verilog, comparison, proof_check, simulation}
 use Rattle.mlir_reader.specs.Reading.{read}
 use Rattle.op_verifier.specs.Faults.{first_fault}
 use Rattle.op_verifier.specs.Verdict.{IsAccepted, IsRefusal, unfit, recursive, too_large, cyclic}
@@ -22,6 +22,7 @@ use Rattle.circt_top.specs.Comparing.{last_input, last_number, AreTaken, AreProo
 use Rattle.circt_top.specs.Comparing.IsRefusedPair.{first as of_first, last as of_last, pair as of_pair}
 use Rattle.circt_top.specs.Stops.{names_in}
 use Rattle.circt_top.proofs.Checks.{verified_unrefused}
+use Rattle.circt_top.proofs.Simulations.{run_unrefused, run_can_be}
 use Rattle.circt_top.specs.Outcome.{Verdict, Texts, alone, IsText, IsGiven, IsAnswer, IsAnswered}
 use Rattle.circt_top.specs.Outcome.Verdict.{given, different, unknown}
 use Rattle.circt_top.specs.Outcome.Answer.{prints, refuses}
@@ -84,6 +85,7 @@ answered_unrefused (generated_summary seed count) contents r a is = is
 answered_unrefused (generated_verilog seed count) contents r a is = is
 answered_unrefused (comparison left right limit proof) contents r a is = pair_unrefused left right contents r a is
 answered_unrefused proof_check contents r a is = verified_unrefused contents r a is
+answered_unrefused (simulation top) contents r a is = run_unrefused top contents r (unrefused_in 0 (first_input contents) a.design r a.accepted) a is
 
 -- what a text is made of is answered
 text_answered : (work : Work) (contents : List (List ℕ)) (text : List ℕ) → IsText work contents text → IsAnswered work contents
@@ -95,6 +97,7 @@ text_answered (generated_summary seed count) contents text is = tt
 text_answered (generated_verilog seed count) contents text is = tt
 text_answered (comparison left right limit proof) contents text is = absurd is
 text_answered proof_check contents text is = is.can
+text_answered (simulation top) contents text is = run_can_be top contents text is
 
 given_answered : (work : Work) (contents : List (List ℕ)) (verdict : Verdict) (t : Texts) → IsGiven work contents verdict t → IsAnswered work contents
 given_answered work contents given t is = text_answered work contents t.text is.1
@@ -109,6 +112,7 @@ made_answered (verilog passes options) contents verdict t is = given_answered (v
 made_answered (generated_summary seed count) contents verdict t is = tt
 made_answered (generated_verilog seed count) contents verdict t is = tt
 made_answered proof_check contents verdict t is = given_answered proof_check contents verdict t is
+made_answered (simulation top) contents verdict t is = given_answered (simulation top) contents verdict t is
 made_answered (comparison left right limit proof) contents given t is = can_be left right contents is.one is.two is.taken is.agree.comparable is.agree.affordable
 made_answered (comparison left right limit proof) contents (different values) t is =
     let d = is.1 in can_be left right contents d.one d.two d.taken d.differ.comparable d.differ.affordable
@@ -124,6 +128,7 @@ text_answers (generated_summary seed count) contents text is = (refl, is)
 text_answers (generated_verilog seed count) contents text is = (refl, is)
 text_answers (comparison left right limit proof) contents text is = absurd is
 text_answers proof_check contents text is = (refl, is)
+text_answers (simulation top) contents text is = (refl, is)
 
 -- the files that go out are those that the work names, or none
 given_files : (work : Work) (contents : List (List ℕ)) (verdict : Verdict) (t : Texts) → IsGiven work contents verdict t → t.files ≡ []
@@ -146,6 +151,7 @@ files_named (verilog passes options) contents verdict t is = none_named t.files 
 files_named (generated_summary seed count) contents verdict t is = none_named t.files [] (given_files (generated_summary seed count) contents verdict t is)
 files_named (generated_verilog seed count) contents verdict t is = none_named t.files [] (given_files (generated_verilog seed count) contents verdict t is)
 files_named proof_check contents verdict t is = none_named t.files [] (given_files proof_check contents verdict t is)
+files_named (simulation top) contents verdict t is = none_named t.files [] (given_files (simulation top) contents verdict t is)
 files_named (comparison left right limit proof) contents given t is = proof_named proof is.agree.formula is.log t.files is.proves
 files_named (comparison left right limit proof) contents (different values) t is = none_named t.files (proof_files proof) is.0
 files_named (comparison left right limit proof) contents (unknown log) t is = none_named t.files (proof_files proof) is.0

@@ -10,8 +10,8 @@ use Rattle.lrat_text.proofs.Verifying.{verified_none}
 use Rattle.lrat_text.specs.declared.fail.CheckFail.{CheckFail}
 use Rattle.lrat_text.specs.declared.fail.CheckFail.TheVariants as check
 use Rattle.command_line.specs.Line.Work.{proof_check}
-use Rattle.circt_top.specs.Accepting.{first_input}
-use Rattle.circt_top.specs.Checks.{second_input, line_refusal, check_failure, IsRefusedProof, CanBeVerified, IsVerifiedProof}
+use Rattle.circt_top.specs.Accepting.{first_input, second_input}
+use Rattle.circt_top.specs.Checks.{check_failure, IsRefusedProof, CanBeVerified, IsVerifiedProof}
 use Rattle.circt_top.specs.Checks.IsRefusedProof.{formula as of_formula, proof as of_proof}
 use Rattle.circt_top.specs.Outcome.{GivesText}
 

@@ -57,7 +57,7 @@ pub taken_of : {contents : List ℕ} (bytes : List ℕ) (result : Result Verifie
     → Accepted contents (design_of v.design)
 taken_of bytes result v is taken ok = subst (λ b. Accepted b (design_of v.design)) is (subst (λ r. IsTaken bytes r) ok taken)
 
-untaken_of : {contents : List ℕ} (bytes : List ℕ) (result : Result Verified OutcomeFail) (fail : OutcomeFail) → bytes ≡ contents → IsTaken bytes result → result ≡ Err fail
+pub untaken_of : {contents : List ℕ} (bytes : List ℕ) (result : Result Verified OutcomeFail) (fail : OutcomeFail) → bytes ≡ contents → IsTaken bytes result → result ≡ Err fail
     → IsTaken contents (Err fail)
 untaken_of bytes result fail is taken err = subst (λ b. IsTaken b (Err fail)) is (subst (λ r. IsTaken bytes r) err taken)
 

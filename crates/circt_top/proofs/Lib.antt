@@ -7,6 +7,7 @@ mod Ends
 mod Subjects
 pub mod Stops
 mod Checks
+mod Simulations
 mod Starving
 pub mod Answers
 pub mod Within

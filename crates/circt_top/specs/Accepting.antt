@@ -1,5 +1,7 @@
 -- Which bytes are accepted, and what the others are refused for.
 use Rattle.std.specs.Prelude.{◌≡◌, ℕ, List, [], ◌∷◌, Ok, Err}
+use Rattle.diag.specs.declared.cause.Cause.{Cause}
+use Rattle.diag.specs.declared.refusal.OpName.{OpName}
 use Rattle.diag.specs.declared.refusal.Refusal.{Refusal}
 use Rattle.hw_model.specs.Design.{Design}
 use Rattle.mlir_reader.specs.Reading.{read}
@@ -33,3 +35,13 @@ pub record IsRefusedIn (number : ℕ) (bytes : List ℕ) (r : Refusal) : Type 0 
 abbrev pub first_input : List (List ℕ) → List ℕ
 first_input [] = []
 first_input (bytes ∷ contents) = bytes
+
+-- the bytes of the second input
+abbrev pub second_input : List (List ℕ) → List ℕ
+second_input [] = []
+second_input (bytes ∷ []) = []
+second_input (bytes ∷ more ∷ contents) = more
+
+-- the refusal, by an operation, of the input of this number at a line
+abbrev pub line_refusal : OpName → ℕ → ℕ → Cause → Refusal
+line_refusal op number line cause = record { file = number; location = record { line = line; col = 1 }; op = op; cause = cause }

@@ -9,25 +9,15 @@ use Rattle.lrat_text.specs.Checking.{proof_fault}
 use Rattle.lrat_text.specs.Verified.{is_verified}
 use Rattle.lrat_text.specs.declared.fail.CheckFail.{CheckFail}
 use Rattle.lrat_text.specs.declared.fail.CheckFail.TheVariants as check
-use Rattle.circt_top.specs.Accepting.{first_input}
+use Rattle.circt_top.specs.Accepting.{first_input, second_input, line_refusal}
 use Rattle.circt_top.specs.declared.made.OutcomeFail.{OutcomeFail}
 use Rattle.circt_top.specs.declared.made.OutcomeFail.TheVariants.{Refused, NoMemory}
 
--- the bytes of the second input
-abbrev pub second_input : List (List ℕ) → List ℕ
-second_input [] = []
-second_input (bytes ∷ []) = []
-second_input (bytes ∷ more ∷ contents) = more
-
--- the refusal of the input of this number at a line
-abbrev pub line_refusal : ℕ → ℕ → Cause → Refusal
-line_refusal number line cause = record { file = number; location = record { line = line; col = 1 }; op = op.Check; cause = cause }
-
 -- the first refusal: of the first input, where that is no formula, or of the second one, where that is no proof over it
 pub data IsRefusedProof (contents : List (List ℕ)) : Refusal → Type 0 where
-  formula : (line : ℕ) (cause : Cause) → formula_of (first_input contents) ≡ Err (line, cause) → IsRefusedProof contents (line_refusal 0 line cause)
+  formula : (line : ℕ) (cause : Cause) → formula_of (first_input contents) ≡ Err (line, cause) → IsRefusedProof contents (line_refusal op.Check 0 line cause)
   proof : (f : Formula) (line : ℕ) (cause : Cause) → formula_of (first_input contents) ≡ Ok f → proof_fault f (second_input contents) ≡ Some (line, cause)
-      → IsRefusedProof contents (line_refusal 1 line cause)
+      → IsRefusedProof contents (line_refusal op.Check 1 line cause)
 
 -- the first input is a formula, and the second one a proof over it in which the empty clause is a step
 pub record CanBeVerified (contents : List (List ℕ)) : Type 0 where
@@ -43,5 +33,5 @@ pub record IsVerifiedProof (contents : List (List ℕ)) (text : List ℕ) : Type
 
 -- why no text is made of the input of this number
 abbrev pub check_failure : ℕ → CheckFail → OutcomeFail
-check_failure number (check.Refused r) = Refused (line_refusal number r.line r.cause)
+check_failure number (check.Refused r) = Refused (line_refusal op.Check number r.line r.cause)
 check_failure number check.NoMemory = NoMemory

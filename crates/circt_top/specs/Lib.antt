@@ -8,6 +8,7 @@ pub mod Partners
 pub mod Words
 pub mod Comparing
 pub mod Checks
+pub mod Simulations
 pub mod Conclusions
 pub mod Outcome
 pub mod Delivery

@@ -5,7 +5,7 @@ use Rattle.hw_model.specs.Types.{Name}
 use Rattle.resolution_proof.specs.declared.log.Step.{Step}
 use Rattle.diag.specs.declared.refusal.Refusal.{Refusal}
 use Rattle.command_line.specs.Line.{Work}
-use Rattle.command_line.specs.Line.Work.{mlir, mlir_pieces, verilog, generated_summary, generated_verilog, comparison, proof_check}
+use Rattle.command_line.specs.Line.Work.{mlir, mlir_pieces, verilog, generated_summary, generated_verilog, comparison, proof_check, simulation}
 use Rattle.circt_top.specs.Accepting.{IsAcceptedText, IsRefusedIn, first_input}
 use Rattle.circt_top.specs.Reprint.{IsReprint}
 use Rattle.circt_top.specs.PieceReprint.{IsReprintOfPieces, IsRefusedInPieces, IsAcceptedInPieces}
@@ -13,6 +13,7 @@ use Rattle.circt_top.specs.Translation.{IsTranslation}
 use Rattle.circt_top.specs.Generation.{IsGenerated, IsSummary}
 use Rattle.circt_top.specs.Comparing.{IsSame, IsDifference, IsGivenUp, IsRefusedPair, CanBeCompared}
 use Rattle.circt_top.specs.Checks.{IsVerifiedProof, IsRefusedProof, CanBeVerified}
+use Rattle.circt_top.specs.Simulations.{IsRun, IsRefusedRun, CanBeRun}
 use Rattle.circt_top.specs.declared.made.FileText.{FileText}
 use Rattle.circt_top.specs.declared.made.ProofTexts.{ProofTexts}
 use Rattle.circt_top.specs.declared.made.Made.{Made}
@@ -51,6 +52,7 @@ IsText (generated_summary seed count) contents text = IsSummary seed count text
 IsText (generated_verilog seed count) contents text = IsGenerated seed count text
 IsText (comparison left right limit proof) contents text = ⊥
 IsText proof_check contents text = IsVerifiedProof contents text
+IsText (simulation top) contents text = IsRun top contents text
 
 -- a work refuses inputs of these contents so
 abbrev pub IsRefusedBy : Work → List (List ℕ) → Refusal → Type 0
@@ -61,6 +63,7 @@ IsRefusedBy (generated_summary seed count) contents r = ⊥
 IsRefusedBy (generated_verilog seed count) contents r = ⊥
 IsRefusedBy (comparison left right limit proof) contents r = IsRefusedPair left right contents r
 IsRefusedBy proof_check contents r = IsRefusedProof contents r
+IsRefusedBy (simulation top) contents r = IsRefusedRun top contents r
 
 -- what a comparison finds, with what goes out: with the file of a proof, that modules are the same goes out with a formula and a proof
 abbrev pub IsFinding : Name → Name → ℕ → Option Name → List (List ℕ) → Verdict → Texts → Type 0
@@ -84,7 +87,7 @@ IsAnswer work contents (prints verdict t) = IsOutput work contents verdict t
 IsAnswer work contents (refuses r) = IsRefusedBy work contents r
 
 -- the contents are accepted, as what the work takes; a generated design takes none; modules that are compared are
--- there, and can be compared; a proof is one over the formula
+-- there, and can be compared; a proof is one over the formula; a module that runs is there, with steps of it
 abbrev pub IsAnswered : Work → List (List ℕ) → Type 0
 IsAnswered (mlir passes) contents = IsAcceptedText (first_input contents)
 IsAnswered (mlir_pieces passes) contents = IsAcceptedInPieces (first_input contents)
@@ -93,6 +96,7 @@ IsAnswered (generated_summary seed count) contents = Unit {0}
 IsAnswered (generated_verilog seed count) contents = Unit {0}
 IsAnswered (comparison left right limit proof) contents = CanBeCompared left right contents
 IsAnswered proof_check contents = CanBeVerified contents
+IsAnswered (simulation top) contents = CanBeRun top contents
 
 -- what code finds
 abbrev pub verdict_of : Finding → Verdict

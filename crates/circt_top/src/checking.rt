@@ -1,12 +1,11 @@
 //! The check of a proof of others.
 ghost use Rattle.std.specs.Prelude.{◌≡◌};
 ghost use Rattle.command_line.specs.Line.Work.{proof_check};
-ghost use Rattle.circt_top.specs.Checks.{second_input, line_refusal, check_failure};
+ghost use Rattle.circt_top.specs.Checks.{check_failure};
 ghost use Rattle.circt_top.specs.Outcome.{GivesText};
 
-use crate::made::{OutcomeFail, first_input};
-use diag::cause::Cause;
-use diag::refusal::{Location, OpName, Refusal};
+use crate::made::{OutcomeFail, first_input, line_refusal, second_input};
+use diag::refusal::OpName;
 use io_edge::byte_text::Text;
 use lrat_text::check::check;
 use lrat_text::fail::CheckFail;
@@ -28,36 +27,14 @@ pub(crate) fn check_proof(alloc: Global, sources: &[Text]) -> Result<Text, Outco
     }
 }
 
-// The text of the second input.
-fn second_input(sources: &[Text]) -> &[u8]
-    ensures { result.now ≡ second_input sources.now }
-{
-    match sources {
-        [_, source, ..] => source.as_bytes(),
-        _ => b"",
-    }
-}
-
 // Why no text is made of the input of this number.
 fn check_failure(number: u32, fail: CheckFail) -> OutcomeFail
     ensures { result ≡ check_failure number fail }
 {
     match fail {
         CheckFail::Refused(refusal) => {
-            OutcomeFail::Refused(line_refusal(number, refusal.line, refusal.cause))
+            OutcomeFail::Refused(line_refusal(OpName::Check, number, refusal.line, refusal.cause))
         }
         CheckFail::NoMemory => OutcomeFail::NoMemory,
-    }
-}
-
-// The refusal of the input of this number at a line.
-fn line_refusal(number: u32, line: u32, cause: Cause) -> Refusal
-    ensures { result ≡ line_refusal number line cause }
-{
-    Refusal {
-        file: number,
-        location: Location { line, col: 1 },
-        op: OpName::Check,
-        cause,
     }
 }

@@ -14,6 +14,7 @@ mod outcome;
 mod pieces;
 mod report;
 pub mod run;
+mod simulating;
 pub mod status;
 mod summary;
 mod translation;

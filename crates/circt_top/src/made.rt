@@ -1,11 +1,12 @@
 //! A text that is made, with what it says, and why none is.
 ghost use Rattle.std.specs.Prelude.{◌≡◌};
-ghost use Rattle.circt_top.specs.Accepting.{first_input};
+ghost use Rattle.circt_top.specs.Accepting.{first_input, second_input, line_refusal};
 ghost use Rattle.circt_top.specs.OutcomeParts.{fail_in_file, fail_in_whole};
 ghost use Rattle.circt_top.specs.PieceViews.{piece_of};
 
 use crate::pieces::Piece;
-use diag::refusal::Refusal;
+use diag::cause::Cause;
+use diag::refusal::{Location, OpName, Refusal};
 use io_edge::byte_text::Text;
 use lec_tool::Input;
 use resolution_proof::log::Log;
@@ -103,5 +104,27 @@ pub(crate) fn first_input(sources: &[Text]) -> &[u8]
     match sources {
         [source, ..] => source.as_bytes(),
         [] => b"",
+    }
+}
+
+/// The text of the second input.
+pub(crate) fn second_input(sources: &[Text]) -> &[u8]
+    ensures { result.now ≡ second_input sources.now }
+{
+    match sources {
+        [_, source, ..] => source.as_bytes(),
+        _ => b"",
+    }
+}
+
+/// The refusal, by an operation, of the input of this number at a line.
+pub(crate) fn line_refusal(op: OpName, number: u32, line: u32, cause: Cause) -> Refusal
+    ensures { result ≡ line_refusal op number line cause }
+{
+    Refusal {
+        file: number,
+        location: Location { line, col: 1 },
+        op,
+        cause,
     }
 }

@@ -19,6 +19,7 @@ use crate::comparing::compare;
 use crate::generation::{generate_verilog, summarise};
 use crate::made::{Finding, Made, OutcomeFail, first_input};
 use crate::pieces::{Piece, pieces_of};
+use crate::simulating::run_module;
 use crate::translation::{Means, passes_result, translate};
 use command_line::invocation::Work;
 use diag::cause::Cause;
@@ -56,6 +57,7 @@ pub(crate) fn outcome<'a, R: Threads + Sync, G: Gate + Copy + Send>(
         Work::GeneratedVerilog(recipe) => without_finding(generate_verilog(means, *recipe)),
         Work::Verdict(pair) => compare(means.alloc, pair, sources),
         Work::ProofCheck => without_finding(check_proof(means.alloc, sources)),
+        Work::Simulation(top) => without_finding(run_module(means.alloc, top, sources)),
     }
 }
 

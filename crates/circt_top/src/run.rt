@@ -79,7 +79,8 @@ const PASSES_ON_OFFER: [Pass; 6] = [
 /// with [`Status::Different`]; and `unknown` where N clauses (a million where nothing is said) were learnt without an answer, with
 /// [`Status::Unknown`]. With `--proof FILE`, where they agree, a formula and the proof that refutes it are written to `FILE.cnf` (DIMACS CNF)
 /// and `FILE` (LRAT) before that. `check CNF PROOF` prints `verified` where the second file is such a proof over the formula
-/// of the first one. All other words are answered by [`Status::Usage`]. A fault of `err` changes no status.
+/// of the first one. `sim FILE STEPS --top NAME` prints the outputs of a run of the module of that name, a line a step, from the content and
+/// with the inputs that STEPS says. All other words are answered by [`Status::Usage`]. A fault of `err` changes no status.
 pub fn run_circt<R: Threads + Sync, F: Files, O: Sink, E: Sink, G: Gate + Copy + Send>(
     rt: &R,
     alloc: Global,

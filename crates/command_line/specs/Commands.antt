@@ -107,6 +107,14 @@ lec_app =
 abbrev pub check_app : App
 check_app = with_rule (with_rule (new_app (codes "check")) first_file_rule) other_file_rule
 
+-- `--top NAME`, which is asked for
+abbrev pub top_rule : Rule
+top_rule = record (new_rule (codes "top")) { long = Some (codes "top"); required = true }
+
+-- `sim FILE STEPS --top NAME`
+abbrev pub sim_app : App
+sim_app = with_rule (with_rule (with_rule (new_app (codes "sim")) first_file_rule) other_file_rule) top_rule
+
 -- a command without help and version, of which a subcommand is wanted; its words are those after the program's name
 abbrev pub bare : App → App
 bare a = record a {
@@ -118,10 +126,10 @@ bare a = record a {
   };
 }
 
--- the program without the commands that give verdicts
+-- the program without the commands that take two files
 abbrev pub designs_app : App
 designs_app = with_subcommand (with_subcommand (with_subcommand (bare (new_app (codes "circt"))) opt_app.top) translate_app.top) gen_app.top
 
 -- the program
 abbrev pub circt_app : App
-circt_app = with_subcommand (with_subcommand designs_app lec_app.top) check_app.top
+circt_app = with_subcommand (with_subcommand (with_subcommand designs_app lec_app.top) check_app.top) sim_app.top

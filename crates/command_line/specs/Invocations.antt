@@ -4,11 +4,11 @@ use Rattle.clap.specs.Words.{Kinds}
 use Rattle.pass_pipeline.specs.declared.pass.Pass.{Pass}
 use Rattle.command_line.specs.Line as line
 use Rattle.command_line.specs.Line.{Command}
-use Rattle.command_line.specs.Line.Work.{mlir, mlir_pieces, verilog, generated_summary, generated_verilog, comparison, proof_check}
+use Rattle.command_line.specs.Line.Work.{mlir, mlir_pieces, verilog, generated_summary, generated_verilog, comparison, proof_check, simulation}
 use Rattle.command_line.specs.declared.usage.UsageKind.{UsageKind}
 use Rattle.command_line.specs.declared.usage.UsageKind.TheVariants.{Words}
 use Rattle.command_line.specs.declared.invocation.Work.{Work}
-use Rattle.command_line.specs.declared.invocation.Work.TheVariants.{Mlir, MlirPieces, Verilog, GeneratedSummary, GeneratedVerilog, Verdict, ProofCheck}
+use Rattle.command_line.specs.declared.invocation.Work.TheVariants.{Mlir, MlirPieces, Verilog, GeneratedSummary, GeneratedVerilog, Verdict, ProofCheck, Simulation}
 use Rattle.command_line.specs.declared.invocation.Invocation.{Invocation}
 use Rattle.command_line.specs.declared.invocation.LineFail.{LineFail}
 use Rattle.command_line.specs.declared.invocation.LineFail.TheVariants.{Usage, NoMemory}
@@ -21,6 +21,7 @@ work_of (GeneratedSummary recipe) = generated_summary recipe.seed recipe.count
 work_of (GeneratedVerilog recipe) = generated_verilog recipe.seed recipe.count
 work_of (Verdict pair) = comparison (string_bytes pair.left) (string_bytes pair.right) pair.conflict_limit (option_map (λ p. string_bytes p.proof) pair.proof)
 work_of ProofCheck = proof_check
+work_of (Simulation top) = simulation (string_bytes top)
 
 abbrev pub command_of : Invocation → Command
 command_of i = record { inputs = map string_bytes i.inputs.items; output = option_map string_bytes i.output; work = work_of i.work; workers = i.workers.count }

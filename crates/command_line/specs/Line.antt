@@ -20,7 +20,7 @@ use Rattle.command_line.specs.declared.usage.UsageKind.TheVariants.{Words, TwoPi
 -- designs that they make of those of the pieces of an input; or, without an input, a summary, or Verilog, of the design that is
 -- generated from a seed with so many modules; or a verdict on the module of a name of the first input and that of another of the last one,
 -- with so many learnt clauses at most, and a proof of it in the file of a name where one is given; or a verdict on the proof that is the
--- second input, of the formula that is the first
+-- second input, of the formula that is the first; or the outputs of a run of the module of a name of the first input, by the steps of the second
 pub data Work : Type 0 where
   mlir : List Pass → Work
   mlir_pieces : List Pass → Work
@@ -29,6 +29,7 @@ pub data Work : Type 0 where
   generated_verilog : ℕ → ℕ → Work
   comparison : Text → Text → ℕ → Option Text → Work
   proof_check : Work
+  simulation : Text → Work
 
 -- the files of a proof of this name: its formula's, which is named after it, and its own
 abbrev pub proof_files : Option Text → List Text
@@ -61,12 +62,13 @@ input_in rows = unwrap_or (first_of (codes "file") rows) (codes "-")
 abbrev pub second_in : List Row → Option Text
 second_in rows = first_of (codes "second-file") rows
 
--- the files that are read for a work; what is generated is of none, modules that are compared are of one or two, and a proof that is checked is of two
+-- the files that are read for a work; what is generated is of none, modules that are compared are of one or two, and a proof that is checked and a run are of two
 abbrev pub inputs_in : List Row → Work → List Text
 inputs_in rows (generated_summary seed count) = []
 inputs_in rows (generated_verilog seed count) = []
 inputs_in rows (comparison left right limit proof) = input_in rows ∷ cons_option (second_in rows) []
 inputs_in rows proof_check = input_in rows ∷ cons_option (second_in rows) []
+inputs_in rows (simulation top) = input_in rows ∷ cons_option (second_in rows) []
 inputs_in rows _ = input_in rows ∷ []
 
 -- the file that is written
@@ -200,6 +202,10 @@ lec_work rows = by_limit rows (limit_in (first_of (codes "conflict-limit") rows)
 abbrev pub check_work : List Row → Result Work UsageKind
 check_work rows = cond (is_stdin_twice rows) (Err StdinTwice) (Ok proof_check)
 
+-- the work of `sim`
+abbrev pub sim_work : List Row → Result Work UsageKind
+sim_work rows = cond (is_stdin_twice rows) (Err StdinTwice) (Ok (simulation (name_in (first_of (codes "top") rows))))
+
 -- the work of a command that takes passes: passes given in two ways are wrong first, then a missing translation, then a bad pipeline, then
 -- a way of writing Verilog that is not known
 abbrev pub passes_work : List Pass → Text → List Row → Result Work UsageKind
@@ -214,7 +220,8 @@ abbrev pub work_in : List Pass → Text → List Row → Result Work UsageKind
 work_in offered name rows =
     cond (bytes_eq name (codes "gen")) (gen_work rows)
     (cond (bytes_eq name (codes "lec")) (lec_work rows)
-    (cond (bytes_eq name (codes "check")) (check_work rows) (passes_work offered name rows)))
+    (cond (bytes_eq name (codes "check")) (check_work rows)
+    (cond (bytes_eq name (codes "sim")) (sim_work rows) (passes_work offered name rows))))
 
 -- a work with the files that are named, and workers
 abbrev pub with_files : List Row → ℕ → Result Work UsageKind → Result Command UsageKind

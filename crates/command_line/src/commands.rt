@@ -150,7 +150,14 @@ const PROOF: Argument = Argument {
     is_required: false,
 };
 
-const SUBCOMMANDS: [Subcommand; 5] = [
+// `--top NAME`
+const TOP: Argument = Argument {
+    id: "top",
+    form: Form::Named,
+    is_required: true,
+};
+
+const SUBCOMMANDS: [Subcommand; 6] = [
     Subcommand {
         name: "opt",
         arguments: &[FILE, OUTPUT, PIPELINE, PASSES, WORKERS, THREADING, SPLIT],
@@ -172,6 +179,10 @@ const SUBCOMMANDS: [Subcommand; 5] = [
     Subcommand {
         name: "check",
         arguments: &[FIRST_FILE, OTHER_FILE],
+    },
+    Subcommand {
+        name: "sim",
+        arguments: &[FIRST_FILE, OTHER_FILE, TOP],
     },
 ];
 

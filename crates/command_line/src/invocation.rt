@@ -6,7 +6,7 @@ ghost use Rattle.pass_pipeline.specs.Pipelines.{passes};
 ghost use Rattle.command_line.specs.Commands.{circt_app};
 ghost use Rattle.command_line.specs.Making.{IsMade};
 ghost use Rattle.command_line.specs.Line.{line, parse, require_subcommand, with_files, on_passes, on_lowering, inputs_in, output_in, items_text, in_items, in_pipeline, in_list};
-ghost use Rattle.command_line.specs.Line.{passes_in, mlir_work, generated_work, gen_work, second_in, lec_work, check_work, verilog_work, lowering_in, passes_work, work_in, is_flagged, command_in};
+ghost use Rattle.command_line.specs.Line.{passes_in, mlir_work, generated_work, gen_work, second_in, lec_work, check_work, sim_work, verilog_work, lowering_in, passes_work, work_in, is_flagged, command_in};
 ghost use Rattle.command_line.specs.Invocations.{work_of, Says, SaysWork, SaysPasses, IsFault};
 
 use crate::commands::circt_command;
@@ -46,6 +46,8 @@ pub enum Work {
     Verdict(Comparison),
     /// A verdict on the proof that is the second input, of the formula that is the first.
     ProofCheck,
+    /// The outputs of a run of the module of this name of the first input, by the steps of the second.
+    Simulation(String),
 }
 
 /// A command with its values.
@@ -88,7 +90,7 @@ impl From<AllocError> for LineFail {
 /// of 0 to 4294967295, or its number of modules none of 1 to 10000, or the conflict limit of `lec` none of
 /// 1 to 18446744073709551615; passes
 /// are given both by flags and by a pipeline, no translation is named, the text of a pipeline is
-/// none, no way of writing Verilog has the name that is given; `lec` or `check` names standard input twice.
+/// none, no way of writing Verilog has the name that is given; `lec`, `check` or `sim` names standard input twice.
 pub fn read_words(alloc: Global, words: &[String], offered: &[Pass]) -> Result<Invocation, LineFail>
     ensures { Says (line offered.now (map string_bytes words.now)) result }
 {
@@ -219,6 +221,8 @@ fn work_in(
         lec_work(alloc, matches)
     } else if name == "check" {
         check_work(matches)
+    } else if name == "sim" {
+        sim_work(alloc, matches)
     } else {
         passes_work(alloc, name, matches, offered)
     }
@@ -318,6 +322,19 @@ fn check_work(matches: &ArgMatches<'_>) -> Result<Work, LineFail>
         return Err(LineFail::Usage(UsageKind::StdinTwice));
     }
     Ok(Work::ProofCheck)
+}
+
+/// The work of `sim`.
+fn sim_work(alloc: Global, matches: &ArgMatches<'_>) -> Result<Work, LineFail>
+    ensures { SaysWork (sim_work (rows_of (found_of matches.now))) result }
+{
+    if is_stdin_twice(matches) {
+        return Err(LineFail::Usage(UsageKind::StdinTwice));
+    }
+    match String::from_str(alloc, name_in(matches, "top")) {
+        Ok(top) => Ok(Work::Simulation(top)),
+        Err(_) => Err(LineFail::NoMemory),
+    }
 }
 
 /// The work of a command of this name that takes passes.
@@ -445,7 +462,7 @@ fn inputs_in(
         Work::Mlir(_) | Work::MlirPieces(_) | Work::Verilog(_, _) => {
             inputs.push(String::from_str(alloc, input_in(matches))?)?;
         }
-        Work::Verdict(_) | Work::ProofCheck => {
+        Work::Verdict(_) | Work::ProofCheck | Work::Simulation(_) => {
             inputs.push(String::from_str(alloc, input_in(matches))?)?;
             push_second(alloc, matches, &mut inputs)?;
         }

@@ -1,4 +1,4 @@
-//! Commands of two files where a read or the error output fails.
+//! Commands of two files where a read, the output or the error output fails.
 use crate::equivalence::WORDS;
 use crate::runs::{Faults, NO_FAULTS, Row, is_as_said, run_row};
 use std::alloc::{AllocError, AllocGlobal};
@@ -20,13 +20,18 @@ const ERROR_OUTPUT: Faults = Faults {
     ..NO_FAULTS
 };
 
+const OUTPUT: Faults = Faults {
+    puts: &[0],
+    ..NO_FAULTS
+};
+
 /// What fails, and how the run of a row then ends.
 struct Case {
     faults: Faults,
     row: Row,
 }
 
-const CASES: [Case; 15] = [
+const CASES: [Case; 19] = [
     // all files are read before any is refused
     Case {
         faults: SECOND_READ,
@@ -98,6 +103,28 @@ const CASES: [Case; 15] = [
         faults: SECOND_READ,
         row: Row {
             line: "check f.mlir g.mlir",
+            first: "foo",
+            second: WORDS,
+            code: 5,
+            out: "",
+            err: "circt: cannot read g.mlir\n",
+        },
+    },
+    Case {
+        faults: FIRST_READ,
+        row: Row {
+            line: "sim f.mlir g.mlir --top no",
+            first: "foo",
+            second: WORDS,
+            code: 5,
+            out: "",
+            err: "circt: cannot read f.mlir\n",
+        },
+    },
+    Case {
+        faults: SECOND_READ,
+        row: Row {
+            line: "sim f.mlir g.mlir --top no",
             first: "foo",
             second: WORDS,
             code: 5,
@@ -192,6 +219,28 @@ const CASES: [Case; 15] = [
             code: 2,
             out: "",
             err: "",
+        },
+    },
+    Case {
+        faults: ERROR_OUTPUT,
+        row: Row {
+            line: "sim f.mlir g.mlir --top p",
+            first: WORDS,
+            second: WORDS,
+            code: 1,
+            out: "",
+            err: "",
+        },
+    },
+    Case {
+        faults: OUTPUT,
+        row: Row {
+            line: "sim f.mlir g.mlir --top s",
+            first: WORDS,
+            second: "state\n8'h1\n",
+            code: 6,
+            out: "",
+            err: "circt: cannot write <stdout>\n",
         },
     },
 ];

@@ -1,5 +1,5 @@
-//! Tests of commands that take two files, on files and sinks in memory: what `lec` says of two modules and `check` of a formula and a proof, what
-//! they refuse, which files are whole after a fault, and that no fault changes anything else.
+//! Tests of commands that take two files, on files and sinks in memory: what `lec` says of two modules, `check` of a formula and a proof, and `sim`
+//! of a module and steps, what they refuse, which files are whole after a fault, and that no fault changes anything else.
 #![tactic(auto)]
 
 #[cfg(test)]
@@ -20,3 +20,5 @@ mod refused;
 mod register_pairs;
 #[cfg(test)]
 mod runs;
+#[cfg(test)]
+mod simulations;

@@ -3,7 +3,7 @@ use crate::runs::{Row, first_other, run_on};
 use std::test::Fail;
 
 // Two instances of a register.
-const TWO_REGISTERS: &str =
+pub(crate) const TWO_REGISTERS: &str =
     "hw.module private @Reg(in %clk : !seq.clock, in %rst : i1, in %en : i1, in %d : i8, out q : i8) {
   %z = hw.constant 9 : i8
   %r = seq.compreg.ce %d, %clk, %en reset %rst, %z : i8

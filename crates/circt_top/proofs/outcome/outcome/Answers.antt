@@ -1,5 +1,5 @@
-use Rattle.std.proofs.Common.{sym, subst}
-use Rattle.command_line.specs.Line.Work.{mlir, mlir_pieces, verilog, generated_summary, generated_verilog, proof_check}
+use Rattle.std.proofs.Common.{sym, subst, string_bytes}
+use Rattle.command_line.specs.Line.Work.{mlir, mlir_pieces, verilog, generated_summary, generated_verilog, proof_check, simulation}
 use Rattle.command_line.specs.Invocations.{work_of}
 use Rattle.command_line.specs.declared.invocation.Work.{Work}
 use Rattle.circt_top.specs.Outcome.{Gives}
@@ -39,3 +39,8 @@ pub returns-in-ProofCheck : goal.returns-in-ProofCheck
 returns-in-ProofCheck g c =
     subst (λ (w : Work). Gives (work_of w) c.args.sources.now c.without_finding-in-ProofCheck.result) (sym c.in-ProofCheck.is)
     (c.without_finding-in-ProofCheck.ensures proof_check c.args.sources.now c.check_proof.ensures)
+
+pub returns-in-Simulation : goal.returns-in-Simulation
+returns-in-Simulation g c =
+    subst (λ (w : Work). Gives (work_of w) c.args.sources.now c.without_finding-in-Simulation.result) (sym c.in-Simulation.is)
+    (c.without_finding-in-Simulation.ensures (simulation (string_bytes c.in-Simulation.top)) c.args.sources.now (rw c.deref.ensures at c.run_module.ensures))
