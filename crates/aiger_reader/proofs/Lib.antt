@@ -1,0 +1,12 @@
+pub mod Splitting
+pub mod Saturating
+pub mod SaturatedRows
+pub mod Zeros
+pub mod Adding
+pub mod SaturatedLines
+pub mod AddedRows
+pub mod LinesRead
+pub mod LoopingGates
+pub mod LackingDrivers
+pub mod Searching
+pub mod Answering

@@ -1,0 +1,5 @@
+//! Tests of texts in the AIGER format.
+#![tactic(auto)]
+
+#[cfg(test)]
+mod texts;
