@@ -1,0 +1,9 @@
+pub mod CircuitDrivers
+pub mod CircuitSteps
+pub mod GrowingTrees
+pub mod NumberedPlaces
+pub mod ReadCircuits
+pub mod Samples
+pub mod WholeTexts
+pub mod WrittenLines
+pub mod Writing

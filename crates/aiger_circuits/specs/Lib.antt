@@ -1,0 +1,3 @@
+pub mod CircuitTrees
+pub mod CircuitTexts
+pub mod Written
