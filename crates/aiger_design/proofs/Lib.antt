@@ -1,0 +1,21 @@
+-- Lemmas.
+pub mod GroupPlaces
+pub mod NetValues
+pub mod UsedLiterals
+pub mod Operands
+pub mod UserPlaces
+pub mod HeldPlaces
+pub mod VariableBits
+pub mod TextSteps
+pub mod Heights
+pub mod Forms
+pub mod NetHeights
+pub mod Fronts
+pub mod DefinedUsers
+pub mod TextDesigns
+pub mod Samples
+pub mod AcceptedValues
+pub mod AcceptedOps
+pub mod PortNames
+pub mod AcceptedDesign
+pub mod CanonicalDesign

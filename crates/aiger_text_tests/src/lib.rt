@@ -1,0 +1,5 @@
+//! Tests of imported designs.
+#![tactic(auto)]
+
+#[cfg(test)]
+mod texts;
