@@ -4,11 +4,14 @@
     time_worst.py PROGRAM [ROUNDS [MEGABYTES..]]     by default 1 round, at 1, 4, 16 and 64 MB
 
 Each text is about so many MB long: a body in reverse (each operation uses the one after it), ports, one long name, arrays in arrays,
-modules whose outputs depend on many inputs, a chain of operations, many small modules. Where the text has no module that a command
-may take (a design whose weight is too great is refused), or a run wants more than 8 GB, its status stands behind its cost. A row for
-each text and size, with seconds of the processor and MB of peak memory for each command, of which those of this script are the least.
+modules whose outputs depend on many inputs, a chain of operations, many small modules. `sim` runs ten steps of the first module. Then
+texts of `check`: a formula of many clauses, a proof of many steps, a proof of one step with a hint for each clause of its formula.
+Where the text has no module that a command may take (a design whose weight is too great is refused), or a run wants more than 8 GB, its
+status stands behind its cost. A row for each text and size, with seconds of the processor and MB of peak memory for each command, of
+which those of this script are the least. WORST.md has the rows of a run.
 """
 import os
+import pathlib
 import resource
 import subprocess
 import sys
@@ -26,7 +29,10 @@ COMMANDS = [
     ("flatten", "opt --hw-lower-aggregates --hw-flatten-modules --symbol-dce"),
     ("translate", "translate --export-verilog"),
     ("lec", "lec - -c1 T -c2 T --conflict-limit 1000"),
+    ("sim", "sim - STEPS --top T"),
 ]
+# Each of so many steps has the same inputs.
+STEPS = 10
 
 
 def reverse(size, write):
@@ -88,7 +94,47 @@ def modules(size, write):
         write(f"hw.module @M{number}(in %a : i8, out o : i8) {{\n  hw.output %a : i8\n}}\n")
 
 
-TEXTS = [reverse, ports, name, nesting, dependence, chain, modules]
+# Each text, with how many inputs its module T has at a size, and a value of one.
+TEXTS = [
+    (reverse, lambda size: 1, "8'h1"),
+    (ports, lambda size: size // 50, "1'h1"),
+    (name, lambda size: 1, "8'h1"),
+    (nesting, lambda size: 1, "8'h1"),
+    (dependence, lambda size: min(1600, size // 60), "1'h1"),
+    (chain, lambda size: 1, "8'h1"),
+    (modules, lambda size: 1, "8'h1"),
+]
+
+
+def clauses(size, formula, proof):
+    """Many clauses, and a proof of one step."""
+    count = size // 24
+    formula(f"p cnf {count + 2} {count + 2}\n1 0\n-1 0\n")
+    for number in range(2, count + 2):
+        formula(f"{number} {-number - 1} 1 0\n")
+    proof(f"{count + 3} 0 1 2 0\n")
+
+
+def steps(size, formula, proof):
+    """A formula of two clauses, and a proof of many steps."""
+    count = size // 17
+    formula("p cnf 2 2\n1 0\n-1 0\n")
+    for number in range(3, count + 3):
+        proof(f"{number} 1 2 0 1 0\n")
+    proof(f"{count + 3} 0 1 2 0\n")
+
+
+def hints(size, formula, proof):
+    """A chain of implications, and a proof of one step that follows it."""
+    count = size // 24
+    formula(f"p cnf {count} {count + 1}\n1 0\n")
+    for number in range(1, count):
+        formula(f"{-number} {number + 1} 0\n")
+    formula(f"{-count} 0\n")
+    proof(f"{count + 2} 0 {' '.join(str(number) for number in range(1, count + 2))} 0\n")
+
+
+PROOFS = [clauses, steps, hints]
 
 
 def limit_memory():
@@ -96,11 +142,11 @@ def limit_memory():
 
 
 def cost(program, words, text, rounds):
-    """What a command costs on a text, with the status that it ends with where that is not 0."""
+    """What a command costs with a text as its input, with the status that it ends with where that is not 0."""
     best, status = None, 0
     for _ in range(rounds):
         with open(text, "rb") as source:
-            child = subprocess.Popen([program, *words.split()], stdin=source, stdout=subprocess.DEVNULL, stderr=subprocess.DEVNULL,
+            child = subprocess.Popen([program, *words], stdin=source, stdout=subprocess.DEVNULL, stderr=subprocess.DEVNULL,
                                      preexec_fn=limit_memory)
             _, ended, usage = os.wait4(child.pid, 0)
         child.returncode = status = os.waitstatus_to_exitcode(ended)
@@ -109,18 +155,39 @@ def cost(program, words, text, rounds):
     return f"{best[0]:.2f} s {best[1]:.0f} MB" + (f" ({status})" if status else "")
 
 
+def design_rows(program, rounds, sizes, folder):
+    """The rows of the designs."""
+    text, inputs = f"{folder}/text.mlir", f"{folder}/steps"
+    commands = [[inputs if word == "STEPS" else word for word in words.split()] for _, words in COMMANDS]
+    for make, count, value in TEXTS:
+        for size in sizes:
+            support.write_text(text, make, size * 1000000)
+            line = " ".join([value] * count(size * 1000000)) + "\n"
+            pathlib.Path(inputs).write_text("state\n" + line * STEPS, encoding="utf-8")
+            cells = [cost(program, words, text, rounds) for words in commands]
+            print(f"| {make.__name__} | {size} | " + " | ".join(cells) + " |", flush=True)
+
+
+def proof_rows(program, rounds, sizes, folder):
+    """The rows of the proofs."""
+    formula, proof = f"{folder}/formula", f"{folder}/proof"
+    for make in PROOFS:
+        for size in sizes:
+            with open(formula, "w", encoding="utf-8") as left, open(proof, "w", encoding="utf-8") as right:
+                make(size * 1000000, left.write, right.write)
+            print(f"| {make.__name__} | {size} | {cost(program, ['check', formula, proof], os.devnull, rounds)} |", flush=True)
+
+
 def main():
     program = support.program_word(__doc__)
     rounds = support.number_word(2, 1)
     sizes = [int(word) for word in sys.argv[3:]] or [1, 4, 16, 64]
-    print("| text | MB | " + " | ".join(title for title, _ in COMMANDS) + " |")
-    print("|---|---" * 1 + "|---" * len(COMMANDS) + "|")
-    for make in TEXTS:
-        for size in sizes:
-            with tempfile.NamedTemporaryFile(suffix=".mlir") as file:
-                support.write_text(file.name, make, size * 1000000)
-                cells = [cost(program, words, file.name, rounds) for _, words in COMMANDS]
-            print(f"| {make.__name__} | {size} | " + " | ".join(cells) + " |", flush=True)
+    with tempfile.TemporaryDirectory() as folder:
+        print("| text | MB | " + " | ".join(title for title, _ in COMMANDS) + " |")
+        print("|---|---" + "|---" * len(COMMANDS) + "|")
+        design_rows(program, rounds, sizes, folder)
+        print("\n| proof | MB | check |\n|---|---|---|")
+        proof_rows(program, rounds, sizes, folder)
 
 
 if __name__ == "__main__":
