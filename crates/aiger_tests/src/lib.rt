@@ -1,5 +1,15 @@
-//! Tests of texts in the AIGER format.
+//! Tests of texts in the AIGER format: which are read, where others are refused, and how circuits are written.
 #![tactic(auto)]
 
 #[cfg(test)]
-mod texts;
+mod cases;
+#[cfg(test)]
+mod cycles;
+#[cfg(test)]
+mod lines;
+#[cfg(test)]
+mod literals;
+#[cfg(test)]
+mod read;
+#[cfg(test)]
+mod written;
