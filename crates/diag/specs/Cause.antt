@@ -1,9 +1,9 @@
 -- The causes of refusals: their codes and their words.
 use Rattle.std.specs.Prelude.{ℕ, List, codes}
 use Rattle.diag.specs.declared.cause.Cause.{Cause}
-use Rattle.diag.specs.declared.cause.Cause.TheVariants.{BadByte, Unexpected, UnknownOperation, OutsideProfile, NumberTooLarge, TooDeep, TooLong, Redefined, Undefined, TypeMismatch, WidthLimit, ConstantRange, ExtractRange, ReplicateMultiple, ConcatWidth, Divisor, IndexWidth, Field, BitcastWidth, ClockOperand, Arity, OutputMismatch, DuplicateSymbol, UnknownModule, InstancePorts, DuplicatePort, MissingOutput, RecursiveInstance, TooLarge, CombinationalCycle, AsyncReset, NoSuchModule, PortsDiffer, RegistersDiffer, TooManyGates, BadFormula, BadProofLine, UnknownClause, StepDoesNotFollow, HintOutsideProfile, NoEmptyClause, BadStepLine, LiteralCount, LiteralWidth}
+use Rattle.diag.specs.declared.cause.Cause.TheVariants.{BadByte, Unexpected, UnknownOperation, OutsideProfile, NumberTooLarge, TooDeep, TooLong, Redefined, Undefined, TypeMismatch, WidthLimit, ConstantRange, ExtractRange, ReplicateMultiple, ConcatWidth, Divisor, IndexWidth, Field, BitcastWidth, ClockOperand, Arity, OutputMismatch, DuplicateSymbol, UnknownModule, InstancePorts, DuplicatePort, MissingOutput, RecursiveInstance, TooLarge, CombinationalCycle, AsyncReset, NoSuchModule, PortsDiffer, RegistersDiffer, TooManyGates, BadFormula, BadProofLine, UnknownClause, StepDoesNotFollow, HintOutsideProfile, NoEmptyClause, BadStepLine, LiteralCount, LiteralWidth, NotOnePublicModule, SeveralClocks, AsynchronousReset, TooManyAndGates, BadAigerLine, LiteralRange, LiteralDefinedTwice, LiteralNotDefined, GateCycle}
 
--- the code of a cause: S for texts, V for designs, L for comparisons, P for formulas and proofs, M for step files
+-- the code of a cause: S for texts, V for designs, L for comparisons, P for formulas and proofs, M for step files, A for designs that are written as AIGER, G for texts of AIGER
 unfoldable pub code_of : Cause → List ℕ
 code_of BadByte = codes "S1"
 code_of Unexpected = codes "S2"
@@ -49,6 +49,15 @@ code_of NoEmptyClause = codes "P6"
 code_of BadStepLine = codes "M1"
 code_of LiteralCount = codes "M2"
 code_of LiteralWidth = codes "M3"
+code_of NotOnePublicModule = codes "A1"
+code_of SeveralClocks = codes "A2"
+code_of AsynchronousReset = codes "A3"
+code_of TooManyAndGates = codes "A4"
+code_of BadAigerLine = codes "G1"
+code_of LiteralRange = codes "G2"
+code_of LiteralDefinedTwice = codes "G3"
+code_of LiteralNotDefined = codes "G4"
+code_of GateCycle = codes "G5"
 
 -- what a cause says
 unfoldable pub text_of : Cause → List ℕ
@@ -96,3 +105,12 @@ text_of NoEmptyClause = codes "no empty clause"
 text_of BadStepLine = codes "bad line"
 text_of LiteralCount = codes "wrong number of literals"
 text_of LiteralWidth = codes "wrong width"
+text_of NotOnePublicModule = codes "not one public module"
+text_of SeveralClocks = codes "several clocks"
+text_of AsynchronousReset = codes "asynchronous reset"
+text_of TooManyAndGates = codes "too many gates"
+text_of BadAigerLine = codes "bad line"
+text_of LiteralRange = codes "literal out of range"
+text_of LiteralDefinedTwice = codes "literal defined twice"
+text_of LiteralNotDefined = codes "literal not defined"
+text_of GateCycle = codes "cycle of gates"

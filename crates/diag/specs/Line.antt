@@ -13,6 +13,7 @@ operation_of (op.Listed listed) source = name_of_listed listed
 operation_of op.File source = codes "builtin.module"
 operation_of op.Check source = codes "check"
 operation_of op.Sim source = codes "sim"
+operation_of op.Aiger source = codes "aiger"
 operation_of (op.Other at len) source = slice_range source at (at + len)
 
 -- a name that is not listed lies within the source
@@ -21,6 +22,7 @@ IsWithin (op.Listed listed) source = ⊤
 IsWithin op.File source = ⊤
 IsWithin op.Check source = ⊤
 IsWithin op.Sim source = ⊤
+IsWithin op.Aiger source = ⊤
 IsWithin (op.Other at len) source = at + len ≤ length source
 
 -- what a file is called: standard input, which the command line calls `-`, by a name of its own

@@ -3,7 +3,7 @@ ghost use Rattle.std.specs.Prelude.{◌≡◌};
 ghost use Rattle.diag.specs.Cause.{code_of, text_of};
 
 /// The cause of a refusal. Those of text come first, then those of designs, those of
-/// comparisons, those of formulas and proofs, and those of step files.
+/// comparisons, those of formulas and proofs, those of step files, and those of AIGER.
 #[derive(Clone, Copy, Debug, PartialEq, Eq)]
 pub enum Cause {
     /// A byte that begins no token, an unclosed string, or a bad escape.
@@ -96,6 +96,24 @@ pub enum Cause {
     LiteralCount,
     /// A literal of a step file has another width than its leaf.
     LiteralWidth,
+    /// Not exactly one module of a design that is written as AIGER is public.
+    NotOnePublicModule,
+    /// The registers of a module that is written as AIGER have more than one clock.
+    SeveralClocks,
+    /// A register of a module that is written as AIGER has an asynchronous reset.
+    AsynchronousReset,
+    /// A module that is written as AIGER may take more than 2^28 gates, or has more inputs and latches than that.
+    TooManyAndGates,
+    /// A line that no text of AIGER has there, or the text ends before its time.
+    BadAigerLine,
+    /// A literal of AIGER is above those of the greatest variable, or one that is defined is odd or below 2.
+    LiteralRange,
+    /// A literal of AIGER is defined a second time.
+    LiteralDefinedTwice,
+    /// A literal of AIGER is used that is not defined.
+    LiteralNotDefined,
+    /// A gate of AIGER needs itself.
+    GateCycle,
 }
 
 impl Cause {
@@ -149,6 +167,15 @@ impl Cause {
             Cause::BadStepLine => b"M1",
             Cause::LiteralCount => b"M2",
             Cause::LiteralWidth => b"M3",
+            Cause::NotOnePublicModule => b"A1",
+            Cause::SeveralClocks => b"A2",
+            Cause::AsynchronousReset => b"A3",
+            Cause::TooManyAndGates => b"A4",
+            Cause::BadAigerLine => b"G1",
+            Cause::LiteralRange => b"G2",
+            Cause::LiteralDefinedTwice => b"G3",
+            Cause::LiteralNotDefined => b"G4",
+            Cause::GateCycle => b"G5",
         }
     }
 
@@ -202,6 +229,15 @@ impl Cause {
             Cause::BadStepLine => b"bad line",
             Cause::LiteralCount => b"wrong number of literals",
             Cause::LiteralWidth => b"wrong width",
+            Cause::NotOnePublicModule => b"not one public module",
+            Cause::SeveralClocks => b"several clocks",
+            Cause::AsynchronousReset => b"asynchronous reset",
+            Cause::TooManyAndGates => b"too many gates",
+            Cause::BadAigerLine => b"bad line",
+            Cause::LiteralRange => b"literal out of range",
+            Cause::LiteralDefinedTwice => b"literal defined twice",
+            Cause::LiteralNotDefined => b"literal not defined",
+            Cause::GateCycle => b"cycle of gates",
         }
     }
 }

@@ -66,6 +66,7 @@ fn operation(op: OpName, source: &[u8]) -> &[u8]
         OpName::File => b"builtin.module",
         OpName::Check => b"check",
         OpName::Sim => b"sim",
+        OpName::Aiger => b"aiger",
         OpName::Other { at, len } => &source[at as usize..(at + len) as usize],
     }
 }

@@ -24,6 +24,8 @@ pub enum OpName {
     Check,
     /// The run of a module, which is named `sim`.
     Sim,
+    /// A text of AIGER, which is named `aiger`.
+    Aiger,
     /// The name that stands in the source from `at` on, `len` bytes long.
     Other { at: u64, len: u64 },
 }

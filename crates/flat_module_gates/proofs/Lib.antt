@@ -8,6 +8,7 @@ pub mod SingleResults
 pub mod PlainOrders
 pub mod SameBuildings
 pub mod LinkedResets
+pub mod PortVariables
 pub mod LinkedSteps
 pub mod FittingGateLists
 pub mod StepMade

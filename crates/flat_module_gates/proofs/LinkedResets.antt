@@ -1,5 +1,5 @@
 -- The asynchronous resets of a flat module by positions: an input's signals and a constant's word.
-use Rattle.std.proofs.Common.{◌≡◌, refl, sym, ap, subst, ◌∙◌, ℕ, zero, suc, ◌+◌, Bool, true, false, cond, List, [], take, Option, Some, None, slice_get, inl, inr, arith, option_map}
+use Rattle.std.proofs.Common.{◌≡◌, refl, sym, ap, subst, ◌∙◌, ℕ, zero, suc, ◌+◌, Bool, true, false, cond, List, [], take, drop, Option, Some, None, slice_get, inl, inr, arith, option_map}
 use Rattle.gates.specs.declared.signal.Signal.{Signal}
 use Rattle.hw_model.specs.Types.{Name, HwType, width}
 use Rattle.hw_model.specs.Design.{Ref, Port, Op, OpResult, Module, Design, result_type}
@@ -7,15 +7,14 @@ use Rattle.hw_model.specs.Design.Ref.{port, result, undefined}
 use Rattle.hw_model.specs.Flat.{net, source, width_of, input_width, input_of, held_of, made_of}
 use Rattle.hw_model.specs.Flat.Source.{nowhere, input}
 use Rattle.hw_model.proofs.Paths.{result_in}
-use Rattle.net_gates.specs.NetGateLists.{variables}
 use Rattle.net_gates.specs.RegisterGateLists.{input_signals, source_constant, constant_word}
 use Rattle.net_gates.specs.RegisterMiters.{IsInput, IsConstantOf}
 use Rattle.flat_module_laws.specs.Sides.{IsFlat}
 use Rattle.flat_module_laws.proofs.FlatSources.{port_from, result_from, ResultFrom, result_is}
 use Rattle.flat_module_laws.proofs.FlatSources.ResultFrom.{from_register, from_output, from_operands}
-use Rattle.flat_module_gates.specs.FlatGateLists.{port_words, word_at}
+use Rattle.flat_module_gates.specs.FlatGateLists.{words_over, word_at}
 use Rattle.flat_module_gates.specs.FlatSteps.{constant_in, constant_at}
-use Rattle.flat_module_gates.proofs.Linking.{HasOne, AreSingle, word_of_port, port_words_at}
+use Rattle.flat_module_gates.proofs.Linking.{HasOne, AreSingle, word_of_port, words_over_at}
 
 module _ (d : Design) (top : Name) (m : Module) (order : List ℕ) (flat : IsFlat d top m order) where
   -- ---- inputs
@@ -42,24 +41,24 @@ module _ (d : Design) (top : Name) (m : Module) (order : List ℕ) (flat : IsFla
       go (Some o) at = by_op o at (result_is d top m order flat i o at k)
 
   -- an input's signals are those of its port
-  pub input_word : (inputs : ℕ) (r : Ref) → IsInput inputs (source d top (net [] r)) → (results : List (List Signal))
-      → input_signals (source d top (net [] r)) ≡ word_at (port_words 0 m.ports) results r
-  input_word inputs (port j) is results =
-      ap input_signals (port_from d top m order flat j) ∙ go (slice_get m.ports j)
-      ∙ sym (port_words_at m.ports 0 j ∙ ap (λ (n : ℕ). word_of_port n (slice_get m.ports j)) (let none : 0 + input_width (take j m.ports) ≡ input_width (take j m.ports) = omega arith in none))
+  pub input_word : (ins : List Signal) (inputs : ℕ) (r : Ref) → IsInput inputs (source d top (net [] r)) → (results : List (List Signal))
+      → input_signals ins (source d top (net [] r)) ≡ word_at (words_over ins 0 m.ports) results r
+  input_word ins inputs (port j) is results =
+      ap (input_signals ins) (port_from d top m order flat j) ∙ go (slice_get m.ports j)
+      ∙ sym (words_over_at ins m.ports 0 j ∙ ap (λ (n : ℕ). word_of_port ins n (slice_get m.ports j)) (let none : 0 + input_width (take j m.ports) ≡ input_width (take j m.ports) = omega arith in none))
     where
       start : ℕ
       start = input_width (take j m.ports)
 
-      go : (y : Option Port) → input_signals (input_of y start) ≡ word_of_port start y
+      go : (y : Option Port) → input_signals ins (input_of y start) ≡ word_of_port ins start y
       go None = refl
       go (Some p) = by p.is_output
         where
-          by : (b : Bool) → input_signals (cond b nowhere (input start (width p.type))) ≡ cond b [] (variables start (width p.type))
+          by : (b : Bool) → input_signals ins (cond b nowhere (input start (width p.type))) ≡ cond b [] (take (width p.type) (drop start ins))
           by true = refl
           by false = refl
-  input_word inputs (result i k) is results = absurd (no_input inputs i k is)
-  input_word inputs undefined is results = absurd is
+  input_word ins inputs (result i k) is results = absurd (no_input inputs i k is)
+  input_word ins inputs undefined is results = absurd is
 
   -- ---- constants
 

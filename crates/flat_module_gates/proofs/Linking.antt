@@ -20,7 +20,7 @@ use Rattle.hw_model.specs.Flat.Source.{held, op_result}
 use Rattle.hw_model.specs.Meaning.{needs, needs_of}
 use Rattle.operation_gates.specs.OperationGateLists.{gate_list_of}
 use Rattle.net_gates.specs.NetGateLists.{with_net, nets_by}
-use Rattle.net_gates.specs.RegisterGateLists.{source_over}
+use Rattle.net_gates.specs.RegisterGateLists.{source_of_signals}
 use Rattle.flat_module_laws.proofs.FlatBodies.{no_instance}
 use Rattle.flat_module_laws.proofs.FlatSources.{port_from, ResultFrom, result_is}
 use Rattle.flat_module_laws.proofs.FlatSources.ResultFrom.{from_register, from_output, from_operands}
@@ -33,9 +33,8 @@ use Rattle.flat_module_gates.specs.FlatSteps.{content_width}
 use Rattle.hw_model.specs.Design.{Port}
 use Rattle.hw_model.specs.Flat.{input_width, input_of}
 use Rattle.hw_model.specs.Flat.Source.{nowhere, input}
-use Rattle.net_gates.specs.NetGateLists.{variables}
 use Rattle.flat_module_laws.proofs.Positions.{is_among}
-use Rattle.flat_module_gates.specs.FlatGateLists.{port_word, after_port, port_words, no_words}
+use Rattle.flat_module_gates.specs.FlatGateLists.{after_port, word_over, words_over, no_words}
 use Rattle.wiring.specs.Wiring.{In}
 
 -- the signals of nets without paths are those of a table
@@ -87,11 +86,11 @@ taken_before (y ∷ os) zero i o at = cc
 taken_before (y ∷ os) (suc n) zero o at = at
 taken_before (y ∷ os) (suc n) (suc i) o at = taken_before os n i o at
 
-module _ (d : Design) (top : Name) (m : Module) (order : List ℕ) (flat : IsFlat d top m order) (inputs : ℕ) (content : List Signal) where
+module _ (d : Design) (top : Name) (m : Module) (order : List ℕ) (flat : IsFlat d top m order) (ins content : List Signal) where
   -- the gate list of an operation's first result, by where it comes from
   op_gate_list_is : (signals : Net → List Signal) (ports results : List (List Signal)) → Agree signals ports results → (i : ℕ) (o : Op) → slice_get m.body i ≡ Some o
       → (t : HwType) → result_type o 0 ≡ Some t → is_output_op o ≡ false
-      → source_over inputs content (source d top (net [] (result i 0))) (map signals (needs d top (net [] (result i 0)))) ≡ gate_list_at m.body content (word_at ports results) i
+      → source_of_signals ins content (source d top (net [] (result i 0))) (map signals (needs d top (net [] (result i 0)))) ≡ gate_list_at m.body content (word_at ports results) i
   op_gate_list_is signals ports results agree i o at t typed given = go (result_is d top m order flat i o at 0)
     where
       width_is : held_width o ≡ width t
@@ -106,15 +105,15 @@ module _ (d : Design) (top : Name) (m : Module) (order : List ℕ) (flat : IsFla
       here : gate_list_at m.body content (word_at ports results) i ≡ op_gate_list content (word_at ports results) (slice_index_or (starts_from 0 m.body) i 0) o
       here = ap (gate_list_in content (word_at ports results) (slice_index_or (starts_from 0 m.body) i 0)) at
 
-      by_source : (s : Source) → source d top (net [] (result i 0)) ≡ s → source_over inputs content s (map signals (needs_of s)) ≡ gate_list_at m.body content (word_at ports results) i
-          → source_over inputs content (source d top (net [] (result i 0))) (map signals (needs d top (net [] (result i 0)))) ≡ gate_list_at m.body content (word_at ports results) i
-      by_source s from is = ap (λ z. source_over inputs content z (map signals (needs_of z))) from ∙ is
+      by_source : (s : Source) → source d top (net [] (result i 0)) ≡ s → source_of_signals ins content s (map signals (needs_of s)) ≡ gate_list_at m.body content (word_at ports results) i
+          → source_of_signals ins content (source d top (net [] (result i 0))) (map signals (needs d top (net [] (result i 0)))) ≡ gate_list_at m.body content (word_at ports results) i
+      by_source s from is = ap (λ z. source_of_signals ins content z (map signals (needs_of z))) from ∙ is
 
       words_agree : (rs : List Ref) → map signals (map (net []) rs) ≡ map (word_at ports results) rs
       words_agree [] = refl
       words_agree (r ∷ rs) = ap₂ (λ (x : List Signal) (xs : List (List Signal)). x ∷ xs) (agree r) (words_agree rs)
 
-      go : ResultFrom d top m order flat i o at 0 → source_over inputs content (source d top (net [] (result i 0))) (map signals (needs d top (net [] (result i 0)))) ≡ gate_list_at m.body content (word_at ports results) i
+      go : ResultFrom d top m order flat i o at 0 → source_of_signals ins content (source d top (net [] (result i 0))) (map signals (needs d top (net [] (result i 0)))) ≡ gate_list_at m.body content (word_at ports results) i
       go (from_register f is from) =
           by_source (held (0 + body_state (state d) (take i m.body)) (width t)) (from ∙ ap (held_of (0 + body_state (state d) (take i m.body))) typed)
           (ap₂ (λ (w n : ℕ). done (take w (drop n content))) (sym width_is) (sym begins) ∙ sym (here ∙ simp is refl))
@@ -155,10 +154,10 @@ output_free k is = go (sort_of k)
     go (an_output r n u) = ap is_some r
     go (a_made r n u) = ap is_some r
 
-module _ (d : Design) (top : Name) (m : Module) (order : List ℕ) (flat : IsFlat d top m order) (single : AreSingle m.body) (inputs : ℕ) (content : List Signal)
+module _ (d : Design) (top : Name) (m : Module) (order : List ℕ) (flat : IsFlat d top m order) (single : AreSingle m.body) (ins content : List Signal)
     (ports : List (List Signal)) where
   abbrev by_nets : List ℕ → (Net → List Signal) → Build (Net → List Signal)
-  by_nets is signals = nets_by (source_over inputs content) d top (flat_map (result_nets m.body) is) signals
+  by_nets is signals = nets_by (source_of_signals ins content) d top (flat_map (result_nets m.body) is) signals
 
   linked_more : (is : List ℕ) (i : ℕ) (signals : Net → List Signal) (results : List (List Signal)) (n : ℕ) (gates : List Gate) → Agree signals ports results → length results ≡ length m.body
       → ((signals' : Net → List Signal) (results' : List (List Signal)) (hs : List Gate) → Agree signals' ports results' → length results' ≡ length m.body
@@ -175,7 +174,7 @@ module _ (d : Design) (top : Name) (m : Module) (order : List ℕ) (flat : IsFla
       none y at empty given stays =
           let nets : result_nets m.body i ≡ [] = ap (λ (k : ℕ). map (λ j. net [] (result i j)) (numbers_from 0 k)) (ap result_number at ∙ empty) in
           let same : with_word (slice_get m.body i) i [] results ≡ results = ap (λ (z : Option Op). with_word z i [] results) at ∙ stays [] in
-          subst (λ ns. Linked ports (nets_by (source_over inputs content) d top (ns ++ flat_map (result_nets m.body) is) signals n gates) (results_by m.body content ports (i ∷ is) results n gates)) (sym nets)
+          subst (λ ns. Linked ports (nets_by (source_of_signals ins content) d top (ns ++ flat_map (result_nets m.body) is) signals n gates) (results_by m.body content ports (i ∷ is) results n gates)) (sym nets)
           (linked_done ports _ gate_list (λ x. results_by m.body content ports is (with_word (slice_get m.body i) i x results)) n gates given
           (subst (λ rs. Linked ports (by_nets is signals n gates) (results_by m.body content ports is rs n gates)) (sym same) (rest signals results gates agree long)))
 
@@ -185,9 +184,9 @@ module _ (d : Design) (top : Name) (m : Module) (order : List ℕ) (flat : IsFla
           let nets : result_nets m.body i ≡ net [] (result i 0) ∷ [] = ap (λ (k : ℕ). map (λ j. net [] (result i j)) (numbers_from 0 k)) (ap result_number at ∙ ap length one) in
           let typed : result_type o 0 ≡ Some r.type = ap (λ (rs : List OpResult). option_map (λ (z : OpResult). z.type) (slice_get rs 0)) one in
           let below : i < length results = (let there : i < length m.body = slice_get_within m.body i o at in omega (arith, there, long)) in
-          subst (λ ns. Linked ports (nets_by (source_over inputs content) d top (ns ++ flat_map (result_nets m.body) is) signals n gates) (results_by m.body content ports (i ∷ is) results n gates)) (sym nets)
+          subst (λ ns. Linked ports (nets_by (source_of_signals ins content) d top (ns ++ flat_map (result_nets m.body) is) signals n gates) (results_by m.body content ports (i ∷ is) results n gates)) (sym nets)
           (linked_then ports _ gate_list (λ x. by_nets is (with_net (net [] (result i 0)) x signals)) (λ x. results_by m.body content ports is (with_word (slice_get m.body i) i x results)) n gates
-          (op_gate_list_is d top m order flat inputs content signals ports results agree i o at r.type typed given)
+          (op_gate_list_is d top m order flat ins content signals ports results agree i o at r.type typed given)
           (λ x hs.
           let same : with_word (slice_get m.body i) i x results ≡ set results i x = ap (λ (z : Option Op). with_word z i x results) at ∙ ap (λ (rs : List OpResult). with_first rs i x results) one in
           subst (λ rs. Linked ports (by_nets is (with_net (net [] (result i 0)) x signals) n hs) (results_by m.body content ports is rs n hs)) (sym same)
@@ -212,38 +211,39 @@ module _ (d : Design) (top : Name) (m : Module) (order : List ℕ) (flat : IsFla
 -- ---- ports
 
 -- the signals of a port that may be there
-abbrev pub word_of_port : ℕ → Option Port → List Signal
-word_of_port start None = []
-word_of_port start (Some p) = port_word start p
+abbrev pub word_of_port : List Signal → ℕ → Option Port → List Signal
+word_of_port ins start None = []
+word_of_port ins start (Some p) = word_over ins start p
 
-pub port_words_at : (ps : List Port) (start k : ℕ) → slice_index_or (port_words start ps) k [] ≡ word_of_port (start + input_width (take k ps)) (slice_get ps k)
-port_words_at [] start k = refl
-port_words_at (p ∷ ps) start zero = let same : start ≡ start + 0 = omega arith in ap (λ (n : ℕ). port_word n p) same
-port_words_at (p ∷ ps) start (suc k) = port_words_at ps (after_port start p) k ∙ ap (λ (n : ℕ). word_of_port n (slice_get ps k)) (go p.is_output)
+pub words_over_at : (ins : List Signal) (ps : List Port) (start k : ℕ)
+    → slice_index_or (words_over ins start ps) k [] ≡ word_of_port ins (start + input_width (take k ps)) (slice_get ps k)
+words_over_at ins [] start k = refl
+words_over_at ins (p ∷ ps) start zero = let same : start ≡ start + 0 = omega arith in ap (λ (n : ℕ). word_over ins n p) same
+words_over_at ins (p ∷ ps) start (suc k) = words_over_at ins ps (after_port start p) k ∙ ap (λ (n : ℕ). word_of_port ins n (slice_get ps k)) (go p.is_output)
   where
     go : (b : Bool) → cond b start (start + width p.type) + input_width (take k ps) ≡ start + cond b (input_width (take k ps)) (width p.type + input_width (take k ps))
     go true = refl
     go false = omega arith
 
-module _ (d : Design) (top : Name) (m : Module) (order : List ℕ) (flat : IsFlat d top m order) (inputs : ℕ) (content : List Signal) where
+module _ (d : Design) (top : Name) (m : Module) (order : List ℕ) (flat : IsFlat d top m order) (ins content : List Signal) where
   port_gate_list_is : (signals : Net → List Signal) (j : ℕ)
-      → source_over inputs content (source d top (net [] (port j))) (map signals (needs d top (net [] (port j)))) ≡ done (word_of_port (input_width (take j m.ports)) (slice_get m.ports j))
+      → source_of_signals ins content (source d top (net [] (port j))) (map signals (needs d top (net [] (port j)))) ≡ done (word_of_port ins (input_width (take j m.ports)) (slice_get m.ports j))
   port_gate_list_is signals j =
-      ap (λ z. source_over inputs content z (map signals (needs_of z))) (port_from d top m order flat j) ∙ go (slice_get m.ports j)
+      ap (λ z. source_of_signals ins content z (map signals (needs_of z))) (port_from d top m order flat j) ∙ go (slice_get m.ports j)
     where
       start : ℕ
       start = input_width (take j m.ports)
 
-      go : (y : Option Port) → source_over inputs content (input_of y start) (map signals (needs_of (input_of y start))) ≡ done (word_of_port start y)
+      go : (y : Option Port) → source_of_signals ins content (input_of y start) (map signals (needs_of (input_of y start))) ≡ done (word_of_port ins start y)
       go None = refl
       go (Some p) = by p.is_output
         where
-          by : (b : Bool) → source_over inputs content (cond b nowhere (input start (width p.type))) (map signals (needs_of (cond b nowhere (input start (width p.type))))) ≡ done (cond b [] (variables start (width p.type)))
+          by : (b : Bool) → source_of_signals ins content (cond b nowhere (input start (width p.type))) (map signals (needs_of (cond b nowhere (input start (width p.type))))) ≡ done (cond b [] (take (width p.type) (drop start ins)))
           by true = refl
           by false = refl
 
   abbrev pub word_of : ℕ → List Signal
-  word_of k = word_of_port (input_width (take k m.ports)) (slice_get m.ports k)
+  word_of k = word_of_port ins (input_width (take k m.ports)) (slice_get m.ports k)
 
   -- the signals of ports are known but of those left, and no others are
   pub record PortsKnown (left : List ℕ) (signals : Net → List Signal) : Type 0 where
@@ -262,13 +262,13 @@ module _ (d : Design) (top : Name) (m : Module) (order : List ℕ) (flat : IsFla
       go k false is (inr (inr there)) = inr there
 
   pub ports_linked : (js : List ℕ) (signals : Net → List Signal) (n : ℕ) (gates : List Gate) → PortsKnown js signals
-      → ((nets_by (source_over inputs content) d top (map (λ k. net [] (port k)) js) signals n gates).gates ≡ [])
-      × PortsKnown [] (nets_by (source_over inputs content) d top (map (λ k. net [] (port k)) js) signals n gates).got
+      → ((nets_by (source_of_signals ins content) d top (map (λ k. net [] (port k)) js) signals n gates).gates ≡ [])
+      × PortsKnown [] (nets_by (source_of_signals ins content) d top (map (λ k. net [] (port k)) js) signals n gates).got
   unfolding nets_by and_then done
   ports_linked [] signals n gates known = (refl, known)
   ports_linked (j ∷ js) signals n gates known =
-      subst (λ p. ((and_then p (λ x. nets_by (source_over inputs content) d top (map (λ k. net [] (port k)) js) (with_net (net [] (port j)) x signals)) n gates).gates ≡ [])
-      × PortsKnown [] (and_then p (λ x. nets_by (source_over inputs content) d top (map (λ k. net [] (port k)) js) (with_net (net [] (port j)) x signals)) n gates).got)
+      subst (λ p. ((and_then p (λ x. nets_by (source_of_signals ins content) d top (map (λ k. net [] (port k)) js) (with_net (net [] (port j)) x signals)) n gates).gates ≡ [])
+      × PortsKnown [] (and_then p (λ x. nets_by (source_of_signals ins content) d top (map (λ k. net [] (port k)) js) (with_net (net [] (port j)) x signals)) n gates).got)
       (sym (port_gate_list_is signals j))
       (ports_linked js (with_net (net [] (port j)) (word_of j) signals) n (gates ++ []) (known_more j js signals known))
 
@@ -277,12 +277,12 @@ module _ (d : Design) (top : Name) (m : Module) (order : List ℕ) (flat : IsFla
   known_first = record { ports = λ k. go k (slice_get m.ports k) refl; results = λ i k. refl; nothing = refl }
     where
       go : (k : ℕ) (y : Option Port) → slice_get m.ports k ≡ y → ([] ≡ word_of k) ⊎ In k (numbers_from 0 (length m.ports))
-      go k None at = inl (sym (ap (word_of_port (input_width (take k m.ports))) at))
+      go k None at = inl (sym (ap (word_of_port ins (input_width (take k m.ports))) at))
       go k (Some p) at = inr (is_among (length m.ports) k (slice_get_within m.ports k p at))
 
-  pub known_last : (signals : Net → List Signal) (count : ℕ) → PortsKnown [] signals → Agree signals (port_words 0 m.ports) (no_words count)
+  pub known_last : (signals : Net → List Signal) (count : ℕ) → PortsKnown [] signals → Agree signals (words_over ins 0 m.ports) (no_words count)
   known_last signals count known (port k) =
-      by (known.ports k) ∙ sym (port_words_at m.ports 0 k ∙ ap (λ (n : ℕ). word_of_port n (slice_get m.ports k)) (let none : 0 + input_width (take k m.ports) ≡ input_width (take k m.ports) = omega arith in none))
+      by (known.ports k) ∙ sym (words_over_at ins m.ports 0 k ∙ ap (λ (n : ℕ). word_of_port ins n (slice_get m.ports k)) (let none : 0 + input_width (take k m.ports) ≡ input_width (take k m.ports) = omega arith in none))
     where
       by : (signals (net [] (port k)) ≡ word_of k) ⊎ In k [] → signals (net [] (port k)) ≡ word_of k
       by (inl is) = is
@@ -321,23 +321,23 @@ module _ (d : Design) (top : Name) (gate_list : Source → List (List Signal) �
         got = rest.got ∙ ap (λ (b : Built (Net → List Signal)). b.got) same;
       }
 
-module _ (d : Design) (top : Name) (m : Module) (order : List ℕ) (flat : IsFlat d top m order) (single : AreSingle m.body) (inputs : ℕ) (content : List Signal) where
+module _ (d : Design) (top : Name) (m : Module) (order : List ℕ) (flat : IsFlat d top m order) (single : AreSingle m.body) (ins content : List Signal) where
   -- the nets of a flat module, by any list of positions, are built as its operations are
   pub nets_linked : (is : List ℕ) (n : ℕ) (gates : List Gate)
-      → Linked (port_words 0 m.ports) (nets_by (source_over inputs content) d top (flat_nets m.ports m.body is) (λ a. []) n gates)
-      (results_by m.body content (port_words 0 m.ports) is (no_words (length m.body)) n gates)
+      → Linked (words_over ins 0 m.ports) (nets_by (source_of_signals ins content) d top (flat_nets m.ports m.body is) (λ a. []) n gates)
+      (results_by m.body content (words_over ins 0 m.ports) is (no_words (length m.body)) n gates)
   nets_linked is n gates =
       let ms = flat_map (result_nets m.body) is in
-      let joined = nets_joined d top (source_over inputs content) (port_nets m.ports) ms (λ a. []) n gates in
-      let ports = ports_linked d top m order flat inputs content (numbers_from 0 (length m.ports)) (λ a. []) n gates (known_first d top m order flat inputs content) in
-      let first = nets_by (source_over inputs content) d top (port_nets m.ports) (λ a. []) n gates in
+      let joined = nets_joined d top (source_of_signals ins content) (port_nets m.ports) ms (λ a. []) n gates in
+      let ports = ports_linked d top m order flat ins content (numbers_from 0 (length m.ports)) (λ a. []) n gates (known_first d top m order flat ins content) in
+      let first = nets_by (source_of_signals ins content) d top (port_nets m.ports) (λ a. []) n gates in
       let none : gates ++ first.gates ≡ gates = ap (λ (hs : List Gate). gates ++ hs) ports.0 ∙ append-nil gates in
-      let second = linked d top m order flat single inputs content (port_words 0 m.ports) is first.got (no_words (length m.body)) n gates
-      (known_last d top m order flat inputs content first.got (length m.body) ports.1) (length-none (length m.body)) in
-      let same : nets_by (source_over inputs content) d top ms first.got n (gates ++ first.gates) ≡ nets_by (source_over inputs content) d top ms first.got n gates =
-      ap (λ (hs : List Gate). nets_by (source_over inputs content) d top ms first.got n hs) none in
+      let second = linked d top m order flat single ins content (words_over ins 0 m.ports) is first.got (no_words (length m.body)) n gates
+      (known_last d top m order flat ins content first.got (length m.body) ports.1) (length-none (length m.body)) in
+      let same : nets_by (source_of_signals ins content) d top ms first.got n (gates ++ first.gates) ≡ nets_by (source_of_signals ins content) d top ms first.got n gates =
+      ap (λ (hs : List Gate). nets_by (source_of_signals ins content) d top ms first.got n hs) none in
       record {
-        gates = joined.gates ∙ ap (λ (hs : List Gate). hs ++ (nets_by (source_over inputs content) d top ms first.got n (gates ++ first.gates)).gates) ports.0
+        gates = joined.gates ∙ ap (λ (hs : List Gate). hs ++ (nets_by (source_of_signals ins content) d top ms first.got n (gates ++ first.gates)).gates) ports.0
             ∙ ap (λ (b : Built (Net → List Signal)). b.gates) same ∙ second.gates;
         words = λ r. ap (λ (f : Net → List Signal). f (net [] r)) (joined.got ∙ ap (λ (b : Built (Net → List Signal)). b.got) same) ∙ second.words r;
       }

@@ -1,5 +1,5 @@
 -- What registers hold, bit by bit and one after another, in runs.
-use Rattle.std.proofs.Common.{◌≡◌, refl, sym, ap, subst, ◌∙◌, ℕ, zero, suc, ◌+◌, ◌<◌, ◌≤◌, Bool, true, false, cond, List, [], ◌∷◌, ◌++◌, map, length, take, drop, min, Option, Some, None, slice_get}
+use Rattle.std.proofs.Common.{◌≡◌, refl, sym, ap, subst, ◌∙◌, ℕ, zero, suc, ◌+◌, ◌<◌, ◌≤◌, Bool, true, false, cond, List, [], ◌∷◌, ◌++◌, map, length, take, drop, min, Option, Some, None, slice_get, Result, Ok, Err, IfOk}
 use Rattle.std.proofs.Common.{slice_index_or, arith, append_assoc, append-nil, length-drop, length-take}
 use Rattle.std.proofs.lemmas.Option.{slice_get_within}
 use Rattle.wiring.proofs.Lists.{take-suc_some, drop_some}
@@ -14,9 +14,8 @@ use Rattle.hw_model.specs.Design.{Ref, Port, Op, is_register, is_output_op, outp
 use Rattle.hw_model.specs.Flat.{Slot, ResetBy, held_width}
 use Rattle.operation_gates.specs.OperationGateLists.{known_word, concatenation}
 use Rattle.net_gates.specs.RegisterGateLists.{load, load_bit, enable_gate_list, reset_gate_list, slots_gate_list}
-use Rattle.net_gates.specs.NetGateLists.{variables}
 use Rattle.flat_module_gates.specs.FlatGateLists.{own_bits, bits_in, starts_from, port_words, word_at, results_by, no_words}
-use Rattle.flat_module_gates.specs.FlatSteps.{known_bit, known_bits, constant_at, load_in, any_reset_in, loaded_of, next_of, flat_gate_list, slot, slots_of, content_gate_list, content_width}
+use Rattle.flat_module_gates.specs.FlatSteps.{known_bit, known_bits, constant_at, load_in, any_reset_in, next_of, flat_gate_list_over, first_content, flat_gate_list, slot, slots_of, content_gate_list, content_width}
 use Rattle.flat_module_gates.proofs.Building.{after, runs_after, runs_rest, runs_none}
 
 pub known_is : (w : Word) → known_bits (known_word w) ≡ w
@@ -279,17 +278,20 @@ outputs_none os i past have = have ∙ ap output_refs (dropped os i past)
 
 -- ---- the module
 
-pub side_runs : (inputs : ℕ) (ps : List Port) (os : List Op) (order : List ℕ) (s t u v : Circuit) (content : List Signal) (results : List (List Signal)) (next made : List Signal)
-    → Runs (content_gate_list (loaded_of os (word_at (port_words 0 ps) [])) os (variables inputs (content_width os))) s t content
-    → Runs (results_by os content (port_words 0 ps) order (no_words (length os))) t u results
-    → Runs (content_gate_list (next_of os (word_at (port_words 0 ps) results)) os content) u v next
-    → made ≡ concatenation (map (word_at (port_words 0 ps) results) (output_refs os)) ++ next → Runs (flat_gate_list inputs ps os order) s v made
+pub over_runs : (ports : List (List Signal)) (os : List Op) (order : List ℕ) (s t u : Circuit) (content : List Signal) (results : List (List Signal)) (next made : List Signal)
+    → Runs (results_by os content ports order (no_words (length os))) s t results
+    → Runs (content_gate_list (next_of os (word_at ports results)) os content) t u next
+    → made ≡ concatenation (map (word_at ports results) (output_refs os)) ++ next → Runs (flat_gate_list_over ports content os order) s u made
+unfolding flat_gate_list_over
+over_runs ports os order s t u content results next made first second is =
+    subst (Runs (flat_gate_list_over ports content os order) s u) (sym is)
+    (runs_then (λ r. and_then (content_gate_list (next_of os (word_at ports r)) os content) (λ n.
+    done (concatenation (map (word_at ports r) (output_refs os)) ++ n))) first
+    (runs_then (λ n. done (concatenation (map (word_at ports results) (output_refs os)) ++ n)) second runs-done))
+
+pub side_runs_then : {V E : Type 0} (items : V → List Signal) (inputs : ℕ) (ps : List Port) (os : List Op) (order : List ℕ) (s t u : Circuit) (content : List Signal) (r : Result V E)
+    → Runs (first_content inputs ps os) s t content → IfOk r (λ v. Runs (flat_gate_list_over (port_words 0 ps) content os order) t u (items v))
+    → IfOk r (λ v. Runs (flat_gate_list inputs ps os order) s u (items v))
 unfolding flat_gate_list
-side_runs inputs ps os order s t u v content results next made first second third is =
-    subst (Runs (flat_gate_list inputs ps os order) s v) (sym is)
-    (runs_then (λ c. and_then (results_by os c (port_words 0 ps) order (no_words (length os))) (λ r.
-    and_then (content_gate_list (next_of os (word_at (port_words 0 ps) r)) os c) (λ n.
-    done (concatenation (map (word_at (port_words 0 ps) r) (output_refs os)) ++ n)))) first
-    (runs_then (λ r. and_then (content_gate_list (next_of os (word_at (port_words 0 ps) r)) os content) (λ n.
-    done (concatenation (map (word_at (port_words 0 ps) r) (output_refs os)) ++ n))) second
-    (runs_then (λ n. done (concatenation (map (word_at (port_words 0 ps) results) (output_refs os)) ++ n)) third runs-done)))
+side_runs_then items inputs ps os order s t u content (Ok v) first second = runs_then (λ c. flat_gate_list_over (port_words 0 ps) c os order) first second
+side_runs_then items inputs ps os order s t u content (Err e) first second = tt

@@ -13,20 +13,32 @@ use Rattle.hw_model.specs.Types.{Name}
 use Rattle.hw_model.specs.Design.{Module, Design}
 use Rattle.hw_model.specs.Flat.{input_width, state}
 use Rattle.ir_store.specs.Designs.{StoredModule, numbered_module}
-use Rattle.net_gates.specs.RegisterGateLists.{stepped_gate_list}
+use Rattle.net_gates.specs.RegisterGateLists.{stepped_over, stepped_gate_list}
 use Rattle.net_gates.specs.RegisterMiters.{Step, HasStepGateLists}
 use Rattle.net_gates.proofs.InputWords.{CarriesInputs, inputs_within}
 use Rattle.net_gates.proofs.StepGateLists.{makes-stepped}
 use Rattle.net_gates.proofs.StepLaw.{step_of}
 use Rattle.flat_module_laws.specs.Sides.{side_of, IsPlain, IsFlat}
 use Rattle.flat_module_laws.proofs.FlatMiters.{has_step_gate_lists}
-use Rattle.flat_module_gates.specs.FlatSteps.{flat_gate_list}
-use Rattle.flat_module_gates.specs.Stepped.{IsAlone, IsStepped}
+use Rattle.flat_module_gates.specs.FlatGateLists.{words_over}
+use Rattle.flat_module_gates.specs.FlatSteps.{flat_gate_list_over, flat_gate_list}
+use Rattle.flat_module_gates.specs.Stepped.{IsAlone, IsStepped, IsSteppedOver}
 use Rattle.flat_module_gates.proofs.Linking.{AreSingle}
-use Rattle.flat_module_gates.proofs.LinkedSteps.{gate_lists_are}
+use Rattle.flat_module_gates.proofs.LinkedSteps.{gate_lists_over_are, gate_lists_are}
 
 module _ (d : Design) (top : Name) (m : Module) (order : List ℕ) (flat : IsFlat d top m order) where
-  -- in a run
+  -- in a run, over given signals
+  pub over_by_nets : AreSingle m.body → (ins content : List Signal) (s t : Circuit) (signals : List Signal) → Runs (flat_gate_list_over (words_over ins 0 m.ports) content m.body order) s t signals
+      → Runs (stepped_over ins content d top (side_of d top order).nets) s t signals
+  over_by_nets single ins content s t signals runs =
+      let same = gate_lists_over_are d top m order flat single ins content s.inputs s.gates in
+      record {
+        inputs = runs.inputs;
+        gates = runs.gates ∙ ap (λ (z : Built (List Signal)). s.gates ++ z.gates) same;
+        is = runs.is ∙ ap (λ (z : Built (List Signal)). z.got) same;
+      }
+
+  -- and over the first variables
   pub runs_by_nets : AreSingle m.body → (s t : Circuit) (signals : List Signal) → Runs (flat_gate_list (input_width m.ports) m.ports m.body order) s t signals
       → Runs (stepped_gate_list (input_width m.ports) d top (side_of d top order).nets) s t signals
   runs_by_nets single s t signals runs =
@@ -83,6 +95,17 @@ module _ (e : Design) (one : Module) (is_one : e ≡ one ∷ []) (order : List �
   order_from items (Ok v) size first runs =
       step_in_order e one.symbol one order flat s t (items v) size first (runs_by_nets e one.symbol one order flat single s t (items v) runs)
   order_from items (Err x) size first runs = tt
+
+  pub stepped_over_from : {E : Type 0} {V : Type 0} (ins content : List Signal) (items : V → List Signal) (r : Result V E)
+      → IfOk r (λ v. Runs (flat_gate_list_over (words_over ins 0 one.ports) content one.body order) s t (items v)) → IfOk r (λ v. IsSteppedOver e ins content s t (items v))
+  stepped_over_from ins content items (Ok v) runs = record {
+    one = one;
+    is_one = is_one;
+    order = order;
+    flat = flat;
+    runs = over_by_nets e one.symbol one order flat single ins content s t (items v) runs;
+  }
+  stepped_over_from ins content items (Err x) runs = tt
 
 -- ---- as the design stands in code
 

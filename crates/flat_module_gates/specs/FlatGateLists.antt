@@ -25,6 +25,15 @@ abbrev pub port_words : ℕ → List Port → List (List Signal)
 port_words start [] = []
 port_words start (p ∷ ps) = port_word start p ∷ port_words (after_port start p) ps
 
+-- the signals of a port, where the inputs have these and so many of them are before it; an output has none
+abbrev pub word_over : List Signal → ℕ → Port → List Signal
+word_over ins start p = cond p.is_output [] (take (width p.type) (drop start ins))
+
+-- those of ports, one after another
+abbrev pub words_over : List Signal → ℕ → List Port → List (List Signal)
+words_over ins start [] = []
+words_over ins start (p ∷ ps) = word_over ins start p ∷ words_over ins (after_port start p) ps
+
 -- ---- registers
 
 -- how many bits of content an operation has

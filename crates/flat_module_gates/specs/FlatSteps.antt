@@ -83,13 +83,21 @@ content_width os = total (map own_bits os)
 
 -- ---- the module
 
--- the signals of the outputs, and of what the registers hold after a step
+-- the signals of the outputs, and of what the registers hold after a step, where ports have these words and the registers
+-- this content
+unfoldable pub flat_gate_list_over : List (List Signal) → List Signal → List Op → List ℕ → Build (List Signal)
+flat_gate_list_over ports content os order =
+    and_then (results_by os content ports order (no_words (length os))) (λ results.
+    and_then (content_gate_list (next_of os (word_at ports results)) os content) (λ next.
+    done (concatenation (map (word_at ports results) (output_refs os)) ++ next)))
+
+-- the content, whose variables follow those of the inputs, after asynchronous resets that are 1
+abbrev pub first_content : ℕ → List Port → List Op → Build (List Signal)
+first_content inputs ps os = content_gate_list (loaded_of os (word_at (port_words 0 ps) [])) os (variables inputs (content_width os))
+
+-- the signals of the outputs, and of what the registers hold after a step, over the first variables
 unfoldable pub flat_gate_list : ℕ → List Port → List Op → List ℕ → Build (List Signal)
-flat_gate_list inputs ps os order =
-    and_then (content_gate_list (loaded_of os (word_at (port_words 0 ps) [])) os (variables inputs (content_width os))) (λ content.
-    and_then (results_by os content (port_words 0 ps) order (no_words (length os))) (λ results.
-    and_then (content_gate_list (next_of os (word_at (port_words 0 ps) results)) os content) (λ next.
-    done (concatenation (map (word_at (port_words 0 ps) results) (output_refs os)) ++ next))))
+flat_gate_list inputs ps os order = and_then (first_content inputs ps os) (λ content. flat_gate_list_over (port_words 0 ps) content os order)
 
 -- ---- what it asks
 
@@ -103,12 +111,14 @@ pub record RegisterTakes (os : List Op) (words : Ref → List Signal) (o : Op) :
 abbrev pub RegistersTake : List Op → (Ref → List Signal) → Type 0
 RegistersTake os words = (i : ℕ) (o : Op) → slice_get os i ≡ Some o → is_register o ≡ true → RegisterTakes os words o
 
--- what the building of a module asks, from a circuit on: operations and registers fit, once what is before them is built
+-- what the building of a module asks, where ports have these words and the registers this content, from a circuit on:
+-- operations and registers fit, once what is before them is built
+pub record FlatFitsOver (ports : List (List Signal)) (content : List Signal) (os : List Op) (order : List ℕ) (s : Circuit) : Type 0 where
+  pub gate_lists : GateListsFit os content ports order s
+  pub registers : (t : Circuit) (results : List (List Signal)) → Runs (results_by os content ports order (no_words (length os))) s t results
+      → RegistersTake os (word_at ports results)
+  pub room : content_width os ≤ length content
+
+-- over the first variables, once asynchronous resets have loaded the registers
 pub record FlatFits (inputs : ℕ) (ps : List Port) (os : List Op) (order : List ℕ) (s : Circuit) : Type 0 where
-  pub gate_lists : (t : Circuit) (content : List Signal) → Runs (content_gate_list (loaded_of os (word_at (port_words 0 ps) [])) os (variables inputs (content_width os))) s t content
-      → GateListsFit os content (port_words 0 ps) order t
-  pub registers : (t u : Circuit) (content : List Signal) (results : List (List Signal))
-      → Runs (content_gate_list (loaded_of os (word_at (port_words 0 ps) [])) os (variables inputs (content_width os))) s t content
-      → Runs (results_by os content (port_words 0 ps) order (no_words (length os))) t u results → RegistersTake os (word_at (port_words 0 ps) results)
-  pub room : (t : Circuit) (content : List Signal) → Runs (content_gate_list (loaded_of os (word_at (port_words 0 ps) [])) os (variables inputs (content_width os))) s t content
-      → content_width os ≤ length content
+  pub over : (t : Circuit) (content : List Signal) → Runs (first_content inputs ps os) s t content → FlatFitsOver (port_words 0 ps) content os order t

@@ -3,6 +3,7 @@
 
 pub mod kinds;
 pub mod order;
+pub mod ports;
 pub mod registers;
 pub mod sides;
 pub mod stepped;

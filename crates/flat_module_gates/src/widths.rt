@@ -108,8 +108,8 @@ fn port_word(alloc: Global, port: &Port, start: u32) -> Result<SignalWord, Alloc
     Ok(SignalWord::from_vec(word))
 }
 
-// How many bits of inputs are before the port after it.
-fn after_port(port: &Port, start: u32) -> Result<u32, AllocError>
+/// How many bits of inputs are before the port after it.
+pub(crate) fn after_port(port: &Port, start: u32) -> Result<u32, AllocError>
     ensures { IfOk result (λ n. n ≡ after_port start (port_of port.now)) }
 {
     if port.out {

@@ -1,3 +1,4 @@
+pub mod CellWords
 pub mod FittingTables
 pub mod Gathering
 pub mod Makes
@@ -10,4 +11,5 @@ pub mod RunSettled
 pub mod RunSteps
 pub mod RunTables
 pub mod SettledTables
+pub mod SingleValues
 pub mod WordWidths

@@ -1,5 +1,5 @@
 -- The nets of a flat module under a settled map: of ports, of registers, of constants, and any that tables hold.
-use Rattle.std.proofs.Common.{◌≡◌, refl, sym, ap, ap₂, ◌∙◌, ℕ, zero, suc, ◌+◌, Bool, true, false, cond, List, [], map, take, drop, slice_get, Option, Some, None, inl, inr, arith}
+use Rattle.std.proofs.Common.{◌≡◌, refl, sym, ap, ap₂, ◌∙◌, ℕ, ◌+◌, Bool, true, false, cond, List, [], map, take, drop, slice_get, Option, Some, None, inl, inr, arith}
 use Rattle.std.specs.Prelude.{option_map, option_and_then}
 use Rattle.bits_core.specs.Word.{Word, first}
 use Rattle.hw_model.specs.Types.{Name, HwType, width}
@@ -21,6 +21,7 @@ use Rattle.flat_module_laws.proofs.FlatSources.ResultFrom.{from_register, from_o
 use Rattle.flat_module_gates.proofs.Linking.{HasOne}
 use Rattle.flat_module_gates.proofs.SingleResults.{plain_is_single}
 use Rattle.flat_steps.specs.Tables.{cell, word_in, made}
+use Rattle.flat_steps.proofs.SingleValues.{value_first}
 use Rattle.flat_steps.specs.Holds.{PortsHold}
 
 -- ---- constants
@@ -44,16 +45,6 @@ register_varies kind f is = refl
 
 -- ---- operations with one result
 
--- an operation that has a value has it first, and is no output
-value_first : (o : Op) (k : ℕ) (t : HwType) → HasOne o → result_type o k ≡ Some t → (k ≡ 0) × (is_output_op o ≡ false)
-value_first o k t (inl (given, empty)) typed =
-    let none : option_map (λ (r : OpResult). r.type) (slice_get [] k) ≡ Some t = sym (ap (λ (rs : List OpResult). option_map (λ (r : OpResult). r.type) (slice_get rs k)) empty) ∙ typed in
-    absurd (let no : ⊥ = cc in no)
-value_first o zero t (inr (r, one, given)) typed = (refl, given)
-value_first o (suc k) t (inr (r, one, given)) typed =
-    let none : option_map (λ (s : OpResult). s.type) (slice_get [] k) ≡ Some t = sym (ap (λ (rs : List OpResult). option_map (λ (s : OpResult). s.type) (slice_get rs (suc k))) one) ∙ typed in
-    absurd (let no : ⊥ = cc in no)
-
 -- one that is no output has one
 first_typed : (o : Op) → HasOne o → is_output_op o ≡ false → (t : HwType) × (result_type o 0 ≡ Some t)
 first_typed o (inl (given, empty)) none = absurd (let no : ⊥ = cc in no)
@@ -67,7 +58,7 @@ module _ (d : Design) (top : Name) (m : Module) (order : List ℕ) (flat : IsFla
   constant_typed j o at one = first_typed o (has_one j o at) (constant_made o.kind one).2
 
   module _ (x q : Word) (ρ : Net → Word) (settled : Settled d top x q ρ) where
-    from_source : (n : Net) (s : Source) → source d top n ≡ s → ρ n ≡ value_of x q s (map ρ (needs_of s))
+    pub from_source : (n : Net) (s : Source) → source d top n ≡ s → ρ n ≡ value_of x q s (map ρ (needs_of s))
     from_source n s is = settled n ∙ ap (λ (z : Source). value_of x q z (map ρ (needs_of z))) is
 
     -- a register's net has its bits of the content

@@ -21,7 +21,8 @@ use Rattle.flat_steps.specs.Holds.{PortsHold, ResultsHold}
 use Rattle.flat_steps.specs.Steps.{output_words}
 use Rattle.flat_steps.specs.Runs.{ConstantsHold}
 use Rattle.flat_steps.proofs.SettledTables.{operations_settle}
-use Rattle.flat_steps.proofs.RunTables.{put_long, kept_places, kept_width, kept_widths, stays, placed}
+use Rattle.flat_steps.proofs.CellWords.{put_length}
+use Rattle.flat_steps.proofs.RunTables.{kept_places, kept_width, kept_widths, stays, placed}
 use Rattle.flat_steps.proofs.RunPlaces.{positions_are, state_is, Gives, joined_slots, gives_widths}
 use Rattle.flat_steps.proofs.RunNets.{register_varies, constant_typed, register_net, constant_net, value_net}
 
@@ -39,7 +40,7 @@ op_long ports results i (Some o) = by_test (is_register o || is_output_op o)
   where
     by_test : (t : Bool) → length (cond t results (put results i (made o (map (word_in ports results) o.operands)))) ≡ length results
     by_test true = refl
-    by_test false = put_long results i (made o (map (word_in ports results) o.operands))
+    by_test false = put_length results i (made o (map (word_in ports results) o.operands))
 
 pub settled_long : (ports : List Word) (os : List Op) (is : List ℕ) (results : List Word) → length (settled_results ports os is results) ≡ length results
 settled_long ports os [] results = refl

@@ -1,40 +1,18 @@
 -- Words written into a table at the places of what is kept of a list.
 use Rattle.std.proofs.Common.{◌≡◌, refl, sym, ap, ◌∙◌, ℕ, zero, suc, ◌+◌, ◌<◌, ◌≤◌, Bool, true, false, cond, List, [], ◌∷◌, ◌++◌, map, length, take, drop, slice_get, Some, arith}
-use Rattle.std.proofs.Common.{length-set, get_or-set_same, get_or-set_other}
-use Rattle.std.specs.Prelude.{slice_set, nat_lt}
-use Rattle.std.proofs.lemmas.Bool.{lt-ltb}
 use Rattle.wiring.proofs.Lists.{drop-append_right}
-use Rattle.bits_core.specs.Word.{Word, first, flag}
+use Rattle.bits_core.specs.Word.{Word, first}
 use Rattle.bits_core.proofs.First.{first-append_seam}
 use Rattle.hw_model.specs.Value.{concat_words}
+use Rattle.flat_steps.proofs.CellWords.{put_length, cell_same, cell_other}
 use Rattle.flat_steps.specs.Tables.{cell, put, with_words}
-
--- ---- one word
-
-pub put_long : (t : List Word) (i : ℕ) (x : Word) → length (put t i x) ≡ length t
-put_long t i x = by_test (nat_lt i (length t))
-  where
-    by_test : (b : Bool) → length (cond b (slice_set t i x) t) ≡ length t
-    by_test true = length-set t i x
-    by_test false = refl
-
-put_there : (t : List Word) (i : ℕ) (x : Word) → i < length t → cell (put t i x) i ≡ x
-put_there t i x within =
-    ap (λ (b : Bool). cell (cond b (slice_set t i x) t) i) (lt-ltb i (length t) within) ∙ get_or-set_same t i x (flag false) within
-
-put_apart : (t : List Word) (i j : ℕ) (x : Word) → (j ≡ i → ⊥) → cell (put t i x) j ≡ cell t j
-put_apart t i j x other = by_test (nat_lt i (length t))
-  where
-    by_test : (b : Bool) → cell (cond b (slice_set t i x) t) j ≡ cell t j
-    by_test true = get_or-set_other t i j x (flag false) other
-    by_test false = refl
 
 -- ---- words one after another
 
 pub words_long : (ps : List ℕ) (ws t : List Word) → length (with_words ps ws t) ≡ length t
 words_long [] ws t = refl
 words_long (p ∷ ps) [] t = refl
-words_long (p ∷ ps) (w ∷ ws) t = words_long ps ws (put t p w) ∙ put_long t p w
+words_long (p ∷ ps) (w ∷ ws) t = words_long ps ws (put t p w) ∙ put_length t p w
 
 module _ {A : Type 0} (keep : A → Bool) where
   -- the places of what is kept, of which the first element has the number
@@ -50,7 +28,7 @@ module _ {A : Type 0} (keep : A → Bool) where
       go : (b : Bool) (us : List Word) → ((us v : List Word) → cell (with_words (kept_places (n + 1) xs) us v) j ≡ cell v j)
           → cell (with_words (cond b (n ∷ kept_places (n + 1) xs) (kept_places (n + 1) xs)) us t) j ≡ cell t j
       go true [] rest = refl
-      go true (w ∷ us) rest = rest us (put t n w) ∙ put_apart t n j w (λ e. omega (arith, e, low))
+      go true (w ∷ us) rest = rest us (put t n w) ∙ cell_other t n j w (λ e. omega (arith, e, low))
       go false us rest = rest us t
 
   -- what is not kept stays
@@ -68,7 +46,7 @@ module _ {A : Type 0} (keep : A → Bool) where
           let next : n + 1 + k ≡ n + suc k = omega arith in
           ap (cell (with_words (kept_places (n + 1) ys) us (put t n w))) (sym next)
           ∙ rest us (put t n w) k there
-          ∙ put_apart t n (n + 1 + k) w (λ e. omega (arith, e))
+          ∙ cell_other t n (n + 1 + k) w (λ e. omega (arith, e))
           ∙ ap (cell t) next
       go false told us zero there rest = before_places ys (n + 1) (n + 0) us t (omega arith)
       go false told us (suc k) there rest =
@@ -105,14 +83,14 @@ module _ {A : Type 0} (keep : A → Bool) where
             let here : n + 0 ≡ n = omega arith in
             ap (cell (with_words (kept_places (n + 1) ys) us (put t n w))) here
             ∙ before_places ys (n + 1) n us (put t n w) (omega arith)
-            ∙ put_there t n w (omega (arith, room))
+            ∙ cell_same t n w (omega (arith, room))
             ∙ sym (first-append_seam (wide x) w (concat_words us) (long ∙ ap wide same))
         go true told (w ∷ us) sizes (suc k) there rest =
             let long : length w ≡ wide y = cc in
             let others : map length us ≡ kept_widths ys = cc in
             let next : n + suc k ≡ n + 1 + k = omega arith in
             ap (cell (with_words (kept_places (n + 1) ys) us (put t n w))) next
-            ∙ rest us (put t n w) others (omega (arith, room, put_long t n w)) k there
+            ∙ rest us (put t n w) others (omega (arith, room, put_length t n w)) k there
             ∙ ap (first (wide x))
             (sym (drop-append_right w (concat_words us) (kept_width (take k ys)))
             ∙ ap (λ (l : ℕ). drop (l + kept_width (take k ys)) (w ++ concat_words us)) long

@@ -1,32 +1,34 @@
 -- Operation by operation, the tables of a flat module get the words of its nets.
-use Rattle.std.proofs.Common.{◌≡◌, refl, sym, ap, ap₂, ◌∙◌, ℕ, zero, suc, ◌+◌, ◌<◌, Bool, true, false, cond, List, [], ◌∷◌, length, map, take, drop, slice_get, Option, Some, None, ◌⊎◌, inl, inr, arith, length-set, get_or-set_same, get_or-set_other}
-use Rattle.std.specs.Prelude.{is_some, slice_set, nat_lt, ◌==◌, ◌||◌, option_map, option_and_then}
-use Rattle.std.proofs.lemmas.Bool.{lt-ltb, eqb-true, eqb-false}
+use Rattle.std.proofs.Common.{◌≡◌, refl, sym, ap, ap₂, ◌∙◌, ℕ, ◌+◌, ◌<◌, Bool, true, false, cond, List, [], ◌∷◌, length, map, take, drop, slice_get, Option, Some, None, ◌⊎◌, inl, inr, arith}
+use Rattle.std.specs.Prelude.{is_some, ◌==◌, ◌||◌, option_and_then}
+use Rattle.std.proofs.lemmas.Bool.{eqb-true, eqb-false}
 use Rattle.std.proofs.lemmas.Option.{slice_get_within}
 use Rattle.wiring.specs.Wiring.{In}
-use Rattle.bits_core.specs.Word.{Word, first, flag}
+use Rattle.bits_core.specs.Word.{Word, first}
 use Rattle.hw_model.specs.Types.{Name, HwType, width}
 use Rattle.hw_model.specs.Types.HwType.{int}
 use Rattle.hw_model.specs.Kinds.{Kind}
 use Rattle.hw_model.specs.Kinds.Kind.{aggregate_constant, on_array, on_struct, instance, output, register, async_firreg}
-use Rattle.hw_model.specs.Design.{Ref, Port, OpResult, Op, Module, Design, is_register, is_output_op, result_type}
+use Rattle.hw_model.specs.Design.{Ref, Op, Module, Design, is_register, is_output_op, result_type}
 use Rattle.hw_model.specs.Design.Ref.{port, result, undefined}
-use Rattle.hw_model.specs.Flat.{Net, net, Source, input_width, input_of, held_width, width_of, held_of, made_of, body_state, state, source}
-use Rattle.hw_model.specs.Flat.Source.{nowhere, input, held, op_result}
-use Rattle.hw_model.specs.Meaning.{Settled, needs_of, value_of}
-use Rattle.hw_model.specs.Sound.{type_in, input_type}
+use Rattle.hw_model.specs.Flat.{Net, net, held_width, width_of, held_of, made_of, body_state, state, source}
+use Rattle.hw_model.specs.Flat.Source.{held, op_result}
+use Rattle.hw_model.specs.Meaning.{Settled}
 use Rattle.hw_model.specs.Value.{op_value}
 use Rattle.operation_gates.specs.Operands.{IsPlain}
 use Rattle.flat_module_laws.specs.Sides.{IsFlat}
 use Rattle.flat_module_laws.specs.Orders.{IsSeen, ComesAfter, StandInOrder}
 use Rattle.flat_module_laws.proofs.FlatBodies.{IsThere, operand_there}
-use Rattle.flat_module_laws.proofs.FlatSources.{port_from, ResultFrom, result_is}
+use Rattle.flat_module_laws.proofs.FlatSources.{ResultFrom, result_is}
 use Rattle.flat_module_laws.proofs.FlatSources.ResultFrom.{from_register, from_output, from_operands}
 use Rattle.flat_module_laws.proofs.FlatGateLists.{plain_kind}
 use Rattle.flat_module_laws.proofs.Positions.{is_in_order}
-use Rattle.flat_module_gates.proofs.Linking.{HasOne, AreSingle}
+use Rattle.flat_module_gates.proofs.Linking.{AreSingle}
 use Rattle.flat_module_gates.proofs.SingleResults.{plain_is_single}
 use Rattle.flat_steps.specs.Tables.{cell, put, word_in, made, with_op, settled_results}
+use Rattle.flat_steps.proofs.CellWords.{put_length, cell_same, cell_other}
+use Rattle.flat_steps.proofs.RunNets.{from_source, port_net}
+use Rattle.flat_steps.proofs.SingleValues.{value_first}
 use Rattle.flat_steps.specs.Holds.{PortsHold, ResultsHold}
 
 -- the value of a plain kind is decided by the width of its result
@@ -40,69 +42,22 @@ plain_value (register f r) ts t k xs plain = absurd plain
 plain_value async_firreg ts t k xs plain = absurd plain
 plain_value _ ts t k xs plain = refl
 
--- an operation with a value of some number has no further one
-single_type : (o : Op) (k : ℕ) (t : HwType) → HasOne o → result_type o k ≡ Some t → (k ≡ 0) × (is_output_op o ≡ false)
-single_type o k t (inl (given, empty)) typed =
-    let none : option_map (λ (r : OpResult). r.type) (slice_get [] k) ≡ Some t = sym (ap (λ (rs : List OpResult). option_map (λ (r : OpResult). r.type) (slice_get rs k)) empty) ∙ typed in
-    absurd (let no : ⊥ = cc in no)
-single_type o zero t (inr (r, one, given)) typed = (refl, given)
-single_type o (suc k) t (inr (r, one, given)) typed =
-    let none : option_map (λ (s : OpResult). s.type) (slice_get [] k) ≡ Some t = sym (ap (λ (rs : List OpResult). option_map (λ (s : OpResult). s.type) (slice_get rs (suc k))) one) ∙ typed in
-    absurd (let no : ⊥ = cc in no)
-
-cell_same : (results : List Word) (i : ℕ) (x : Word) → i < length results → cell (put results i x) i ≡ x
-cell_same results i x within =
-    ap (λ (t : Bool). cell (cond t (slice_set results i x) results) i) (lt-ltb i (length results) within) ∙ get_or-set_same results i x (flag false) within
-
-pub put_length : (results : List Word) (i : ℕ) (x : Word) → length (put results i x) ≡ length results
-put_length results i x = by_test (nat_lt i (length results))
-  where
-    by_test : (t : Bool) → length (cond t (slice_set results i x) results) ≡ length results
-    by_test true = length-set results i x
-    by_test false = refl
-
-cell_other : (results : List Word) (i j : ℕ) (x : Word) → (j ≡ i → ⊥) → cell (put results i x) j ≡ cell results j
-cell_other results i j x other = by_test (nat_lt i (length results))
-  where
-    by_test : (t : Bool) → cell (cond t (slice_set results i x) results) j ≡ cell results j
-    by_test true = get_or-set_other results i j x (flag false) other
-    by_test false = refl
-
 module _ (d : Design) (top : Name) (m : Module) (order : List ℕ) (flat : IsFlat d top m order) (single : AreSingle m.body)
     (x q : Word) (ρ : Net → Word) (settled : Settled d top x q ρ) (ports : List Word) (hold : PortsHold m.ports ports x) where
-  at_source : (n : Net) (s : Source) → source d top n ≡ s → ρ n ≡ value_of x q s (map ρ (needs_of s))
-  at_source n s is = settled n ∙ ap (λ (z : Source). value_of x q z (map ρ (needs_of z))) is
-
-  -- the word of a port is that of its net
-  port_word : (j : ℕ) (t : HwType) → type_in m.ports m.body (port j) ≡ Some t → cell ports j ≡ ρ (net [] (port j))
-  port_word j t typed = go (slice_get m.ports j) refl typed
-    where
-      by_way : (p : Port) → slice_get m.ports j ≡ Some p → (b : Bool) → p.is_output ≡ b → cond b None (Some p.type) ≡ Some t → cell ports j ≡ ρ (net [] (port j))
-      by_way p there true way is = absurd (let no : ⊥ = cc in no)
-      by_way p there false way is =
-          let from : source d top (net [] (port j)) ≡ input (input_width (take j m.ports)) (width p.type) =
-          port_from d top m order flat j ∙ ap (λ (y : Option Port). input_of y (input_width (take j m.ports))) there
-          ∙ ap (λ (b : Bool). cond b nowhere (input (input_width (take j m.ports)) (width p.type))) way in
-          hold j p there way ∙ sym (at_source (net [] (port j)) (input (input_width (take j m.ports)) (width p.type)) from)
-
-      go : (y : Option Port) → slice_get m.ports j ≡ y → input_type y ≡ Some t → cell ports j ≡ ρ (net [] (port j))
-      go None there is = absurd (let no : ⊥ = cc in no)
-      go (Some p) there is = by_way p there p.is_output refl is
-
   -- the first results of the registers, and of the operations at the positions that were seen, have the words of their nets
   abbrev pub IsReady : List ℕ → List Word → Type 0
   IsReady seen results = (j : ℕ) (o : Op) (t : HwType) → slice_get m.body j ≡ Some o → result_type o 0 ≡ Some t → (is_register o ≡ true) ⊎ In j seen
       → cell results j ≡ ρ (net [] (result j 0))
 
   operand_word : (seen : List ℕ) (results : List Word) → IsReady seen results → (r : Ref) → IsThere m.ports m.body r → IsSeen seen r → word_in ports results r ≡ ρ (net [] r)
-  operand_word seen results ready (port j) there among = port_word j there.0 there.1
+  operand_word seen results ready (port j) there among = port_net d top m order flat x q ρ settled ports hold j there.0 there.1
   operand_word seen results ready undefined there among = absurd (let no : None ≡ Some there.0 = there.1 in let never : ⊥ = cc in never)
   operand_word seen results ready (result j k) there among = go (slice_get m.body j) refl there.1
     where
       go : (y : Option Op) → slice_get m.body j ≡ y → option_and_then (λ (o : Op). result_type o k) y ≡ Some there.0 → cell results j ≡ ρ (net [] (result j k))
       go None at typed = absurd (let no : ⊥ = cc in no)
       go (Some o) at typed =
-          let none : k ≡ 0 = (single_type o k there.0 (single j o at) typed).0 in
+          let none : k ≡ 0 = (value_first o k there.0 (single j o at) typed).0 in
           ready j o there.0 at (ap (result_type o) (sym none) ∙ typed) (inr among) ∙ ap (λ (n : ℕ). ρ (net [] (result j n))) (sym none)
 
   pub operand_words : (seen : List ℕ) (results : List Word) → IsReady seen results → (rs : List Ref) → ((r : Ref) → In r rs → IsThere m.ports m.body r) → ((r : Ref) → In r rs → IsSeen seen r)
@@ -127,7 +82,7 @@ module _ (d : Design) (top : Name) (m : Module) (order : List ℕ) (flat : IsFla
           ap (op_value o.kind [] (int (held_width o)) 0) (operand_words seen results ready o.operands (operand_there d top m order flat i o at) among)
           ∙ ap (λ (w : ℕ). op_value o.kind [] (int w) 0 (map ρ (map (net []) o.operands))) wide
           ∙ plain_value o.kind o.types t 0 (map ρ (map (net []) o.operands)) (plain_kind d top m order flat i 0 o at r n u t typed)
-          ∙ sym (at_source (net [] (result i 0)) (op_result o.kind o.types t 0 (map (net []) o.operands)) is)
+          ∙ sym (from_source d top m order flat x q ρ settled (net [] (result i 0)) (op_result o.kind o.types t 0 (map (net []) o.operands)) is)
 
   ready_stays : (seen : List ℕ) (results : List Word) (i j : ℕ) (o : Op) (t : HwType) → IsReady seen results → slice_get m.body j ≡ Some o → result_type o 0 ≡ Some t
       → (j ≡ i → is_register o ≡ true) → (is_register o ≡ true) ⊎ In j (i ∷ seen) → cell results j ≡ ρ (net [] (result j 0))
@@ -146,7 +101,7 @@ module _ (d : Design) (top : Name) (m : Module) (order : List ℕ) (flat : IsFla
       unchanged p there true b ra rb either same = sym (ap is_register (same_op p there same)) ∙ ra
       unchanged p there false true ra rb either same =
           absurd (let other : is_output_op o ≡ true = sym (ap is_output_op (same_op p there same)) ∙ rb in
-          let free : is_output_op o ≡ false = (single_type o 0 t (single j o at) typed).1 in
+          let free : is_output_op o ≡ false = (value_first o 0 t (single j o at) typed).1 in
           let no : ⊥ = cc in no)
       unchanged p there false false ra rb either same = absurd (let no : ⊥ = cc in no)
 
@@ -189,8 +144,8 @@ module _ (d : Design) (top : Name) (m : Module) (order : List ℕ) (flat : IsFla
           holds j o at reg
           ∙ ap (λ (w : ℕ). first w (drop (body_state (state d) (take j m.body)) q)) wide
           ∙ ap (λ (n : ℕ). first (width t) (drop n q)) (sym start)
-          ∙ sym (at_source (net [] (result j 0)) (held (0 + body_state (state d) (take j m.body)) (width t)) own)
-      go (from_output u from) = absurd (let free : is_output_op o ≡ false = (single_type o 0 t (single j o at) typed).1 in let no : ⊥ = cc in no)
+          ∙ sym (from_source d top m order flat x q ρ settled (net [] (result j 0)) (held (0 + body_state (state d) (take j m.body)) (width t)) own)
+      go (from_output u from) = absurd (let free : is_output_op o ≡ false = (value_first o 0 t (single j o at) typed).1 in let no : ⊥ = cc in no)
       go (from_operands r n u from) = absurd (let e : false ≡ true = sym (ap is_some r) ∙ reg in let no : ⊥ = cc in no)
 
   pub op_length : (results : List Word) (i : ℕ) (y : Option Op) → length (with_op ports results i y) ≡ length results

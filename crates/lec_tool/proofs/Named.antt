@@ -8,13 +8,13 @@ use Rattle.hw_model.specs.Types.{Name, width}
 use Rattle.hw_model.specs.Design.{Port, Op, Module, Design, is_register, find_module}
 use Rattle.hw_model.specs.Flat.{held_width}
 use Rattle.hw_model.specs.Sound.{input_types}
-use Rattle.name_legalise.specs.Legal.{legal}
 use Rattle.name_legalise.proofs.Legals.{legal_count}
 use Rattle.miter_blast.specs.FlatCopy.{IsFlatCopy}
 use Rattle.miter_blast.specs.Cuts.{cut}
 use Rattle.miter_blast.specs.Leaves.{held_widths, input_widths}
 use Rattle.miter_blast.specs.Comparisons.{leaf_widths}
-use Rattle.lec_tool.specs.LeafNames.{register_name, wanted_names, input_names, legal_names, leaf_names, names_of_inputs, names_of_registers, flat_widths, AreLeafNames}
+use Rattle.module_names.specs.ModuleNames.{register_name, wanted_names, all_names}
+use Rattle.lec_tool.specs.LeafNames.{input_names, legal_names, leaf_names, names_of_inputs, names_of_registers, flat_widths, AreLeafNames}
 use Rattle.lec_tool.specs.Verdicts.{DoDiffer}
 
 -- ---- inputs, and then registers
@@ -61,12 +61,12 @@ register_count m = length-drop (length m.ports) (legal_names m) ∙ omega (arith
 
 -- ---- the names of a copy
 
-pub named : {E : Type 0} {V : Type 0} (items : V → List Name) (r : Result V E) (d : Design) (a : Name) (c : Design) (one m : Module) (wanted shown : List Name)
-    → IsFlatCopy d a c → c ≡ one ∷ [] → m ≡ one → wanted ≡ wanted_names m.ports m.body → shown ≡ legal wanted
+pub named : {E : Type 0} {V : Type 0} (items : V → List Name) (r : Result V E) (d : Design) (a : Name) (c : Design) (one m : Module) (shown : List Name)
+    → IsFlatCopy d a c → c ≡ one ∷ [] → m ≡ one → shown ≡ all_names m.ports m.body
     → ((k : Module) → find_module d a ≡ Some k → flat_widths one ≡ leaf_widths d a k)
     → IfOk r (λ v. items v ≡ input_names m.ports shown) → IfOk r (λ v. AreLeafNames d a (items v))
-named items (Ok v) d a c one m wanted shown copy is same want show wide names =
-    let are : items v ≡ leaf_names one = names ∙ ap (input_names m.ports) (show ∙ ap legal want) ∙ ap leaf_names same in
+named items (Ok v) d a c one m shown copy is same show wide names =
+    let are : items v ≡ leaf_names one = names ∙ ap (input_names m.ports) show ∙ ap leaf_names same in
     record {
       copy = c;
       is_copy = copy;
@@ -78,7 +78,7 @@ named items (Ok v) d a c one m wanted shown copy is same want show wide names =
       registers = register_count one;
       widths = wide;
     }
-named items (Err e) d a c one m wanted shown copy is same want show wide names = tt
+named items (Err e) d a c one m shown copy is same show wide names = tt
 
 -- ---- the words of a difference
 

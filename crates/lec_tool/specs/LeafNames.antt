@@ -1,25 +1,11 @@
 -- The names of the leaves of a module's inputs and registers in Verilog.
-use Rattle.std.specs.Prelude.{◌≡◌, ℕ, Bool, false, cond, List, [], ◌∷◌, ◌++◌, map, length, take, drop, Option, Some, None, slice_get, codes}
-use Rattle.std.specs.List.{filter}
+use Rattle.std.specs.Prelude.{◌≡◌, ℕ, Bool, false, cond, List, [], ◌∷◌, ◌++◌, length, take, drop, Option, Some, None, slice_get}
 use Rattle.hw_model.specs.Types.{Name}
-use Rattle.hw_model.specs.Design.{Port, Op, Module, Design, is_register, find_module}
-use Rattle.name_legalise.specs.Legal.{legal}
+use Rattle.hw_model.specs.Design.{Port, Module, Design, find_module}
+use Rattle.module_names.specs.ModuleNames.{all_names}
 use Rattle.miter_blast.specs.FlatCopy.{IsFlatCopy}
 use Rattle.miter_blast.specs.Leaves.{held_widths, input_widths}
 use Rattle.miter_blast.specs.Comparisons.{leaf_widths}
-
--- the name that a register wants: its own, or `_reg`
-abbrev pub register_name : Name → Name
-register_name [] = codes "_reg"
-register_name (c ∷ cs) = c ∷ cs
-
--- the names that the registers of a body want
-abbrev pub register_names : List Op → List Name
-register_names os = map (λ (o : Op). register_name o.name) (filter is_register os)
-
--- those that the ports and the registers of a flat module want
-abbrev pub wanted_names : List Port → List Op → List Name
-wanted_names ps os = map (λ (p : Port). p.name) ps ++ register_names os
 
 -- of names of ports and of what comes after them, those that are of no output
 abbrev pub input_names : List Port → List Name → List Name
@@ -37,7 +23,7 @@ is_output_at ps j = is_output_port (slice_get ps j)
 
 -- the legal names of all ports and then of the registers of a flat module
 abbrev pub legal_names : Module → List Name
-legal_names m = legal (wanted_names m.ports m.body)
+legal_names m = all_names m.ports m.body
 
 -- those of the leaves of inputs and of registers
 abbrev pub leaf_names : Module → List Name

@@ -1,23 +1,15 @@
 //! The names of the leaves of a module's inputs and registers, as its Verilog has them.
 ghost use Rattle.std.specs.Prelude.{◌≡◌, ◌++◌, IfOk, OnOk, Some, cond, [], ◌∷◌};
 ghost use Rattle.hw_model.specs.Design.{find_module};
-ghost use Rattle.ir_store.specs.Bodies.{ops_of};
 ghost use Rattle.ir_store.specs.Designs.{design_of, ports_in};
-ghost use Rattle.ir_store.specs.Numbered.{ops_by_position};
-ghost use Rattle.name_legalise.specs.Legal.{legal};
-ghost use Rattle.lec_tool.specs.LeafNames.{register_name, wanted_names, register_names, input_names, is_output_at, AreLeafNames};
+ghost use Rattle.lec_tool.specs.LeafNames.{input_names, is_output_at, AreLeafNames};
 
-use body_index::op_index::OpIndex;
-use flat_module_gates::kinds::is_register;
 use io_edge::byte_text::Text;
-use ir_store::design::{Module, PortList};
+use ir_store::design::PortList;
 use miter_blast::flat_copy;
-use name_legalise::names::legal_list;
+use module_names::all_names;
 use op_verifier::Verified;
 use std::alloc::{AllocError, Global};
-
-/// How many names there may be.
-const MOST_NAMES: usize = (1 << 32) - 125;
 
 /// The names of the leaves of the inputs of the module of a symbol, in order, and then of its registers, once it is flat and
 /// without aggregates: made legal for Verilog together with those of its other ports, in the order of all ports and then of the
@@ -36,53 +28,8 @@ pub fn leaf_names(
     };
     let copy = flat_copy(alloc, verified, number)?;
     let module = copy.design().module(0);
-    let wanted = wanted_names(alloc, module)?;
-    if wanted.len() > MOST_NAMES {
-        return Err(AllocError);
-    }
-    let legal = legal_list(alloc, wanted.as_slice())?;
-    input_names(alloc, &module.ports, legal)
-}
-
-// The names that the ports and the registers of a flat module want.
-fn wanted_names(alloc: Global, module: &Module) -> Result<Vec<Text>, AllocError>
-    ensures { IfOk result (λ v. v.items ≡ wanted_names (ports_in «module».now.ports) (ops_by_position (ops_of «module».now.body))) }
-{
-    let mut names = Vec::new(alloc);
-    for port in &module.ports.ports {
-        names.push(port.name.try_clone(alloc)?)?;
-    }
-    push_register_names(alloc, &mut names, module)?;
-    Ok(names)
-}
-
-// Adds the names that the registers of a flat module want.
-fn push_register_names(
-    alloc: Global,
-    names: &mut Vec<Text>,
-    module: &Module,
-) -> Result<(), AllocError>
-    ensures { OnOk result (names.new.items ≡ names.old.items ++ register_names (ops_by_position (ops_of «module».now.body))) }
-{
-    let ops = OpIndex::of(alloc, &module.body)?;
-    for position in 0..ops.count() {
-        let op = ops.op_at(position);
-        if is_register(op.kind) {
-            names.push(register_name(alloc, op.name)?)?;
-        }
-    }
-    Ok(())
-}
-
-// The name that a register wants: its own, or `_reg`.
-fn register_name(alloc: Global, own: &Text) -> Result<Text, AllocError>
-    ensures { IfOk result (λ name. name ≡ register_name own.now) }
-{
-    if own.is_empty() {
-        Text::of(alloc, b"_reg")
-    } else {
-        own.try_clone(alloc)
-    }
+    let all = all_names(alloc, module)?;
+    input_names(alloc, &module.ports, all)
 }
 
 // The names without those of ports that are outputs.

@@ -77,6 +77,19 @@ no_aggregate false h = refl
 
 -- ---- one copy
 
+module _ (d : Design) (m : Module) (c : Design) (kept : KeepsFlat d m c) where
+  -- what it keeps makes it plain
+  pub kept_plain : IsPlain c kept.one.symbol kept.one
+  kept_plain = record {
+    accepted = kept.accepted;
+    found = subst (λ (e : Design). find_module e kept.one.symbol ≡ Some kept.one) (sym kept.is_one) (found_alone kept.one);
+    alone = kept.flat;
+    scalar = no_aggregate (has_aggregate_value kept.one) (subst (λ (e : Design). has_aggregates e ≡ false) kept.is_one kept.scalar);
+  }
+
+  pub kept_alone : IsAlone c
+  kept_alone = (kept.one, kept.is_one, kept_plain)
+
 module _ (d : Design) (s : Name) (i : ℕ) (m : Module) (accepted : IsAccepted d) (printable : Printable d) (at : slice_get d i ≡ Some m) (found : find_module d s ≡ Some m)
     (c : Design) (copied : IsFlatCopyAt d i c) where
   own_symbol : m.symbol ≡ s
@@ -99,12 +112,7 @@ module _ (d : Design) (s : Name) (i : ℕ) (m : Module) (accepted : IsAccepted d
     copy_symbol = ap (λ (x : Module). x.symbol) (sym kept_one) ∙ keeps.symbol ∙ own_symbol
 
     pub copy_plain : IsPlain c one.symbol one
-    copy_plain = subst (λ (x : Module). IsPlain c x.symbol x) kept_one (record {
-      accepted = keeps.accepted;
-      found = subst (λ (e : Design). find_module e keeps.one.symbol ≡ Some keeps.one) (sym keeps.is_one) (found_alone keeps.one);
-      alone = keeps.flat;
-      scalar = no_aggregate (has_aggregate_value keeps.one) (subst (λ (e : Design). has_aggregates e ≡ false) keeps.is_one keeps.scalar);
-    })
+    copy_plain = subst (λ (x : Module). IsPlain c x.symbol x) kept_one (kept_plain d m c keeps)
 
     pub copy_held : held_widths one.body ≡ register_widths d s
     copy_held =
@@ -116,7 +124,7 @@ module _ (d : Design) (s : Name) (i : ℕ) (m : Module) (accepted : IsAccepted d
     copy_inputs = ap (λ (x : Module). input_widths x.ports) (sym kept_one) ∙ ap (map width) (kept_input_types d c m keeps)
 
   pub copy_alone : IsAlone c
-  copy_alone = (keeps.one, keeps.is_one, copy_plain keeps.one keeps.is_one)
+  copy_alone = kept_alone d m c keeps
 
 -- ---- two copies
 

@@ -10,3 +10,4 @@ pub mod Comparable
 pub mod ComparisonPrices
 pub mod LightPairs
 pub mod BodyPrices
+pub mod ExportPrices

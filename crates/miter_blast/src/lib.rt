@@ -9,6 +9,7 @@ mod comparison_laws;
 pub mod copies;
 mod copy_laws;
 mod early;
+pub mod export_prices;
 pub mod fail;
 mod formula;
 pub mod input;

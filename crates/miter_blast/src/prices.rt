@@ -10,7 +10,7 @@ ghost use Rattle.ir_store.specs.Numbered.{ops_by_position};
 ghost use Rattle.ir_store.specs.OperationViews.{results_in};
 ghost use Rattle.body_index.specs.OpIndexes.{op_view};
 ghost use Rattle.operation_gates.specs.Prices.{price, pair_price, first_width};
-ghost use Rattle.flat_module_laws.specs.FlatPrices.{results_price};
+ghost use Rattle.flat_module_laws.specs.FlatPrices.{op_price, results_price};
 ghost use Rattle.miter_blast.specs.ComparisonPrices.{choice_price, clock_price, form_price, register_price};
 ghost use Rattle.miter_blast.specs.BodyPrices.{whole_price, body_price};
 
@@ -48,13 +48,21 @@ pub fn body_price(alloc: Global, module: &Module) -> Result<u64, AllocError>
 fn whole_price(body: &Typed<'_>, op: &Op<'_>) -> Result<u64, AllocError>
     ensures { IfOk result (λ n. n ≡ min (whole_price (ports_in body.now.ports.now) (ops_by_position (ops_of body.now.ops.now.body.now)) (op_view body.now.ops.now.body.now op.now)) u64.MAX) }
 {
+    let results = op_price(body, op)?;
+    let step = register_price(op.kind, u64::from(first_bits(op.results)?));
+    Ok(results.saturating_add(step))
+}
+
+/// The price of an operation's gate list, or `u64::MAX` where that is more; a register has none. The error comes only when out of
+/// memory, for which a value of 2^32 bits counts.
+pub(crate) fn op_price(body: &Typed<'_>, op: &Op<'_>) -> Result<u64, AllocError>
+    ensures { IfOk result (λ n. n ≡ min (op_price (ports_in body.now.ports.now) (ops_by_position (ops_of body.now.ops.now.body.now)) (op_view body.now.ops.now.body.now op.now)) u64.MAX) }
+{
     let operands = Operands {
         count: op.operands.len() as u64,
         first: u64::from(first_width(body, op.operands)?),
     };
-    let results = results_price(op.kind, operands, op.results)?;
-    let step = register_price(op.kind, u64::from(first_bits(op.results)?));
-    Ok(results.saturating_add(step))
+    results_price(op.kind, operands, op.results)
 }
 
 // How many operands there are, and how wide the first one is.
@@ -134,8 +142,8 @@ fn register_price(kind: &OpKind, width: u64) -> u64
     }
 }
 
-// The price of a choice by an enable.
-fn choice_price(has_enable: bool, width: u64) -> u64
+/// The price of a choice by an enable.
+pub(crate) fn choice_price(has_enable: bool, width: u64) -> u64
     ensures { result ≡ min (choice_price has_enable width) u64.MAX }
 {
     if has_enable {

@@ -1,7 +1,8 @@
 -- The variables of inputs and content carry their bits.
-use Rattle.std.proofs.Common.{◌≡◌, refl, sym, ap, ◌∙◌, ℕ, zero, suc, ◌+◌, ◌-◌, ◌<◌, ◌≤◌, Bool, true, false, [], ◌∷◌, ◌++◌, length, drop, slice_index_or, arith}
+use Rattle.std.proofs.Common.{◌≡◌, refl, sym, ap, subst, ◌∙◌, ℕ, zero, suc, ◌+◌, ◌-◌, ◌<◌, ◌≤◌, Bool, true, false, [], ◌∷◌, ◌++◌, length, drop, slice_index_or, arith, length-append}
 use Rattle.std.proofs.Math.Bool.{beq}
 use Rattle.bits_core.specs.Word.{Word, first}
+use Rattle.bits_core.proofs.First.{first_all}
 use Rattle.gates.specs.Signals.{variable_bit}
 use Rattle.gates.proofs.Carrying.{Carrying}
 use Rattle.gates.proofs.Instances.{bits_under, variables_in_order}
@@ -9,6 +10,10 @@ use Rattle.gate_words.proofs.Words.CarriesWord.{none, more}
 use Rattle.gate_words.proofs.Words.{CarriesWord, word_same}
 use Rattle.gate_words.proofs.Computing.{counting}
 use Rattle.net_gates.specs.NetGateLists.{variables}
+
+pub length-variables : (w start : ℕ) → length (variables start w) ≡ w
+length-variables zero start = refl
+length-variables (suc w) start = ap suc (length-variables w (suc start))
 
 -- the first variables carry the bits of the word, each part of it
 abbrev pub CarriesInputs : (total : ℕ) → Carrying total → Word → Type 0
@@ -67,3 +72,24 @@ pub drop_inputs : (start : ℕ) (inputs content : Word) → drop (length inputs 
 drop_inputs start [] content = ap (λ k. drop k content) (let e : 0 + start ≡ start = omega arith in e)
 drop_inputs start (b ∷ inputs) content = let e : length (b ∷ inputs) + start ≡ suc (length inputs + start) = omega arith in
     ap (λ k. drop k (b ∷ inputs ++ content)) e ∙ drop_inputs start inputs content
+
+module _ {total : ℕ} (c : Carrying total) where
+  -- the first variables carry the inputs
+  pub inputs_first : (x q : Word) → CarriesInputs total c (x ++ q) → CarriesInputs total c x
+  inputs_first x q given k start w l within =
+      word_same c k (first w (drop start (x ++ q))) (first w (drop start x)) (variables start w) (first_inputs w start x q within)
+      (given k start w l (omega (arith, length-append x q)))
+
+  -- and those after them the content
+  pub content_given : (x q : Word) → CarriesInputs total c (x ++ q) → (k : ℕ) → total ≤ k → CarriesWord c k q (variables (length x) (length q))
+  content_given x q given k l =
+      let at : length x + 0 ≡ length x = omega arith in
+      subst (λ a. CarriesWord c k q (variables a (length q))) at
+      (word_same c k (first (length q) (drop (length x + 0) (x ++ q))) q (variables (length x + 0) (length q))
+      (ap (first (length q)) (drop_inputs 0 x q) ∙ first_all (length q) q refl)
+      (given k (length x + 0) (length q) l (omega (arith, length-append x q))))
+
+  -- all of a word whose parts are carried
+  pub whole_carried : (x : Word) → CarriesInputs total c x → (k : ℕ) → total ≤ k → CarriesWord c k x (variables 0 (length x))
+  whole_carried x given k l =
+      word_same c k (first (length x) (drop 0 x)) x (variables 0 (length x)) (first_all (length x) x refl) (given k 0 (length x) l (omega arith))

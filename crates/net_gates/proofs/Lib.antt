@@ -1,4 +1,5 @@
 pub mod InputWords
+pub mod ClockedWords
 pub mod Nets
 pub mod Circuits
 pub mod FormulaLaw

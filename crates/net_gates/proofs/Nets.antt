@@ -73,7 +73,7 @@ abbrev pub HaveWords : {total : ℕ} → Carrying total → (Net → Word) → L
 HaveWords c ρ seen k signals = (a : Net) → In a seen → CarriesWord c k (ρ a) (signals a)
 
 module _ {total : ℕ} (c : Carrying total) (ρ : Net → Word) where
-  words_of : (k : ℕ) (signals : Net → List Signal) (ns : List Net) → ((b : Net) → In b ns → CarriesWord c k (ρ b) (signals b))
+  pub words_of : (k : ℕ) (signals : Net → List Signal) (ns : List Net) → ((b : Net) → In b ns → CarriesWord c k (ρ b) (signals b))
       → CarriesWords c k (map ρ ns) (map signals ns)
   words_of k signals [] have = no_words
   words_of k signals (n ∷ ns) have = one_more _ _ _ _ (have n (inl refl)) (words_of k signals ns (λ b here. have b (inr here)))

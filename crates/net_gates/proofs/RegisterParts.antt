@@ -37,6 +37,13 @@ slots_long each (s ∷ ss) q =
     ∙ ap₂ (λ (a b : ℕ). a + b) (length-first (held_width s.op) (each s (first (held_width s.op) q))) (slots_long each ss (drop (held_width s.op) q))
 
 module _ {inputs : ℕ} (c : Carrying inputs) where
+  -- so many signals from one on carry the bits of that part
+  pub word_part : (k start w : ℕ) (x : Word) (ss : List Signal) → start + w ≤ length x → CarriesWord c k x ss → CarriesWord c k (first w (drop start x)) (take w (drop start ss))
+  word_part k start w x ss within holds =
+      let room : w ≤ length (drop start x) = omega (arith, length-drop start x) in
+      word_same c k (take w (drop start x)) (first w (drop start x)) (take w (drop start ss)) (sym (first-take w (drop start x) room))
+      (word-take c k w (drop start x) (drop start ss) (word-drop c k start x ss holds))
+
   makes-load_bit : (n : ℕ) (d : Signal) (r : Bool) → c.at n d r → (b : Bool) (s : Signal) (p : Bool) → c.at n s p → Makes c (load_bit d b s) n 1 (Carries c (cond r b p))
   makes-load_bit n d r hd false s p hs =
       subst (λ t. Makes c (load_bit d false s) n 1 (Carries c t)) (kept r p) (makes-and c n (inverse d) s (not r) p (c.inverted n d r hd) hs)

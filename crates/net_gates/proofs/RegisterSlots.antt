@@ -1,5 +1,5 @@
 -- The gate lists of a register carry what its asynchronous reset makes of it, and what it holds after a step.
-use Rattle.std.proofs.Common.{◌≡◌, refl, sym, subst, ◌∙◌, ℕ, ◌+◌, ◌*◌, ◌≤◌, Bool, true, false, cond, List, map, length, drop, Option, Some, None, inl, inr, le_trans}
+use Rattle.std.proofs.Common.{◌≡◌, refl, sym, subst, ◌∙◌, ℕ, ◌+◌, ◌*◌, ◌≤◌, Bool, true, false, cond, List, map, length, take, drop, Option, Some, None, inl, inr, le_trans}
 use Rattle.wiring.specs.Wiring.{In}
 use Rattle.wiring.proofs.Members.{In-append_left, In-append_right}
 use Rattle.bits_core.specs.Word.{Word, first}
@@ -15,11 +15,10 @@ use Rattle.hw_model.specs.Flat.{Net, net, Source, source, Slot, Register, ResetB
 use Rattle.hw_model.specs.Flat.Source.{nowhere, input, held, copy, op_result}
 use Rattle.hw_model.specs.Meaning.{needs_of, value_of, Settled, value_if_enabled, reset, next_value}
 use Rattle.hw_model.specs.Value.{is_high}
-use Rattle.net_gates.specs.NetGateLists.{variables}
 use Rattle.net_gates.specs.RegisterGateLists.{input_signals, source_constant, load_gate_list, enable_gate_list, reset_gate_list, any_reset_gate_list, next_gate_list, slot_source}
 use Rattle.net_gates.specs.RegisterPrices.{load_price, enable_price, reset_price, any_reset_price, next_price}
 use Rattle.net_gates.specs.RegisterMiters.{IsInput, IsConstantOf, IsConstantKind, enable_refs, reset_refs, parts_of}
-use Rattle.net_gates.proofs.RegisterParts.{makes-load, makes-chosen}
+use Rattle.net_gates.proofs.RegisterParts.{word_part, makes-load, makes-chosen}
 
 -- ---- widths
 
@@ -45,10 +44,6 @@ next_long (Some r) τ old w wide valued eo =
 
 -- ---- inputs and constants
 
--- the variables of inputs carry their bits
-abbrev pub CarriesFirst : (total : ℕ) → Carrying total → Word → Type 0
-CarriesFirst total c x = (k start w : ℕ) → total ≤ k → start + w ≤ length x → CarriesWord c k (first w (drop start x)) (variables start w)
-
 module _ (d : Design) (top : Name) (x q : Word) (ρ : Net → Word) (settled : Settled d top x q ρ) where
   -- a constant's net has its word
   pub constant_is : (n : Net) (w : ℕ) → IsConstantOf w (source d top n) → (ρ n ≡ source_constant (source d top n)) × (length (source_constant (source d top n)) ≡ w)
@@ -66,12 +61,13 @@ module _ (d : Design) (top : Name) (x q : Word) (ρ : Net → Word) (settled : S
       go (held start v) has is = absurd is
       go (copy m) has is = absurd is
 
-  module _ {total : ℕ} (c : Carrying total) (given : CarriesFirst total c x) where
-    input_carried : (n : Net) (k : ℕ) → total ≤ k → IsInput (length x) (source d top n) → CarriesWord c k (ρ n) (input_signals (source d top n))
+  module _ {total : ℕ} (c : Carrying total) (ins : List Signal) (least : ℕ) (given : CarriesWord c least x ins) where
+    input_carried : (n : Net) (k : ℕ) → least ≤ k → IsInput (length x) (source d top n) → CarriesWord c k (ρ n) (input_signals ins (source d top n))
     input_carried n k l is = go (source d top n) (settled n) is
       where
-        go : (s : Source) → ρ n ≡ value_of x q s (map ρ (needs_of s)) → IsInput (length x) s → CarriesWord c k (ρ n) (input_signals s)
-        go (input start w) has is = word_same c k (first w (drop start x)) (ρ n) (variables start w) (sym has) (given k start w l is)
+        go : (s : Source) → ρ n ≡ value_of x q s (map ρ (needs_of s)) → IsInput (length x) s → CarriesWord c k (ρ n) (input_signals ins s)
+        go (input start w) has is =
+            word_same c k (first w (drop start x)) (ρ n) (take w (drop start ins)) (sym has) (word_part c k start w x ins is (word_later c least k x ins l given))
         go nowhere has is = absurd is
         go (held start v) has is = absurd is
         go (copy m) has is = absurd is
@@ -80,15 +76,15 @@ module _ (d : Design) (top : Name) (x q : Word) (ρ : Net → Word) (settled : S
     module _ (s : Slot) (w : ℕ) where
       -- the value of a reset where it is 1
       pub makes-loaded : (a : Option ResetBy) → ((v : ResetBy) → a ≡ Some v → IsInput (length x) (slot_source d top s v.signal))
-          → ((v : ResetBy) → a ≡ Some v → IsConstantOf w (slot_source d top s v.value)) → (k : ℕ) → total ≤ k → (old : Word) (xs : List Signal)
+          → ((v : ResetBy) → a ≡ Some v → IsConstantOf w (slot_source d top s v.value)) → (k : ℕ) → least ≤ k → (old : Word) (xs : List Signal)
           → CarriesWord c k old xs → length old ≡ w
-          → Makes c (load_gate_list (slot_source d top s) a xs) k (load_price w a) (IsWord c (reset a (λ r. ρ (net s.path r)) old))
+          → Makes c (load_gate_list ins (slot_source d top s) a xs) k (load_price w a) (IsWord c (reset a (λ r. ρ (net s.path r)) old))
       makes-loaded None signal value k l old xs here eo = makes-done c xs k (IsWord c old) here
       makes-loaded (Some v) signal value k l old xs here eo =
           let known = constant_is (net s.path v.value) w (value v refl) in
-          subst (λ g. Makes c (load_gate_list (slot_source d top s) (Some v) xs) k g (IsWord c (reset (Some v) (λ r. ρ (net s.path r)) old))) eo
-          (subst (λ u. Makes c (load_gate_list (slot_source d top s) (Some v) xs) k (length old) (IsWord c (cond (is_high (ρ (net s.path v.signal))) u old))) (sym known.0)
-          (makes-load c k (input_signals (slot_source d top s v.signal)) (ρ (net s.path v.signal)) (input_carried (net s.path v.signal) k l (signal v refl))
+          subst (λ g. Makes c (load_gate_list ins (slot_source d top s) (Some v) xs) k g (IsWord c (reset (Some v) (λ r. ρ (net s.path r)) old))) eo
+          (subst (λ u. Makes c (load_gate_list ins (slot_source d top s) (Some v) xs) k (length old) (IsWord c (cond (is_high (ρ (net s.path v.signal))) u old))) (sym known.0)
+          (makes-load c k (input_signals ins (slot_source d top s v.signal)) (ρ (net s.path v.signal)) (input_carried (net s.path v.signal) k l (signal v refl))
           (source_constant (slot_source d top s v.value)) old xs here (known.1 ∙ sym eo)))
 
       -- the word of an operand
@@ -115,23 +111,23 @@ module _ (d : Design) (top : Name) (x q : Word) (ρ : Net → Word) (settled : S
 
       makes-any_reset : (a r : Option ResetBy) → ((v : ResetBy) → a ≡ Some v → IsInput (length x) (slot_source d top s v.signal))
           → ((v : ResetBy) → a ≡ Some v → IsConstantOf w (slot_source d top s v.value)) → ((v : ResetBy) → a ≡ Some v → r ≡ Some v)
-          → (k : ℕ) → total ≤ k → (signals : Net → List Signal) → ((y : Ref) → In y (reset_refs r) → Has k signals y)
+          → (k : ℕ) → least ≤ k → (signals : Net → List Signal) → ((y : Ref) → In y (reset_refs r) → Has k signals y)
           → ((v : ResetBy) → r ≡ Some v → length (ρ (net s.path v.value)) ≡ w) → (new : Word) (ys : List Signal) → CarriesWord c k new ys → length new ≡ w
-          → Makes c (any_reset_gate_list (slot_source d top s) a r (λ y. signals (net s.path y)) ys) k (any_reset_price w a r) (IsWord c (reset r (λ y. ρ (net s.path y)) new))
+          → Makes c (any_reset_gate_list ins (slot_source d top s) a r (λ y. signals (net s.path y)) ys) k (any_reset_price w a r) (IsWord c (reset r (λ y. ρ (net s.path y)) new))
       makes-any_reset None r signal value same k l signals has wide new ys hn en = makes-reset r k signals has wide new ys hn en
       makes-any_reset (Some v) r signal value same k l signals has wide new ys hn en =
-          subst (λ z. Makes c (load_gate_list (slot_source d top s) (Some v) ys) k (load_price w (Some v)) (IsWord c (reset z (λ y. ρ (net s.path y)) new))) (sym (same v refl))
+          subst (λ z. Makes c (load_gate_list ins (slot_source d top s) (Some v) ys) k (load_price w (Some v)) (IsWord c (reset z (λ y. ρ (net s.path y)) new))) (sym (same v refl))
           (makes-loaded (Some v) signal value k l new ys hn en)
 
       -- what the register holds after a step
       pub makes-next : (a : Option ResetBy) (o : Option Register) → ((v : ResetBy) → a ≡ Some v → IsInput (length x) (slot_source d top s v.signal))
           → ((v : ResetBy) → a ≡ Some v → IsConstantOf w (slot_source d top s v.value))
-          → ((r : Register) (v : ResetBy) → o ≡ Some r → a ≡ Some v → r.reset ≡ Some v) → (k : ℕ) → total ≤ k → (signals : Net → List Signal)
+          → ((r : Register) (v : ResetBy) → o ≡ Some r → a ≡ Some v → r.reset ≡ Some v) → (k : ℕ) → least ≤ k → (signals : Net → List Signal)
           → ((r : Register) → o ≡ Some r → (y : Ref) → In y (parts_of r) → Has k signals y)
           → ((r : Register) → o ≡ Some r → length (ρ (net s.path r.next)) ≡ w)
           → ((r : Register) (v : ResetBy) → o ≡ Some r → r.reset ≡ Some v → length (ρ (net s.path v.value)) ≡ w)
           → (old : Word) (xs : List Signal) → CarriesWord c k old xs → length old ≡ w
-          → Makes c (next_gate_list (slot_source d top s) a o (λ y. signals (net s.path y)) xs) k (next_price w a o) (IsWord c (next_value o (λ y. ρ (net s.path y)) old))
+          → Makes c (next_gate_list ins (slot_source d top s) a o (λ y. signals (net s.path y)) xs) k (next_price w a o) (IsWord c (next_value o (λ y. ρ (net s.path y)) old))
       makes-next a None signal value same k l signals has wide valued old xs ho eo = makes-done c xs k (IsWord c old) ho
       makes-next a (Some r) signal value same k l signals has wide valued old xs ho eo =
           let τ : Ref → Word = λ y. ρ (net s.path y) in

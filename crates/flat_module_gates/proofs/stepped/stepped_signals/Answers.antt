@@ -26,7 +26,7 @@ side_signals-requires c =
     let order = c.in_ok-order.order.items in
     let flat : IsFlat e one.symbol one order = record { plain = alone.1; stands = c.in_ok-order.ensures } in
     subst (λ o. FlatFits (input_width one.ports) one.ports one.body o c.args.gates.now) (sym c.as_slice.ensures.value)
-    (fits e one.symbol one order flat (plain_is_single e one.symbol one alone.1) c.args.gates.now (c.requires.room one alone.0).0)
+    (fits e one.symbol one order flat (plain_is_single e one.symbol one alone.1) c.args.gates.now)
 
 pub returns-clause-step : goal.returns-clause-step
 returns-clause-step c =

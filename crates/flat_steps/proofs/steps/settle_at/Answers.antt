@@ -4,7 +4,7 @@ use Rattle.body_index.specs.OpIndexes.{op_view}
 use Rattle.flat_steps.specs.Tables.{put, word_in, made}
 use Rattle.flat_steps.specs.Plans.{body_of}
 use Rattle.flat_steps.proofs.Putting.{with_made}
-use Rattle.flat_steps.proofs.SettledTables.{put_length}
+use Rattle.flat_steps.proofs.CellWords.{put_length}
 use Rattle.flat_steps.proofs.steps.settle_at.Goals as goal
 
 pub returns : goal.returns

@@ -6,7 +6,6 @@ use Rattle.miter_blast.specs.Pairs.{IsFoundAt}
 use Rattle.miter_blast.proofs.Finding.{found_at, stored_at}
 use Rattle.miter_blast.proofs.Differences.{first_alone}
 use Rattle.miter_blast.proofs.Compared.{stored_below, alone_some, copy_alone, copy_is, copy_inputs, copy_held}
-use Rattle.name_legalise.specs.Legal.{legal}
 use Rattle.op_verifier.specs.Answered.{modules_verified}
 use Rattle.lec_tool.proofs.Named.{named}
 use Rattle.lec_tool.proofs.names.leaf_names.Goals as goal
@@ -34,9 +33,9 @@ returns c =
     let m = numbered_module (module_of c.module-module.result.now) in
     let at : slice_get (design_of c.in_ok-copy.copy.design) 0 ≡ Some m =
     subst (λ e. slice_get e 0 ≡ Some m) (ap (map numbered_module) c.design-2.ensures) (stored_at (modules_of c.design-2.result.now) 0 (module_of c.module-module.result.now) c.module-module.ensures) in
-    named (λ v. v.items) c.input_names.result d c.args.symbol.now (design_of c.in_ok-copy.copy.design) alone.0 m c.in_ok-wanted.wanted.items c.in_ok-legal.legal.items
+    named (λ v. v.items) c.input_names.result d c.args.symbol.now (design_of c.in_ok-copy.copy.design) alone.0 m c.in_ok-all.all.items
     (copy_is d c.args.symbol.now c.in-Some.number own.0 c.args.verified.now.accepted printable own.1 own.2 (design_of c.in_ok-copy.copy.design) c.in_ok-copy.ensures)
-    alone.1 (first_alone (design_of c.in_ok-copy.copy.design) m alone.0 at alone.1) c.in_ok-wanted.ensures (c.in_ok-legal.ensures ∙ ap legal c.as_slice.ensures.value)
+    alone.1 (first_alone (design_of c.in_ok-copy.copy.design) m alone.0 at alone.1) c.in_ok-all.ensures
     (λ k found. (let both : Some own.0 ≡ Some k = sym own.2 ∙ found in
     let same : own.0 ≡ k = cc in
     ap₂ (λ x y. x ++ y)

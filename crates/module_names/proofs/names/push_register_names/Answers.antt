@@ -2,10 +2,10 @@ use Rattle.std.proofs.Common.{◌+◌, ◌∷◌, [], ◌++◌, drop, sym, ap, �
 use Rattle.ir_store.specs.Bodies.{ops_of}
 use Rattle.ir_store.specs.Numbered.{ops_by_position}
 use Rattle.body_index.specs.OpIndexes.{op_view}
-use Rattle.lec_tool.specs.LeafNames.{register_name, register_names}
-use Rattle.lec_tool.proofs.LeafLists.{one_made, register_next, no_register_next}
-use Rattle.lec_tool.proofs.names.push_register_names.Goals as goal
-use Rattle.lec_tool.proofs.names.push_register_names.Goals.{then-is_register+in_ok-register_name+in_ok-push, else-is_register}
+use Rattle.module_names.specs.ModuleNames.{register_name, register_names}
+use Rattle.module_names.proofs.NameLists.{one_made, register_next, no_register_next}
+use Rattle.module_names.proofs.names.push_register_names.Goals as goal
+use Rattle.module_names.proofs.names.push_register_names.Goals.{then-is_register+in_ok-register_name+in_ok-push, else-is_register}
 
 pub loop-position-preserved : goal.loop-position-preserved
 loop-position-preserved c =

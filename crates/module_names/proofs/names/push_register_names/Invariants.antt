@@ -1,8 +1,8 @@
 use Rattle.std.proofs.Common.{◌≡◌, ◌++◌, drop}
 use Rattle.ir_store.specs.Bodies.{ops_of}
 use Rattle.ir_store.specs.Numbered.{ops_by_position}
-use Rattle.lec_tool.specs.LeafNames.{register_names}
-use Rattle.lec_tool.proofs.names.push_register_names.Given as goal
+use Rattle.module_names.specs.ModuleNames.{register_names}
+use Rattle.module_names.proofs.names.push_register_names.Given as goal
 
 abbrev pub invariant-loop-position : goal.invariant-loop-position
 invariant-loop-position l =
