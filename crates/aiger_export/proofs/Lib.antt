@@ -1,0 +1,9 @@
+pub mod PublicNumbers
+pub mod OneExport
+pub mod NamesInLines
+pub mod NameCounts
+pub mod NameSteps
+pub mod OutputCounts
+pub mod StepTexts
+pub mod ExportSteps
+pub mod ExportedTexts

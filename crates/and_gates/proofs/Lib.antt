@@ -1,0 +1,9 @@
+pub mod Scanning
+pub mod ClockTypes
+pub mod ClockPorts
+pub mod ClockedSteps
+pub mod StepBits
+pub mod MachineSteps
+pub mod LoadPrices
+pub mod OneExport
+pub mod Limits
