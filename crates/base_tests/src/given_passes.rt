@@ -7,7 +7,7 @@ use pass_pipeline::pipeline::PipelineFail::{BadText, UnknownPass, WrongPlace};
 use std::test::Fail;
 
 // Words with passes.
-const GIVEN: [(&str, Said); 12] = [
+const GIVEN: [(&str, Said); 18] = [
     ("opt --pass-pipeline=builtin.module(cse)", Command),
     ("opt --pass-pipeline builtin.module(cse)", Command),
     (
@@ -44,6 +44,30 @@ const GIVEN: [(&str, Said); 12] = [
         "translate --pass-pipeline=cse",
         Wrong(UsageKind::NoTranslation),
     ),
+    (
+        "translate --passes=cse --pass-pipeline=builtin.module() --export-aiger --import-aiger",
+        Wrong(UsageKind::TwoPipelines),
+    ),
+    (
+        "translate --export-aiger --pass-pipeline=cse --import-aiger",
+        Wrong(UsageKind::TwoTranslations),
+    ),
+    (
+        "translate --passes=cs --export-verilog --export-aiger",
+        Wrong(UsageKind::TwoTranslations),
+    ),
+    (
+        "translate --passes=cse --import-aiger --pass-pipeline=cse --lowering-options=explicit",
+        Wrong(UsageKind::TwoPipelines),
+    ),
+    (
+        "translate --export-aiger --pass-pipeline=cse",
+        Wrong(UsageKind::Pipeline(WrongPlace(0))),
+    ),
+    (
+        "translate --import-aiger --passes=cse,cs",
+        Wrong(UsageKind::Pipeline(UnknownPass(4))),
+    ),
     // an offset in a list of flags is counted there
     (
         "opt --passes=cse,cs",
@@ -74,7 +98,7 @@ fn passes_that_are_not_on_offer_are_wrong(rt: HostRuntime) -> Result<(), Fail> {
 }
 
 // Words, and the passes that they ask for in order.
-const ORDERS: [(&str, Said); 5] = [
+const ORDERS: [(&str, Said); 8] = [
     ("opt", NoPass),
     (
         "opt --passes=cse,canonicalize",
@@ -83,6 +107,15 @@ const ORDERS: [(&str, Said); 5] = [
     (
         "translate --passes=cse,cse --export-verilog",
         TwoPasses(Pass::Cse, Pass::Cse),
+    ),
+    (
+        "translate --passes=hw-flatten-modules,seq-lower-regs --export-aiger",
+        TwoPasses(Pass::HwFlattenModules, Pass::SeqLowerRegs),
+    ),
+    ("translate --import-aiger", NoPass),
+    (
+        "translate --import-aiger --passes=canonicalize",
+        OnePass(Pass::Canonicalize),
     ),
     ("opt --split-input-file --passes=cse", OnePass(Pass::Cse)),
     (

@@ -1,10 +1,10 @@
 //! What words of a command line say: commands, and wrong words.
-use crate::lines::Said::{self, Command, Workers, Wrong};
+use crate::lines::Said::{self, Command, FromAiger, ToAiger, Workers, Wrong};
 use crate::lines::{ALL, all_say};
 use command_line::usage::UsageKind;
 use std::test::Fail;
 
-const WORDS: [(&str, Said); 93] = [
+const WORDS: [(&str, Said); 106] = [
     ("", Wrong(UsageKind::Words)),
     ("opt", Command),
     ("opt a.mlir b.mlir", Wrong(UsageKind::Words)),
@@ -32,6 +32,27 @@ const WORDS: [(&str, Said); 93] = [
     ),
     ("translate --export-verilog", Command),
     ("translate x.mlir --export-verilog -o y.v", Command),
+    ("translate --export-aiger --lowering-options=", Command),
+    ("translate a.aag --import-aiger -o b.mlir", Command),
+    ("translate --export-aiger=x", Wrong(UsageKind::Words)),
+    ("translate --import-aiger=x", Wrong(UsageKind::Words)),
+    (
+        "translate --export-aiger --export-aiger",
+        Wrong(UsageKind::Words),
+    ),
+    (
+        "translate --import-aiger --import-aiger",
+        Wrong(UsageKind::Words),
+    ),
+    (
+        "translate --export-aiger --split-input-file",
+        Wrong(UsageKind::Words),
+    ),
+    ("translate --import-aiger a b", Wrong(UsageKind::Words)),
+    ("opt --export-aiger", Wrong(UsageKind::Words)),
+    ("opt --import-aiger", Wrong(UsageKind::Words)),
+    ("gen 0 1 --export-aiger", Wrong(UsageKind::Words)),
+    ("--import-aiger translate", Wrong(UsageKind::Words)),
     ("lec a.mlir", Wrong(UsageKind::Words)),
     ("--export-verilog translate", Wrong(UsageKind::Words)),
     ("opt --workers 1", Command),
@@ -60,6 +81,10 @@ const WORDS: [(&str, Said); 93] = [
         Wrong(UsageKind::Words),
     ),
     ("translate --workers 0", Wrong(UsageKind::Words)),
+    (
+        "translate --export-aiger --import-aiger --workers 0",
+        Wrong(UsageKind::Words),
+    ),
     ("gen 0 1", Command),
     ("gen 4294967295 10000 -o x --workers 64 --verilog", Command),
     ("gen 4294967296 1", Wrong(UsageKind::Words)),
@@ -135,11 +160,58 @@ const WORDS: [(&str, Said); 93] = [
     ("sim a b --top m --workers 2", Wrong(UsageKind::Words)),
 ];
 
+// Words on translations, of which just one may be named.
+const TRANSLATIONS: [(&str, Said); 14] = [
+    ("translate --export-aiger", ToAiger),
+    (
+        "translate -- --import-aiger",
+        Wrong(UsageKind::NoTranslation),
+    ),
+    ("translate a -o b --export-aiger", ToAiger),
+    ("translate --export-aiger -- --export-verilog", ToAiger),
+    ("translate --import-aiger", FromAiger),
+    ("translate --import-aiger a -o b", FromAiger),
+    ("translate --import-aiger -- --export-aiger", FromAiger),
+    (
+        "translate --export-verilog --export-aiger",
+        Wrong(UsageKind::TwoTranslations),
+    ),
+    (
+        "translate --export-aiger a --export-verilog",
+        Wrong(UsageKind::TwoTranslations),
+    ),
+    (
+        "translate --export-verilog --import-aiger",
+        Wrong(UsageKind::TwoTranslations),
+    ),
+    (
+        "translate --import-aiger --export-verilog -o b",
+        Wrong(UsageKind::TwoTranslations),
+    ),
+    (
+        "translate --export-aiger --import-aiger",
+        Wrong(UsageKind::TwoTranslations),
+    ),
+    (
+        "translate --import-aiger --export-aiger a",
+        Wrong(UsageKind::TwoTranslations),
+    ),
+    (
+        "translate --export-verilog --export-aiger --import-aiger",
+        Wrong(UsageKind::TwoTranslations),
+    ),
+];
+
 // How many workers the words of a line say.
-const WORKERS: [(&str, Said); 6] = [
+const WORKERS: [(&str, Said); 8] = [
     ("opt", Workers(4)),
     ("opt --workers 7", Workers(7)),
     ("translate --export-verilog --workers=64", Workers(64)),
+    ("translate --export-aiger --workers 3", Workers(3)),
+    (
+        "translate --import-aiger --mlir-disable-threading",
+        Workers(1),
+    ),
     ("opt --workers 10 -o x", Workers(10)),
     ("opt --mlir-disable-threading", Workers(1)),
     ("opt --workers 8 --mlir-disable-threading", Workers(1)),
@@ -148,6 +220,11 @@ const WORKERS: [(&str, Said); 6] = [
 #[test]
 fn workers_are_said_by_words(rt: HostRuntime) -> Result<(), Fail> {
     all_say(rt.alloc(), &rt, &WORKERS, &ALL)
+}
+
+#[test]
+fn one_translation_is_named(rt: HostRuntime) -> Result<(), Fail> {
+    all_say(rt.alloc(), &rt, &TRANSLATIONS, &ALL)
 }
 
 #[test]

@@ -35,6 +35,10 @@ pub enum Said {
     Pieces(bool),
     /// A command for Verilog with zero extensions as their operand alone where they may be, or with all zeros.
     Bare(bool),
+    /// A command for a text in the AIGER format.
+    ToAiger,
+    /// A command for the design of one.
+    FromAiger,
     /// A command for the summary of a design that is generated without an input.
     Summary { seed: u32, count: u32 },
     /// A command for Verilog of one.
@@ -66,9 +70,11 @@ pub fn words_of(alloc: Global, line: &str) -> Result<Vec<String>, AllocError> {
 // Whether a work is on these passes.
 fn is_on(work: &Work, passes: &[Pass]) -> bool {
     match work {
-        Work::Mlir(given) | Work::MlirPieces(given) | Work::Verilog(given, _) => {
-            given.as_slice() == passes
-        }
+        Work::Mlir(given)
+        | Work::MlirPieces(given)
+        | Work::Verilog(given, _)
+        | Work::ExportAiger(given)
+        | Work::ImportAiger(given) => given.as_slice() == passes,
         Work::GeneratedSummary(_)
         | Work::GeneratedVerilog(_)
         | Work::Verdict(_)
@@ -90,6 +96,22 @@ fn is_written(work: &Work, bare: bool) -> bool {
     match work {
         Work::Verilog(_, Lowering::ImplicitExtension) => bare,
         Work::Verilog(_, Lowering::Plain) => !bare,
+        _ => false,
+    }
+}
+
+// Whether a work is a text in the AIGER format.
+fn is_to_aiger(work: &Work) -> bool {
+    match work {
+        Work::ExportAiger(_) => true,
+        _ => false,
+    }
+}
+
+// Whether a work is the design of a text in the AIGER format.
+fn is_from_aiger(work: &Work) -> bool {
+    match work {
+        Work::ImportAiger(_) => true,
         _ => false,
     }
 }
@@ -125,6 +147,8 @@ fn is_command(invocation: &Invocation, said: &Said) -> bool {
         Said::TwoPasses(first, second) => is_on(&invocation.work, &[*first, *second]),
         Said::Pieces(are_pieces) => is_on_pieces(&invocation.work) == *are_pieces,
         Said::Bare(bare) => is_written(&invocation.work, *bare),
+        Said::ToAiger => is_to_aiger(&invocation.work),
+        Said::FromAiger => is_from_aiger(&invocation.work),
         Said::Summary { seed, count } => is_summary(invocation, *seed, *count),
         Said::Verilog { seed, count } => is_verilog(invocation, *seed, *count),
     }

@@ -13,7 +13,7 @@ use Rattle.diag.specs.declared.refusal.OpName.TheVariants as op
 use Rattle.diag.specs.declared.cause.Cause.TheVariants.{TooLong}
 use Rattle.diag.specs.declared.refusal.Refusal.{Refusal}
 use Rattle.command_line.specs.Line.{Command, Work}
-use Rattle.command_line.specs.Line.Work.{mlir, mlir_pieces, verilog, generated_summary, generated_verilog, comparison, proof_check, simulation}
+use Rattle.command_line.specs.Line.Work.{mlir, mlir_pieces, verilog, aiger_export, aiger_import, generated_summary, generated_verilog, comparison, proof_check, simulation}
 use Rattle.mlir_syntax.specs.Stream.{stream_of, refusal}
 use Rattle.mlir_operations.specs.ModuleText.{file_text}
 use Rattle.mlir_reader.specs.Reading.{text_limit, read, design_read}
@@ -41,6 +41,11 @@ use Rattle.circt_top.specs.Comparing.{last_input, last_number, AreTaken, in_pair
 use Rattle.circt_top.specs.Comparing.IsRefusedPair.{first as of_first, last as of_last, pair as of_pair}
 use Rattle.circt_top.specs.Checks.{IsRefusedProof, IsVerifiedProof}
 use Rattle.circt_top.specs.Simulations.{IsRefusedRun, IsRun}
+use Rattle.aiger_laws.specs.Grammar.{IsFirstFault}
+use Rattle.circt_top.specs.Exports.{IsExport, IsRefusedExport}
+use Rattle.circt_top.specs.Exports.IsRefusedExport.{input as of_input, made as of_made}
+use Rattle.circt_top.specs.Imports.{IsImport, IsRefusedImport}
+use Rattle.circt_top.specs.Imports.IsRefusedImport.{too_long as of_many, in_line as of_line}
 use Rattle.circt_top.specs.Simulations.IsRefusedRun.{first as of_unread, run as of_run}
 use Rattle.circt_top.specs.Checks.IsRefusedProof.{formula as of_formula, proof as of_proof}
 use Rattle.circt_top.specs.Outcome.{Verdict, Texts, Answer, IsText, IsRefusedBy, IsFinding, IsGiven, IsOutput, IsAnswer}
@@ -127,12 +132,7 @@ reprint_whole : (passes : List Pass) (bytes source text : List ℕ) → read sou
 reprint_whole passes bytes source text same is = record {
   design = is.design;
   accepted = accepted_whole bytes source is.design same is.accepted;
-  made = is.made;
-  result = is.result;
-  partners = is.partners;
-  said_again = is.said_again;
-  partners_again = is.partners_again;
-  laid_out = is.laid_out;
+  reprinted = is.reprinted;
 }
 
 translation_whole : (passes : List Pass) (options : Lowering) (bytes source text : List ℕ) → read source ≡ read bytes → IsTranslation passes options source text
@@ -146,6 +146,24 @@ pieces_whole passes bytes source text prefix is = subst (λ s. IsReprintOfPieces
 refused_pieces_whole : (bytes source : List ℕ) (r : Refusal) → source ≡ take read_limit bytes → IsRefusedInPieces source r → IsRefusedInPieces bytes r
 refused_pieces_whole bytes source r prefix (inl is) = inl (long_read bytes source prefix is.0, is.1)
 refused_pieces_whole bytes source r prefix (inr is) = subst (λ s. IsRefusedInPieces s r) (whole_read bytes source prefix is.0) (inr is)
+
+-- ---- exports and imports
+
+export_whole : (passes : List Pass) (bytes source text : List ℕ) → read source ≡ read bytes → IsExport passes source text → IsExport passes bytes text
+export_whole passes bytes source text same is = record { design = is.design; accepted = accepted_whole bytes source is.design same is.accepted; exported = is.exported }
+
+refused_export_whole : (passes : List Pass) (bytes source : List ℕ) (r : Refusal) → read source ≡ read bytes → IsRefusedExport passes source r → IsRefusedExport passes bytes r
+refused_export_whole passes bytes source r same (of_input x is) = of_input x (refused_in_again 0 bytes source x same is)
+refused_export_whole passes bytes source r same (of_made d e x accepted result is) = of_made d e x (accepted_whole bytes source d same accepted) result is
+
+import_whole : (passes : List Pass) (bytes source text : List ℕ) → source ≡ take read_limit bytes → IsImport passes source text → IsImport passes bytes text
+import_whole passes bytes source text prefix is = subst (λ s. IsImport passes s text) (whole_read bytes source prefix is.can.short) is
+
+refused_import_whole : (bytes source : List ℕ) (r : Refusal) → source ≡ take read_limit bytes → IsRefusedImport source r → IsRefusedImport bytes r
+refused_import_whole bytes source r prefix (of_many long) = of_many (long_read bytes source prefix long)
+refused_import_whole bytes source r prefix (of_line line fault short is) =
+    let same = whole_read bytes source prefix short in
+    of_line line fault (subst (λ s. length s ≤ text_limit) same short) (subst (λ s. IsFirstFault s line fault) same is)
 
 -- ---- checks
 
@@ -312,6 +330,8 @@ module _ (contents sources : List (List ℕ)) (are : sources ≡ prefixes conten
   text_whole (mlir passes) text is = reprint_whole passes (first_input contents) (first_input sources) text first_read is
   text_whole (mlir_pieces passes) text is = pieces_whole passes (first_input contents) (first_input sources) text inputs_prefix is
   text_whole (verilog passes options) text is = translation_whole passes options (first_input contents) (first_input sources) text first_read is
+  text_whole (aiger_export passes) text is = export_whole passes (first_input contents) (first_input sources) text first_read is
+  text_whole (aiger_import passes) text is = import_whole passes (first_input contents) (first_input sources) text inputs_prefix is
   text_whole (generated_summary seed count) text is = is
   text_whole (generated_verilog seed count) text is = is
   text_whole (comparison left right limit proof) text is = absurd is
@@ -322,6 +342,8 @@ module _ (contents sources : List (List ℕ)) (are : sources ≡ prefixes conten
   refusal_whole (mlir passes) r is = refused_in_again 0 (first_input contents) (first_input sources) r first_read is
   refusal_whole (mlir_pieces passes) r is = refused_pieces_whole (first_input contents) (first_input sources) r inputs_prefix is
   refusal_whole (verilog passes options) r is = refused_in_again 0 (first_input contents) (first_input sources) r first_read is
+  refusal_whole (aiger_export passes) r is = refused_export_whole passes (first_input contents) (first_input sources) r first_read is
+  refusal_whole (aiger_import passes) r is = refused_import_whole (first_input contents) (first_input sources) r inputs_prefix is
   refusal_whole (generated_summary seed count) r is = absurd is
   refusal_whole (generated_verilog seed count) r is = absurd is
   refusal_whole (comparison left right limit proof) r is = refused_pair_whole left right r is
@@ -344,6 +366,8 @@ module _ (contents sources : List (List ℕ)) (are : sources ≡ prefixes conten
   output_whole (mlir passes) verdict t is = given_whole (mlir passes) verdict t is
   output_whole (mlir_pieces passes) verdict t is = given_whole (mlir_pieces passes) verdict t is
   output_whole (verilog passes options) verdict t is = given_whole (verilog passes options) verdict t is
+  output_whole (aiger_export passes) verdict t is = given_whole (aiger_export passes) verdict t is
+  output_whole (aiger_import passes) verdict t is = given_whole (aiger_import passes) verdict t is
   output_whole (generated_summary seed count) verdict t is = given_whole (generated_summary seed count) verdict t is
   output_whole (generated_verilog seed count) verdict t is = given_whole (generated_verilog seed count) verdict t is
   output_whole proof_check verdict t is = given_whole proof_check verdict t is

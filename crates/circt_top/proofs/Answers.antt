@@ -5,7 +5,7 @@ use Rattle.hw_model.specs.Design.{Design}
 use Rattle.resolution_proof.specs.Formula.{Formula}
 use Rattle.resolution_proof.specs.declared.log.Step.{Step}
 use Rattle.command_line.specs.Line.{Work, proof_files, files_before}
-use Rattle.command_line.specs.Line.Work.{mlir, mlir_pieces, verilog, generated_summary, generated_verilog, comparison, proof_check, simulation}
+use Rattle.command_line.specs.Line.Work.{mlir, mlir_pieces, verilog, aiger_export, aiger_import, generated_summary, generated_verilog, comparison, proof_check, simulation}
 use Rattle.mlir_reader.specs.Reading.{read}
 use Rattle.op_verifier.specs.Faults.{first_fault}
 use Rattle.op_verifier.specs.Verdict.{IsAccepted, IsRefusal, unfit, recursive, too_large, cyclic}
@@ -23,6 +23,8 @@ use Rattle.circt_top.specs.Comparing.IsRefusedPair.{first as of_first, last as o
 use Rattle.circt_top.specs.Stops.{names_in}
 use Rattle.circt_top.proofs.Checks.{verified_unrefused}
 use Rattle.circt_top.proofs.Simulations.{run_unrefused, run_can_be}
+use Rattle.circt_top.proofs.Imports.{import_unrefused}
+use Rattle.circt_top.proofs.Exports.{export_unrefused, export_can_be}
 use Rattle.circt_top.specs.Outcome.{Verdict, Texts, alone, IsText, IsGiven, IsAnswer, IsAnswered}
 use Rattle.circt_top.specs.Outcome.Verdict.{given, different, unknown}
 use Rattle.circt_top.specs.Outcome.Answer.{prints, refuses}
@@ -81,6 +83,8 @@ pub answered_unrefused : (work : Work) (contents : List (List ℕ)) (r : Refusal
 answered_unrefused (mlir passes) contents r a is = unrefused_in 0 (first_input contents) a.0 r a.1 is
 answered_unrefused (mlir_pieces passes) contents r a is = pieces_unrefused (first_input contents) r a is
 answered_unrefused (verilog passes options) contents r a is = unrefused_in 0 (first_input contents) a.0 r a.1 is
+answered_unrefused (aiger_export passes) contents r a is = export_unrefused passes (first_input contents) r (unrefused_in 0 (first_input contents) a.design r a.accepted) a is
+answered_unrefused (aiger_import passes) contents r a is = import_unrefused (first_input contents) r a is
 answered_unrefused (generated_summary seed count) contents r a is = is
 answered_unrefused (generated_verilog seed count) contents r a is = is
 answered_unrefused (comparison left right limit proof) contents r a is = pair_unrefused left right contents r a is
@@ -93,6 +97,8 @@ text_answered (mlir passes) contents text is = (is.design, is.accepted)
 text_answered (mlir_pieces passes) contents text is =
     record { short = is.short; each = printed_accepted passes (pieces_of (first_input contents)) is.printed.texts is.printed.each }
 text_answered (verilog passes options) contents text is = (is.design, is.accepted)
+text_answered (aiger_export passes) contents text is = export_can_be passes (first_input contents) text is
+text_answered (aiger_import passes) contents text is = is.can
 text_answered (generated_summary seed count) contents text is = tt
 text_answered (generated_verilog seed count) contents text is = tt
 text_answered (comparison left right limit proof) contents text is = absurd is
@@ -109,6 +115,8 @@ pub made_answered : (work : Work) (contents : List (List ℕ)) (verdict : Verdic
 made_answered (mlir passes) contents verdict t is = given_answered (mlir passes) contents verdict t is
 made_answered (mlir_pieces passes) contents verdict t is = given_answered (mlir_pieces passes) contents verdict t is
 made_answered (verilog passes options) contents verdict t is = given_answered (verilog passes options) contents verdict t is
+made_answered (aiger_export passes) contents verdict t is = given_answered (aiger_export passes) contents verdict t is
+made_answered (aiger_import passes) contents verdict t is = given_answered (aiger_import passes) contents verdict t is
 made_answered (generated_summary seed count) contents verdict t is = tt
 made_answered (generated_verilog seed count) contents verdict t is = tt
 made_answered proof_check contents verdict t is = given_answered proof_check contents verdict t is
@@ -124,6 +132,8 @@ pub text_answers : (work : Work) (contents : List (List ℕ)) (text : List ℕ) 
 text_answers (mlir passes) contents text is = (refl, is)
 text_answers (mlir_pieces passes) contents text is = (refl, is)
 text_answers (verilog passes options) contents text is = (refl, is)
+text_answers (aiger_export passes) contents text is = (refl, is)
+text_answers (aiger_import passes) contents text is = (refl, is)
 text_answers (generated_summary seed count) contents text is = (refl, is)
 text_answers (generated_verilog seed count) contents text is = (refl, is)
 text_answers (comparison left right limit proof) contents text is = absurd is
@@ -148,6 +158,8 @@ pub files_named : (work : Work) (contents : List (List ℕ)) (verdict : Verdict)
 files_named (mlir passes) contents verdict t is = none_named t.files [] (given_files (mlir passes) contents verdict t is)
 files_named (mlir_pieces passes) contents verdict t is = none_named t.files [] (given_files (mlir_pieces passes) contents verdict t is)
 files_named (verilog passes options) contents verdict t is = none_named t.files [] (given_files (verilog passes options) contents verdict t is)
+files_named (aiger_export passes) contents verdict t is = none_named t.files [] (given_files (aiger_export passes) contents verdict t is)
+files_named (aiger_import passes) contents verdict t is = none_named t.files [] (given_files (aiger_import passes) contents verdict t is)
 files_named (generated_summary seed count) contents verdict t is = none_named t.files [] (given_files (generated_summary seed count) contents verdict t is)
 files_named (generated_verilog seed count) contents verdict t is = none_named t.files [] (given_files (generated_verilog seed count) contents verdict t is)
 files_named proof_check contents verdict t is = none_named t.files [] (given_files proof_check contents verdict t is)

@@ -8,6 +8,8 @@ mod Subjects
 pub mod Stops
 mod Checks
 mod Simulations
+mod Imports
+mod Exports
 mod Starving
 pub mod Answers
 pub mod Within

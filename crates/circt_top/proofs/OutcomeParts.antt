@@ -28,13 +28,13 @@ use Rattle.op_verifier.specs.Verdict.{IsAccepted}
 use Rattle.printing_laws.specs.Printable.{Printable}
 use Rattle.stored_form.specs.Canonical.{IsCanonical}
 use Rattle.mlir_printer.specs.Texts.{ir_text}
-use Rattle.circt_top.specs.Accepting.{Accepted, unaccepted}
+use Rattle.circt_top.specs.Accepting.{unaccepted}
 use Rattle.circt_top.specs.Accepting.{unread as unread_text}
 use Rattle.circt_top.specs.OutcomeParts.{IsTaken, IsPrinted, read_failure, verify_failure}
 use Rattle.circt_top.proofs.Partners.{partners}
 use Rattle.circt_top.proofs.SourceBehaviour.{partners_again, behaves_as_source}
 use Rattle.circt_top.specs.Translation.{IsTranslatedFrom, exported_passes}
-use Rattle.circt_top.specs.Reprint.{IsReprint, IsSaidAgain}
+use Rattle.circt_top.specs.Reprint.{IsReprintOf, IsSaidAgain}
 
 -- what the laws of the crates below say
 pub record PrintingLaws : Type 0 where
@@ -52,9 +52,9 @@ pub record DesignLaws : Type 0 where
 pub record ResultLaws : Type 0 where
   pub after : (passes : List Pass) (d e : Design) → IsAccepted d → Printable d → IsResult passes d e → IsAfter passes d e
 
-module _ (printing : PrintingLaws) (designs : DesignLaws) (results : ResultLaws) (source : List ℕ) (d : Design) (form : IsCanonical d) (accepted : Accepted source d) where
+module _ (printing : PrintingLaws) (designs : DesignLaws) (results : ResultLaws) (d : Design) (form : IsCanonical d) (accepted : IsAccepted d) where
   printable : Printable d
-  printable = printing.printable d accepted.accepted form
+  printable = printing.printable d accepted form
 
   said_again : (e : Design) → IsAccepted e → Printable e → IsSaidAgain e (ir_text e)
   said_again e fine shown =
@@ -69,18 +69,16 @@ module _ (printing : PrintingLaws) (designs : DesignLaws) (results : ResultLaws)
       }
 
   -- what passes make of an accepted design, printed, is a reprint
-  pub reprinted : (passes : List Pass) (text : List ℕ) → IsPrinted passes d text → IsReprint passes source text
+  pub reprinted : (passes : List Pass) (text : List ℕ) → IsPrinted passes d text → IsReprintOf passes d text
   reprinted passes text is =
-      let after : IsAfter passes d is.made = results.after passes d is.made accepted.accepted printable is.result in
+      let after : IsAfter passes d is.made = results.after passes d is.made accepted printable is.result in
       let again : IsSaidAgain is.made text = subst (IsSaidAgain is.made) (sym is.is) (said_again is.made after.accepted after.printable) in
       record {
-        design = d;
-        accepted = accepted;
         made = is.made;
         result = is.result;
-        partners = partners passes d is.made accepted.accepted after;
+        partners = partners passes d is.made accepted after;
         said_again = again;
-        partners_again = partners_again passes d is.made again.again (partners passes d is.made accepted.accepted after) again.same again.behaves;
+        partners_again = partners_again passes d is.made again.again (partners passes d is.made accepted after) again.same again.behaves;
         laid_out = is.is;
       }
 

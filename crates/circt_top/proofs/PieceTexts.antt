@@ -127,7 +127,7 @@ have_lines : (passes : List Pass) (ps : List Piece) (texts : List (List ℕ)) �
 have_lines passes [] [] h = tt
 have_lines passes [] (text ∷ texts) h = absurd h
 have_lines passes (p ∷ ps) [] h = tt
-have_lines passes (p ∷ ps) (text ∷ texts) h = (subst HasLines (sym h.0.laid_out) (text_has_lines h.0.made), have_lines passes ps texts h.1)
+have_lines passes (p ∷ ps) (text ∷ texts) h = (subst HasLines (sym h.0.reprinted.laid_out) (text_has_lines h.0.reprinted.made), have_lines passes ps texts h.1)
 
 printed_again : (passes : List Pass) (ps : List Piece) (text : List ℕ) → (first : Piece) × (others : List Piece) × (ps ≡ first ∷ others) → (h : ArePrinted passes ps text)
     → map (λ (p : Piece). p.bytes) (pieces_of text) ≡ h.texts

@@ -9,6 +9,9 @@ pub mod Words
 pub mod Comparing
 pub mod Checks
 pub mod Simulations
+pub mod AigerCauses
+pub mod Imports
+pub mod Exports
 pub mod Conclusions
 pub mod Outcome
 pub mod Delivery

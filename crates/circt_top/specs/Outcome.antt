@@ -5,7 +5,7 @@ use Rattle.hw_model.specs.Types.{Name}
 use Rattle.resolution_proof.specs.declared.log.Step.{Step}
 use Rattle.diag.specs.declared.refusal.Refusal.{Refusal}
 use Rattle.command_line.specs.Line.{Work}
-use Rattle.command_line.specs.Line.Work.{mlir, mlir_pieces, verilog, generated_summary, generated_verilog, comparison, proof_check, simulation}
+use Rattle.command_line.specs.Line.Work.{mlir, mlir_pieces, verilog, aiger_export, aiger_import, generated_summary, generated_verilog, comparison, proof_check, simulation}
 use Rattle.circt_top.specs.Accepting.{IsAcceptedText, IsRefusedIn, first_input}
 use Rattle.circt_top.specs.Reprint.{IsReprint}
 use Rattle.circt_top.specs.PieceReprint.{IsReprintOfPieces, IsRefusedInPieces, IsAcceptedInPieces}
@@ -14,6 +14,8 @@ use Rattle.circt_top.specs.Generation.{IsGenerated, IsSummary}
 use Rattle.circt_top.specs.Comparing.{IsSame, IsDifference, IsGivenUp, IsRefusedPair, CanBeCompared}
 use Rattle.circt_top.specs.Checks.{IsVerifiedProof, IsRefusedProof, CanBeVerified}
 use Rattle.circt_top.specs.Simulations.{IsRun, IsRefusedRun, CanBeRun}
+use Rattle.circt_top.specs.Imports.{IsImport, IsRefusedImport, CanBeImported}
+use Rattle.circt_top.specs.Exports.{IsExport, IsRefusedExport, CanBeExported}
 use Rattle.circt_top.specs.declared.made.FileText.{FileText}
 use Rattle.circt_top.specs.declared.made.ProofTexts.{ProofTexts}
 use Rattle.circt_top.specs.declared.made.Made.{Made}
@@ -48,6 +50,8 @@ abbrev pub IsText : Work → List (List ℕ) → List ℕ → Type 0
 IsText (mlir passes) contents text = IsReprint passes (first_input contents) text
 IsText (mlir_pieces passes) contents text = IsReprintOfPieces passes (first_input contents) text
 IsText (verilog passes options) contents text = IsTranslation passes options (first_input contents) text
+IsText (aiger_export passes) contents text = IsExport passes (first_input contents) text
+IsText (aiger_import passes) contents text = IsImport passes (first_input contents) text
 IsText (generated_summary seed count) contents text = IsSummary seed count text
 IsText (generated_verilog seed count) contents text = IsGenerated seed count text
 IsText (comparison left right limit proof) contents text = ⊥
@@ -59,6 +63,8 @@ abbrev pub IsRefusedBy : Work → List (List ℕ) → Refusal → Type 0
 IsRefusedBy (mlir passes) contents r = IsRefusedIn 0 (first_input contents) r
 IsRefusedBy (mlir_pieces passes) contents r = IsRefusedInPieces (first_input contents) r
 IsRefusedBy (verilog passes options) contents r = IsRefusedIn 0 (first_input contents) r
+IsRefusedBy (aiger_export passes) contents r = IsRefusedExport passes (first_input contents) r
+IsRefusedBy (aiger_import passes) contents r = IsRefusedImport (first_input contents) r
 IsRefusedBy (generated_summary seed count) contents r = ⊥
 IsRefusedBy (generated_verilog seed count) contents r = ⊥
 IsRefusedBy (comparison left right limit proof) contents r = IsRefusedPair left right contents r
@@ -86,12 +92,14 @@ abbrev pub IsAnswer : Work → List (List ℕ) → Answer → Type 0
 IsAnswer work contents (prints verdict t) = IsOutput work contents verdict t
 IsAnswer work contents (refuses r) = IsRefusedBy work contents r
 
--- the contents are accepted, as what the work takes; a generated design takes none; modules that are compared are
+-- the contents are accepted, as what the work takes; what passes make of a design is not refused by the AIGER format; a text in that format says a design; a generated design takes none; modules that are compared are
 -- there, and can be compared; a proof is one over the formula; a module that runs is there, with steps of it
 abbrev pub IsAnswered : Work → List (List ℕ) → Type 0
 IsAnswered (mlir passes) contents = IsAcceptedText (first_input contents)
 IsAnswered (mlir_pieces passes) contents = IsAcceptedInPieces (first_input contents)
 IsAnswered (verilog passes options) contents = IsAcceptedText (first_input contents)
+IsAnswered (aiger_export passes) contents = CanBeExported passes (first_input contents)
+IsAnswered (aiger_import passes) contents = CanBeImported (first_input contents)
 IsAnswered (generated_summary seed count) contents = Unit {0}
 IsAnswered (generated_verilog seed count) contents = Unit {0}
 IsAnswered (comparison left right limit proof) contents = CanBeCompared left right contents

@@ -77,6 +77,7 @@ op_in_whole p (op.Listed listed) = op.Listed listed
 op_in_whole p op.File = op.File
 op_in_whole p op.Check = op.Check
 op_in_whole p op.Sim = op.Sim
+op_in_whole p op.Aiger = op.Aiger
 op_in_whole p (op.Other at len) = op.Other (min (at + length p.before) (2 ^ 64 - 1)) len
 
 -- a refusal of a piece, as one of the whole text

@@ -1,4 +1,4 @@
--- What `opt` does with a text: a text of the design that passes make of the one that it says.
+-- Texts of what passes make of designs, and what `opt` does with a text: such a text of the design that it says.
 use Rattle.std.specs.Prelude.{◌≡◌, ℕ, ◌≤◌, List, length, Ok}
 use Rattle.wiring.specs.Wiring.{In}
 use Rattle.hw_model.specs.Design.{Module, Design, IsSameDesign}
@@ -23,16 +23,20 @@ pub record IsSaidAgain (d : Design) (text : List ℕ) : Type 0 where
   pub behaves : (m : Module) → In m d → Same (machine d m.symbol) (machine again m.symbol)
   pub read_again : length text ≤ text_limit → read text ≡ Ok again
 
--- the text is the input's design printed, as passes make it: the input is accepted, this is what they make of its design, each
--- public module of which has its partner there, and the text says that again
-pub record IsReprint (passes : List Pass) (bytes text : List ℕ) : Type 0 where
-  pub design : Design
-  pub accepted : Accepted bytes design
+-- the text is the design printed, as passes make it: this is what they make of the design, each public module of which has its
+-- partner there, and the text says that again
+pub record IsReprintOf (passes : List Pass) (design : Design) (text : List ℕ) : Type 0 where
   pub made : Design
   pub result : IsResult passes design made
   pub partners : HasPartners passes design made
   pub said_again : IsSaidAgain made text
-  -- each public module of the input has its partner in what the text says
+  -- each public module of the design has its partner in what the text says
   pub partners_again : HasPartners passes design said_again.again
   -- the text is laid out as `ir_text` says
   pub laid_out : text ≡ ir_text made
+
+-- the text is the input's design printed, as passes make it: the input is accepted
+pub record IsReprint (passes : List Pass) (bytes text : List ℕ) : Type 0 where
+  pub design : Design
+  pub accepted : Accepted bytes design
+  pub reprinted : IsReprintOf passes design text

@@ -4,10 +4,13 @@
 #![tactic(auto)]
 
 mod accepting;
+mod aiger_causes;
 mod checking;
 mod comparing;
 mod delivery;
+mod exporting;
 mod generation;
+mod importing;
 mod inputs;
 mod made;
 mod outcome;

@@ -4,7 +4,7 @@ ghost use Rattle.ir_store.specs.Designs.{design_of};
 ghost use Rattle.command_line.specs.Invocations.{work_of};
 ghost use Rattle.command_line.specs.Line.Work.{mlir, mlir_pieces, verilog};
 ghost use Rattle.circt_top.specs.Accepting.{Accepted, first_input};
-ghost use Rattle.circt_top.specs.Reprint.{IsReprint};
+ghost use Rattle.circt_top.specs.Reprint.{IsReprint, IsReprintOf};
 ghost use Rattle.circt_top.specs.Outcome.{Gives, GivesText};
 ghost use Rattle.circt_top.specs.OutcomeParts.{IsPrinted, IsFailOfPiece, GivesPieces};
 ghost use Rattle.circt_top.specs.PieceViews.{piece_of};
@@ -16,7 +16,9 @@ ghost use Rattle.mlir_syntax.specs.Stream.{refusal};
 use crate::accepting::accept;
 use crate::checking::check_proof;
 use crate::comparing::compare;
+use crate::exporting::export_whole;
 use crate::generation::{generate_verilog, summarise};
+use crate::importing::import_whole;
 use crate::made::{Finding, Made, OutcomeFail, first_input};
 use crate::pieces::{Piece, pieces_of};
 use crate::simulating::run_module;
@@ -53,6 +55,8 @@ pub(crate) fn outcome<'a, R: Threads + Sync, G: Gate + Copy + Send>(
         Work::Verilog(passes, options) => {
             without_finding(translate_whole(means, source, passes, *options))
         }
+        Work::ExportAiger(passes) => without_finding(export_whole(means, source, passes)),
+        Work::ImportAiger(passes) => without_finding(import_whole(means, source, passes)),
         Work::GeneratedSummary(recipe) => without_finding(summarise(means, *recipe)),
         Work::GeneratedVerilog(recipe) => without_finding(generate_verilog(means, *recipe)),
         Work::Verdict(pair) => compare(means.alloc, pair, sources),
@@ -192,6 +196,17 @@ fn reprint<R: Threads + Sync, G: Gate + Copy + Send>(
 ) -> Result<Text, AllocError>
     requires { Accepted source.now (design_of verified.design) }
     ensures { IfOk result (IsReprint passes.now source.now) }
+{
+    print_made(means, verified, passes)
+}
+
+/// The text of what passes make of an accepted design.
+pub(crate) fn print_made<R: Threads + Sync, G: Gate + Copy + Send>(
+    means: &Means<'_, R, G>,
+    verified: Verified,
+    passes: &Pipeline,
+) -> Result<Text, AllocError>
+    ensures { IfOk result (IsReprintOf passes.now (design_of verified.design)) }
 {
     results_follow();
     what_is_canonical_is_printable();

@@ -162,7 +162,7 @@ impl Piece<'_> {
                 at: at.saturating_add(self.before.len() as u64),
                 len,
             },
-            OpName::Listed(_) | OpName::File | OpName::Check | OpName::Sim => op,
+            OpName::Listed(_) | OpName::File | OpName::Check | OpName::Sim | OpName::Aiger => op,
         }
     }
 }

@@ -130,7 +130,7 @@ fn within(op: OpName, source: &[u8]) -> OpName
                 len: len.min(size - start),
             }
         }
-        OpName::Listed(_) | OpName::File | OpName::Check | OpName::Sim => op,
+        OpName::Listed(_) | OpName::File | OpName::Check | OpName::Sim | OpName::Aiger => op,
     }
 }
 

@@ -70,7 +70,9 @@ const PASSES_ON_OFFER: [Pass; 6] = [
 /// `translate [FILE] --export-verilog [-o FILE]` prints it as Verilog, each of the design that the
 /// passes of `--canonicalize`, `--cse`, `--seq-lower-regs`, `--hw-flatten-modules`, `--symbol-dce` or of
 /// `--pass-pipeline=TEXT` make, if it is given, by `--workers N` workers (1 to 64; 4 where nothing is said, one with
-/// `--mlir-disable-threading`). With `--lowering-options=implicitExtension` Verilog has zero extensions as their operand alone where
+/// `--mlir-disable-threading`). `translate [FILE] --import-aiger [-o FILE]` reads a text in the AIGER format and prints what such passes make
+/// of the design that it says as MLIR text. `translate [FILE] --export-aiger [-o FILE]` prints a text in the AIGER format of the one public module of what
+/// such passes make of the design of FILE. With `--lowering-options=implicitExtension` Verilog has zero extensions as their operand alone where
 /// the context gives the full width. `opt --split-input-file` prints the MLIR text of each
 /// piece of FILE between the lines that are `// -----`, and joins the texts by such lines.
 /// `gen SEED N [--verilog] [-o FILE]` prints a summary, or the Verilog, of a design of N modules (1 to 10,000) that is generated from

@@ -1,4 +1,5 @@
 //! What `gen` prints: summaries, Verilog, and what its words and a failing output answer.
+use crate::cuts::first_other_cut;
 use crate::groups::{Group, USAGE, first_other};
 use crate::runs::{Failing, run_long};
 use io_edge::memory_sink::MemorySink;
@@ -185,33 +186,6 @@ fn is_summed_up(rt: &(impl Threads + Sync + AllocGlobal)) -> Result<bool, AllocE
 /// Words that print a text of several pieces.
 const LONG_TEXT: &str = "gen 7 24 --verilog --workers 1";
 
-/// How many bytes a piece of a text has.
-const PIECE: usize = 4096;
-
-// Whether of a text just the pieces before one go out, where that one fails.
-fn is_cut_at(
-    rt: &(impl Threads + Sync + AllocGlobal),
-    text: &[u8],
-    piece: usize,
-) -> Result<bool, AllocError> {
-    let run = run_long(rt, LONG_TEXT, "", &[piece as u64])?;
-    Ok(run.code == 6 && text.get(..piece.saturating_mul(PIECE)) == Some(run.out.contents()))
-}
-
-// The first piece of a long text before which other bytes go out where it fails. A text of one piece has none that is right.
-fn first_other_cut(rt: &(impl Threads + Sync + AllocGlobal)) -> Result<Option<usize>, AllocError> {
-    let Some(whole) = long_output(rt, LONG_TEXT)? else {
-        return Ok(Some(0));
-    };
-    let count = whole.contents().len().div_ceil(PIECE);
-    for piece in 0..count {
-        if count == 1 || !is_cut_at(rt, whole.contents(), piece)? {
-            return Ok(Some(piece));
-        }
-    }
-    Ok(None)
-}
-
 #[test]
 fn a_summary_has_five_lines(rt: HostRuntime) -> Result<(), Fail> {
     assert!(rt; is_summed_up(&rt)?);
@@ -232,7 +206,7 @@ fn workers_change_no_verilog(rt: HostRuntime) -> Result<(), Fail> {
 
 #[test]
 fn a_prefix_goes_out_where_the_output_fails(rt: HostRuntime) -> Result<(), Fail> {
-    assert_eq!(rt; first_other_cut(&rt)?, None);
+    assert_eq!(rt; first_other_cut(&rt, LONG_TEXT, "")?, None);
     Ok(())
 }
 

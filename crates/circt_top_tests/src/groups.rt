@@ -10,6 +10,9 @@ pub const USAGE: &str = "circt: usage: bad arguments\n";
 /// That on a `translate` without a translation.
 pub const UNNAMED: &str = "circt: usage: no translation named\n";
 
+/// That on a `translate` with more than one.
+pub const TWO_NAMED: &str = "circt: usage: two translations named\n";
+
 /// That on the text `foo`.
 pub const REFUSED: &str = "<stdin>:1:1: error: 'foo' S3: unknown operation\n";
 

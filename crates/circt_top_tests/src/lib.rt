@@ -1,8 +1,12 @@
-//! Tests of the whole program, on files and sinks in memory: words, pipelines, faults, limits, generated designs, and large arrays. Commands of
-//! two files are tested in `two_file_tests`. What is printed of each form of text, what `lec` says of two modules, and how designs and their
-//! Verilog run is checked by the crate `circt_examples`.
+//! Tests of the whole program, on files and sinks in memory: words, pipelines, faults, limits, generated designs, large arrays, and texts in the
+//! AIGER format. Commands of two files are tested in `two_file_tests`. What is printed of each form of text, what `lec` says of two modules, and
+//! how designs and their Verilog run is checked by the crate `circt_examples`.
 #![tactic(auto)]
 
+#[cfg(test)]
+mod aiger;
+#[cfg(test)]
+mod cuts;
 #[cfg(test)]
 mod generation;
 #[cfg(test)]

@@ -167,11 +167,12 @@ fn sizes_are_told_exactly(rt: HostRuntime) -> Result<(), Fail> {
 }
 
 /// Commands on a text with a module that has two instances of the one before, thirty times; the 26th is the first that is too large.
-const COMMANDS: [&str; 5] = [
+const COMMANDS: [&str; 6] = [
     "opt",
     "opt --split-input-file",
     "opt --hw-flatten-modules",
     "translate --export-verilog",
+    "translate --export-aiger",
     "lec - -c1 M30 -c2 M30",
 ];
 
@@ -188,9 +189,12 @@ fn a_design_that_is_too_large_is_refused_by_all(rt: HostRuntime) -> Result<(), F
 // A text one byte longer than a text may be is refused without reading more.
 #[test]
 fn a_text_that_is_too_long_is_refused(rt: HostRuntime) -> Result<(), Fail> {
-    let text = vec![in rt.alloc(); b' '; (1usize << 26) + 1]?;
+    let bytes = vec![in rt.alloc(); b' '; (1usize << 26) + 1]?;
+    let text = str::from_utf8(bytes.as_slice())?;
     let message = "<stdin>:1:1: error: 'builtin.module' S7: text too long\n";
-    assert!(rt; ends_with(&rt, str::from_utf8(text.as_slice())?, 1, message)?);
+    assert!(rt; ends_with(&rt, text, 1, message)?);
+    let import = run_words(&rt, "translate --import-aiger", text, Failing::No)?;
+    assert!(rt; import.is(1, "", "<stdin>:1:1: error: 'aiger' S7: text too long\n"));
     Ok(())
 }
 

@@ -1,5 +1,5 @@
 //! What words, files and failing reads and writes answer.
-use crate::groups::{Group, REFUSED, UNNAMED, USAGE, first_other};
+use crate::groups::{Group, REFUSED, TWO_NAMED, UNNAMED, USAGE, first_other};
 use crate::runs::{ADDER, ADDER_PRINTED, ADDER_VERILOG, Failing};
 use std::test::Fail;
 
@@ -8,7 +8,7 @@ const REFUSED_FILE: &str = "a.mlir:1:1: error: 'foo' S3: unknown operation\n";
 const READ_FAULT: &str = "circt: cannot read b.mlir\n";
 
 // Words that are no command.
-const BAD: [&str; 37] = [
+const BAD: [&str; 41] = [
     "",
     "help",
     "--help",
@@ -43,6 +43,10 @@ const BAD: [&str; 37] = [
     "translate a.mlir x.v --export-verilog",
     "translate --passes=cse",
     "translate --export-verilog --split-input-file",
+    "translate --import-aiger=x",
+    "translate --export-aiger --export-aiger",
+    "translate --import-aiger --split-input-file",
+    "opt --import-aiger",
     "--export-verilog translate",
     "--export-verilog",
     "a.mlir",
@@ -67,7 +71,7 @@ const EXTENSION_BARE: &str = "module Sum(
 endmodule
 ";
 
-const GROUPS: [Group; 25] = [
+const GROUPS: [Group; 26] = [
     // Verilog is written as an option says that is known
     Group {
         words: &[
@@ -119,6 +123,22 @@ const GROUPS: [Group; 25] = [
         code: 2,
         out: "",
         err: UNNAMED,
+        file: "x.v",
+        text: "old",
+    },
+    // no two of them are
+    Group {
+        words: &[
+            "translate --export-verilog --export-aiger",
+            "translate a.mlir --import-aiger -export-verilog",
+            "translate --import-aiger --export-aiger -o x.v --lowering-options=explicit",
+            "translate b.mlir --export-aiger --import-aiger --export-verilog --pass-pipeline=cse",
+        ],
+        input: ADDER,
+        failing: Failing::No,
+        code: 2,
+        out: "",
+        err: TWO_NAMED,
         file: "x.v",
         text: "old",
     },

@@ -12,8 +12,16 @@ abbrev pub output_rule : Rule
 output_rule = record (new_rule (codes "output")) { short = Some 111 }
 
 -- `--export-verilog`
-abbrev pub export_rule : Rule
-export_rule = record (new_rule (codes "export-verilog")) { long = Some (codes "export-verilog"); action = Some SetTrue }
+abbrev pub export_verilog_rule : Rule
+export_verilog_rule = record (new_rule (codes "export-verilog")) { long = Some (codes "export-verilog"); action = Some SetTrue }
+
+-- `--export-aiger`
+abbrev pub export_aiger_rule : Rule
+export_aiger_rule = record (new_rule (codes "export-aiger")) { long = Some (codes "export-aiger"); action = Some SetTrue }
+
+-- `--import-aiger`
+abbrev pub import_aiger_rule : Rule
+import_aiger_rule = record (new_rule (codes "import-aiger")) { long = Some (codes "import-aiger"); action = Some SetTrue }
 
 -- `--pass-pipeline=TEXT`
 abbrev pub pipeline_rule : Rule
@@ -89,9 +97,13 @@ with_common a = with_workers (with_rule (with_rule (with_rule (with_rule a file_
 abbrev pub opt_app : App
 opt_app = with_rule (with_common (new_app (codes "opt"))) split_rule
 
--- `translate [FILE] --export-verilog [-o FILE] [--pass-pipeline=TEXT] [--workers N] [--mlir-disable-threading] [--lowering-options=TEXT]`
+-- with `[--export-verilog] [--export-aiger] [--import-aiger]`
+abbrev pub with_translations : App → App
+with_translations a = with_rule (with_rule (with_rule a export_verilog_rule) export_aiger_rule) import_aiger_rule
+
+-- `translate [FILE] TRANSLATION [-o FILE] [--pass-pipeline=TEXT] [--workers N] [--mlir-disable-threading] [--lowering-options=TEXT]`
 abbrev pub translate_app : App
-translate_app = with_rule (with_rule (with_common (new_app (codes "translate"))) export_rule) options_rule
+translate_app = with_rule (with_translations (with_common (new_app (codes "translate")))) options_rule
 
 -- `gen SEED N [--verilog] [-o FILE] [--workers N]`
 abbrev pub gen_app : App

@@ -4,11 +4,11 @@ use Rattle.clap.specs.Words.{Kinds}
 use Rattle.pass_pipeline.specs.declared.pass.Pass.{Pass}
 use Rattle.command_line.specs.Line as line
 use Rattle.command_line.specs.Line.{Command}
-use Rattle.command_line.specs.Line.Work.{mlir, mlir_pieces, verilog, generated_summary, generated_verilog, comparison, proof_check, simulation}
+use Rattle.command_line.specs.Line.Work.{mlir, mlir_pieces, verilog, aiger_export, aiger_import, generated_summary, generated_verilog, comparison, proof_check, simulation}
 use Rattle.command_line.specs.declared.usage.UsageKind.{UsageKind}
 use Rattle.command_line.specs.declared.usage.UsageKind.TheVariants.{Words}
 use Rattle.command_line.specs.declared.invocation.Work.{Work}
-use Rattle.command_line.specs.declared.invocation.Work.TheVariants.{Mlir, MlirPieces, Verilog, GeneratedSummary, GeneratedVerilog, Verdict, ProofCheck, Simulation}
+use Rattle.command_line.specs.declared.invocation.Work.TheVariants.{Mlir, MlirPieces, Verilog, ExportAiger, ImportAiger, GeneratedSummary, GeneratedVerilog, Verdict, ProofCheck, Simulation}
 use Rattle.command_line.specs.declared.invocation.Invocation.{Invocation}
 use Rattle.command_line.specs.declared.invocation.LineFail.{LineFail}
 use Rattle.command_line.specs.declared.invocation.LineFail.TheVariants.{Usage, NoMemory}
@@ -17,6 +17,8 @@ abbrev pub work_of : Work → line.Work
 work_of (Mlir passes) = mlir passes
 work_of (MlirPieces passes) = mlir_pieces passes
 work_of (Verilog passes lowering) = verilog passes lowering
+work_of (ExportAiger passes) = aiger_export passes
+work_of (ImportAiger passes) = aiger_import passes
 work_of (GeneratedSummary recipe) = generated_summary recipe.seed recipe.count
 work_of (GeneratedVerilog recipe) = generated_verilog recipe.seed recipe.count
 work_of (Verdict pair) = comparison (string_bytes pair.left) (string_bytes pair.right) pair.conflict_limit (option_map (λ p. string_bytes p.proof) pair.proof)

@@ -13,11 +13,13 @@ use Rattle.pass_pipeline.specs.declared.pipeline.PipelineFail.TheVariants.{Unkno
 use Rattle.command_line.specs.Normal.{normal}
 use Rattle.command_line.specs.Commands.{circt_app}
 use Rattle.command_line.specs.Numbers.{number_between}
+use Rattle.command_line.specs.declared.translations.Translation.{Translation}
+use Rattle.command_line.specs.declared.translations.Translation.TheVariants.{ToVerilog, ToAiger, FromAiger}
 use Rattle.command_line.specs.declared.usage.UsageKind.{UsageKind}
-use Rattle.command_line.specs.declared.usage.UsageKind.TheVariants.{Words, TwoPipelines, NoTranslation, Pipeline, Lowering as UnknownLowering, StdinTwice}
+use Rattle.command_line.specs.declared.usage.UsageKind.TheVariants.{Words, TwoPipelines, NoTranslation, TwoTranslations, Pipeline, Lowering as UnknownLowering, StdinTwice}
 
--- what is made of the inputs: MLIR text, or Verilog written in one of two ways, of the design that passes make of the one that is read; or MLIR text of the
--- designs that they make of those of the pieces of an input; or, without an input, a summary, or Verilog, of the design that is
+-- what is made of the inputs: MLIR text, or Verilog written in one of two ways, or a text in the AIGER format, of the design that passes make of the one
+-- that is read; or MLIR text of the design that they make of the one that a text in the AIGER format says; or MLIR text of the designs that they make of those of the pieces of an input; or, without an input, a summary, or Verilog, of the design that is
 -- generated from a seed with so many modules; or a verdict on the module of a name of the first input and that of another of the last one,
 -- with so many learnt clauses at most, and a proof of it in the file of a name where one is given; or a verdict on the proof that is the
 -- second input, of the formula that is the first; or the outputs of a run of the module of a name of the first input, by the steps of the second
@@ -25,6 +27,8 @@ pub data Work : Type 0 where
   mlir : List Pass → Work
   mlir_pieces : List Pass → Work
   verilog : List Pass → Lowering → Work
+  aiger_export : List Pass → Work
+  aiger_import : List Pass → Work
   generated_summary : ℕ → ℕ → Work
   generated_verilog : ℕ → ℕ → Work
   comparison : Text → Text → ℕ → Option Text → Work
@@ -139,15 +143,44 @@ abbrev pub lowering_in : Option Text → Option Lowering
 lowering_in None = Some Plain
 lowering_in (Some text) = lowering_named text
 
--- Verilog of what passes make, written in this way, or no such way is known
-abbrev pub on_lowering : List Pass → Option Lowering → Result Work UsageKind
-on_lowering passes None = Err UnknownLowering
-on_lowering passes (Some lowering) = Ok (verilog passes lowering)
+-- the translation that is named: to Verilog, to the AIGER format or from it; just one may be
+abbrev pub translation_by : Bool → Bool → Bool → Result Translation UsageKind
+translation_by false false false = Err NoTranslation
+translation_by true false false = Ok ToVerilog
+translation_by false true false = Ok ToAiger
+translation_by false false true = Ok FromAiger
+translation_by true true from_aiger = Err TwoTranslations
+translation_by true false true = Err TwoTranslations
+translation_by false true true = Err TwoTranslations
 
--- the work of `translate`: a bad pipeline is wrong before a way that is not known
-abbrev pub verilog_work : Option Lowering → Result (List Pass) UsageKind → Result Work UsageKind
-verilog_work lowering (Ok ps) = on_lowering ps lowering
-verilog_work lowering (Err kind) = Err kind
+-- the translation that flags name
+abbrev pub translation_in : List Row → Result Translation UsageKind
+translation_in rows = translation_by (is_flagged (codes "export-verilog") rows) (is_flagged (codes "export-aiger") rows) (is_flagged (codes "import-aiger") rows)
+
+-- a translation after passes; the way in which Verilog is written matters to Verilog alone
+abbrev pub translated : Translation → List Pass → Lowering → Work
+translated ToVerilog passes lowering = verilog passes lowering
+translated ToAiger passes lowering = aiger_export passes
+translated FromAiger passes lowering = aiger_import passes
+
+-- the same, or no such way of writing Verilog is known
+abbrev pub on_lowering : Translation → List Pass → Option Lowering → Result Work UsageKind
+on_lowering t passes None = Err UnknownLowering
+on_lowering t passes (Some lowering) = Ok (translated t passes lowering)
+
+-- a bad pipeline is wrong before a way that is not known
+abbrev pub translated_work : Translation → Option Lowering → Result (List Pass) UsageKind → Result Work UsageKind
+translated_work t lowering (Ok ps) = on_lowering t ps lowering
+translated_work t lowering (Err kind) = Err kind
+
+-- the work of a translation, if just one is named
+abbrev pub on_translation : Option Lowering → Result (List Pass) UsageKind → Result Translation UsageKind → Result Work UsageKind
+on_translation lowering passes (Ok t) = translated_work t lowering passes
+on_translation lowering passes (Err kind) = Err kind
+
+-- the work of `translate`
+abbrev pub translate_work : List Pass → List Row → Result Work UsageKind
+translate_work offered rows = on_translation (lowering_in (first_of (codes "lowering-options") rows)) (passes_in offered rows) (translation_in rows)
 
 -- the number from one to another that an argument says
 abbrev pub number_in : ℕ → ℕ → Option Text → Option ℕ
@@ -206,14 +239,13 @@ check_work rows = cond (is_stdin_twice rows) (Err StdinTwice) (Ok proof_check)
 abbrev pub sim_work : List Row → Result Work UsageKind
 sim_work rows = cond (is_stdin_twice rows) (Err StdinTwice) (Ok (simulation (name_in (first_of (codes "top") rows))))
 
--- the work of a command that takes passes: passes given in two ways are wrong first, then a missing translation, then a bad pipeline, then
--- a way of writing Verilog that is not known
+-- the work of a command that takes passes: passes given in two ways are wrong first, then a missing translation, then two of them, then a bad
+-- pipeline, then a way of writing Verilog that is not known
 abbrev pub passes_work : List Pass → Text → List Row → Result Work UsageKind
 passes_work offered name rows =
     cond (is_given_twice rows) (Err TwoPipelines)
     (cond (bytes_eq name (codes "opt")) (on_passes (mlir_work (is_flagged (codes "split-input-file") rows)) (passes_in offered rows))
-    (cond (is_flagged (codes "export-verilog") rows)
-    (verilog_work (lowering_in (first_of (codes "lowering-options") rows)) (passes_in offered rows)) (Err NoTranslation)))
+    (translate_work offered rows))
 
 -- the work of a command of this name
 abbrev pub work_in : List Pass → Text → List Row → Result Work UsageKind

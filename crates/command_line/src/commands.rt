@@ -67,8 +67,22 @@ const SPLIT: Argument = Argument {
 };
 
 // `[--export-verilog]`
-const EXPORT: Argument = Argument {
+const EXPORT_VERILOG: Argument = Argument {
     id: "export-verilog",
+    form: Form::Flag,
+    is_required: false,
+};
+
+// `[--export-aiger]`
+const EXPORT_AIGER: Argument = Argument {
+    id: "export-aiger",
+    form: Form::Flag,
+    is_required: false,
+};
+
+// `[--import-aiger]`
+const IMPORT_AIGER: Argument = Argument {
+    id: "import-aiger",
     form: Form::Flag,
     is_required: false,
 };
@@ -165,7 +179,16 @@ const SUBCOMMANDS: [Subcommand; 6] = [
     Subcommand {
         name: "translate",
         arguments: &[
-            FILE, OUTPUT, PIPELINE, PASSES, WORKERS, THREADING, EXPORT, LOWERING,
+            FILE,
+            OUTPUT,
+            PIPELINE,
+            PASSES,
+            WORKERS,
+            THREADING,
+            EXPORT_VERILOG,
+            EXPORT_AIGER,
+            IMPORT_AIGER,
+            LOWERING,
         ],
     },
     Subcommand {

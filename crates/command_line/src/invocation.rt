@@ -5,14 +5,15 @@ ghost use Rattle.clap.specs.Words.{found_of, rows_of, first_of, fault_of, subcom
 ghost use Rattle.pass_pipeline.specs.Pipelines.{passes};
 ghost use Rattle.command_line.specs.Commands.{circt_app};
 ghost use Rattle.command_line.specs.Making.{IsMade};
-ghost use Rattle.command_line.specs.Line.{line, parse, require_subcommand, with_files, on_passes, on_lowering, inputs_in, output_in, items_text, in_items, in_pipeline, in_list};
-ghost use Rattle.command_line.specs.Line.{passes_in, mlir_work, generated_work, gen_work, second_in, lec_work, check_work, sim_work, verilog_work, lowering_in, passes_work, work_in, is_flagged, command_in};
+ghost use Rattle.command_line.specs.Line.{line, parse, require_subcommand, with_files, on_passes, on_lowering, translated, translated_work, translate_work, inputs_in, output_in, items_text, in_items, in_pipeline, in_list};
+ghost use Rattle.command_line.specs.Line.{passes_in, mlir_work, generated_work, gen_work, second_in, lec_work, check_work, sim_work, lowering_in, passes_work, work_in, is_flagged, command_in};
 ghost use Rattle.command_line.specs.Invocations.{work_of, Says, SaysWork, SaysPasses, IsFault};
 
 use crate::commands::circt_command;
 use crate::comparison::{Comparison, ProofFiles};
 use crate::normalise::{WordsFail, normalise};
 use crate::recipe::Recipe;
+use crate::translations::{Translation, translation_in};
 use crate::usage::UsageKind;
 use crate::values::{
     input_in, is_flagged, is_given_twice, is_stdin_twice, limit_in, lowering_in, name_in,
@@ -38,6 +39,10 @@ pub enum Work {
     MlirPieces(Pipeline),
     /// Verilog of the design that these passes make, written in this way.
     Verilog(Pipeline, Lowering),
+    /// A text in the AIGER format of the design that these passes make.
+    ExportAiger(Pipeline),
+    /// MLIR text of the design that these passes make of the one that a text in the AIGER format says.
+    ImportAiger(Pipeline),
     /// A summary of the design that is generated from this recipe.
     GeneratedSummary(Recipe),
     /// Verilog of the design that is generated from this recipe.
@@ -89,7 +94,7 @@ impl From<AllocError> for LineFail {
 /// number of workers is none of 1 to 64 in decimal digits without a leading zero, or the seed of `gen` none
 /// of 0 to 4294967295, or its number of modules none of 1 to 10000, or the conflict limit of `lec` none of
 /// 1 to 18446744073709551615; passes
-/// are given both by flags and by a pipeline, no translation is named, the text of a pipeline is
+/// are given both by flags and by a pipeline, no translation is named, more than one is, the text of a pipeline is
 /// none, no way of writing Verilog has the name that is given; `lec`, `check` or `sim` names standard input twice.
 pub fn read_words(alloc: Global, words: &[String], offered: &[Pass]) -> Result<Invocation, LineFail>
     ensures { Says (line offered.now (map string_bytes words.now)) result }
@@ -352,10 +357,7 @@ fn passes_work(
     if name == "opt" {
         return opt_work(alloc, matches, offered);
     }
-    if is_flagged(matches, "export-verilog") {
-        return verilog_work(alloc, matches, offered);
-    }
-    Err(LineFail::Usage(UsageKind::NoTranslation))
+    translate_work(alloc, matches, offered)
 }
 
 /// The work of `opt`.
@@ -368,23 +370,57 @@ fn opt_work(alloc: Global, matches: &ArgMatches<'_>, offered: &[Pass]) -> Result
     }
 }
 
-/// The work of `translate` to Verilog.
-fn verilog_work(alloc: Global, matches: &ArgMatches<'_>, offered: &[Pass]) -> Result<Work, LineFail>
-    ensures { SaysWork (verilog_work (lowering_in (first_of (codes "lowering-options") (rows_of (found_of matches.now)))) (passes_in offered.now (rows_of (found_of matches.now)))) result }
+/// The work of `translate`.
+fn translate_work(
+    alloc: Global,
+    matches: &ArgMatches<'_>,
+    offered: &[Pass],
+) -> Result<Work, LineFail>
+    ensures { SaysWork (translate_work offered.now (rows_of (found_of matches.now))) result }
+{
+    match translation_in(matches) {
+        Ok(translation) => translated_work(alloc, matches, offered, translation),
+        Err(kind) => Err(LineFail::Usage(kind)),
+    }
+}
+
+/// The work of this translation.
+fn translated_work(
+    alloc: Global,
+    matches: &ArgMatches<'_>,
+    offered: &[Pass],
+    translation: Translation,
+) -> Result<Work, LineFail>
+    ensures { SaysWork (translated_work translation (lowering_in (first_of (codes "lowering-options") (rows_of (found_of matches.now)))) (passes_in offered.now (rows_of (found_of matches.now)))) result }
 {
     match passes_in(alloc, matches, offered) {
-        Ok(passes) => verilog_of(passes, lowering_in(matches)),
+        Ok(passes) => on_lowering(translation, passes, lowering_in(matches)),
         Err(fail) => Err(fail),
     }
 }
 
-/// Verilog of what passes make, written in this way, if it is known.
-fn verilog_of(passes: Pipeline, lowering: Option<Lowering>) -> Result<Work, LineFail>
-    ensures { SaysWork (on_lowering passes lowering) result }
+/// A translation of what passes make, where the way in which Verilog is written is known.
+fn on_lowering(
+    translation: Translation,
+    passes: Pipeline,
+    lowering: Option<Lowering>,
+) -> Result<Work, LineFail>
+    ensures { SaysWork (on_lowering translation passes lowering) result }
 {
     match lowering {
-        Some(lowering) => Ok(Work::Verilog(passes, lowering)),
+        Some(lowering) => Ok(translated(translation, passes, lowering)),
         None => Err(LineFail::Usage(UsageKind::Lowering)),
+    }
+}
+
+/// A translation of what passes make. The way in which Verilog is written matters to Verilog alone.
+fn translated(translation: Translation, passes: Pipeline, lowering: Lowering) -> Work
+    ensures { work_of result ≡ translated translation passes lowering }
+{
+    match translation {
+        Translation::ToVerilog => Work::Verilog(passes, lowering),
+        Translation::ToAiger => Work::ExportAiger(passes),
+        Translation::FromAiger => Work::ImportAiger(passes),
     }
 }
 
@@ -459,7 +495,11 @@ fn inputs_in(
     let mut inputs = Vec::new(alloc);
     match work {
         Work::GeneratedSummary(_) | Work::GeneratedVerilog(_) => {}
-        Work::Mlir(_) | Work::MlirPieces(_) | Work::Verilog(_, _) => {
+        Work::Mlir(_)
+        | Work::MlirPieces(_)
+        | Work::Verilog(_, _)
+        | Work::ExportAiger(_)
+        | Work::ImportAiger(_) => {
             inputs.push(String::from_str(alloc, input_in(matches))?)?;
         }
         Work::Verdict(_) | Work::ProofCheck | Work::Simulation(_) => {

@@ -8,6 +8,7 @@ pub mod invocation;
 pub mod normalise;
 mod numbers;
 pub mod recipe;
+pub mod translations;
 pub mod usage;
 mod values;
 pub mod workers;

@@ -13,6 +13,8 @@ pub enum UsageKind {
     TwoPipelines,
     /// No translation is named.
     NoTranslation,
+    /// More than one translation is named.
+    TwoTranslations,
     /// The text of a pipeline is none. Offsets count its bytes.
     Pipeline(PipelineFail),
     /// No way of writing Verilog has the name that is given.
@@ -31,6 +33,7 @@ impl UsageKind {
             UsageKind::Words => b"bad arguments",
             UsageKind::TwoPipelines => b"passes given in two ways",
             UsageKind::NoTranslation => b"no translation named",
+            UsageKind::TwoTranslations => b"two translations named",
             UsageKind::Pipeline(PipelineFail::UnknownPass(_)) => b"unknown pass",
             UsageKind::Pipeline(PipelineFail::WrongPlace(_)) => b"pass in the wrong place",
             UsageKind::Pipeline(PipelineFail::BadText(_)) => b"bad pipeline text",
@@ -44,7 +47,10 @@ impl UsageKind {
         ensures { result ≡ offset_of self }
     {
         match self {
-            UsageKind::Words | UsageKind::TwoPipelines | UsageKind::NoTranslation => None,
+            UsageKind::Words
+            | UsageKind::TwoPipelines
+            | UsageKind::NoTranslation
+            | UsageKind::TwoTranslations => None,
             UsageKind::Pipeline(
                 PipelineFail::UnknownPass(at)
                 | PipelineFail::WrongPlace(at)

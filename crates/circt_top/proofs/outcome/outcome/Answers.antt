@@ -1,5 +1,5 @@
 use Rattle.std.proofs.Common.{sym, subst, string_bytes}
-use Rattle.command_line.specs.Line.Work.{mlir, mlir_pieces, verilog, generated_summary, generated_verilog, proof_check, simulation}
+use Rattle.command_line.specs.Line.Work.{mlir, mlir_pieces, verilog, aiger_export, aiger_import, generated_summary, generated_verilog, proof_check, simulation}
 use Rattle.command_line.specs.Invocations.{work_of}
 use Rattle.command_line.specs.declared.invocation.Work.{Work}
 use Rattle.circt_top.specs.Outcome.{Gives}
@@ -19,6 +19,16 @@ pub returns-in-Verilog : goal.returns-in-Verilog
 returns-in-Verilog g c =
     subst (λ (w : Work). Gives (work_of w) c.args.sources.now c.without_finding-in-Verilog.result) (sym c.in-Verilog.is)
     (c.without_finding-in-Verilog.ensures (verilog c.in-Verilog.passes c.in-Verilog.options) c.args.sources.now (c.translate_whole.ensures c.args.sources.now (sym c.first_input-source.ensures)))
+
+pub returns-in-ExportAiger : goal.returns-in-ExportAiger
+returns-in-ExportAiger g c =
+    subst (λ (w : Work). Gives (work_of w) c.args.sources.now c.without_finding-in-ExportAiger.result) (sym c.in-ExportAiger.is)
+    (c.without_finding-in-ExportAiger.ensures (aiger_export c.in-ExportAiger.passes) c.args.sources.now (c.export_whole.ensures c.args.sources.now (sym c.first_input-source.ensures)))
+
+pub returns-in-ImportAiger : goal.returns-in-ImportAiger
+returns-in-ImportAiger g c =
+    subst (λ (w : Work). Gives (work_of w) c.args.sources.now c.without_finding-in-ImportAiger.result) (sym c.in-ImportAiger.is)
+    (c.without_finding-in-ImportAiger.ensures (aiger_import c.in-ImportAiger.passes) c.args.sources.now (c.import_whole.ensures c.args.sources.now (sym c.first_input-source.ensures)))
 
 pub returns-in-GeneratedSummary : goal.returns-in-GeneratedSummary
 returns-in-GeneratedSummary g c =
