@@ -48,6 +48,12 @@ LINES = [
     ("lec equivalence.mlir -c1 p -c2 q --proof made", None),
     ("sim two_registers.mlir steps --top Two", None),
     ("sim two_registers.mlir bad_steps --top Two", None),
+    ("translate --export-aiger --workers 1", "adder.mlir"),
+    ("translate --export-aiger --canonicalize --workers 1 two_registers.mlir -o made.aag", None),
+    ("translate --export-aiger equivalence.mlir", None),
+    ("translate --import-aiger --workers 1 register.aag", None),
+    ("translate --import-aiger --canonicalize --workers 1 register.aag -o made.mlir", None),
+    ("translate --import-aiger adder.mlir", None),
     ("gen 7 3 --workers 1", None),
     ("gen 7 3 --verilog --workers 1 -o made.v", None),
     ("opt none.mlir", None),
@@ -61,6 +67,7 @@ WITH_WORKERS = [
 ]
 CHECKED = [("check made.cnf made", None)]
 REFUSED = b"hw.module @A(in %a : i8, out c : i8) {\n  %0 = comb.add %a, %b : i8\n  hw.output %0 : i8\n}\n"
+REGISTER = b"aag 3 1 1 1 1\n2\n4 6 4\n4\n6 2 5\ni0 d[0]\nl0 r[0]\no0 q[0]\n"
 STEPS = b"state 8'h5 8'h6\n1'h1 1'h0 1'h1 8'h11\n1'h1 1'h0 1'h0 8'h22\n1'h1 1'h1 1'h0 8'h33\n1'h0 1'h1 1'h1 8'h44\n"
 OUT_OF_MEMORY = (7, b"", b"circt: out of memory\n")
 
@@ -70,6 +77,7 @@ def make_inputs(folder, _program):
     for example in EXAMPLES.glob("*.mlir"):
         shutil.copy(example, folder)
     (folder / "refused.mlir").write_bytes(REFUSED)
+    (folder / "register.aag").write_bytes(REGISTER)
     (folder / "steps").write_bytes(STEPS)
     (folder / "bad_steps").write_bytes(STEPS + b"1'h1\n")
     (folder / "made").write_bytes(b"as it was\n")

@@ -5,7 +5,7 @@
 
 The texts are mutations of the cases of `examples/` (bytes, tokens, lines, whole operations, numbers at limits, splices of two
 texts), drawn from the seed, so a run can be repeated. As many runs go side by side as there are processors. Of ten texts one is
-a formula or a proof of one, and one a step file, in place of a design. Of each design it asks:
+a formula or a proof of one, one a step file, and one a text in the AIGER format, in place of a design. Of each design it asks:
 
 * no run ends by a signal (one that works for 120 seconds does), and each by a status of the table: 0 to 4, or 7 with its line
   where 1 GB of memory does not suffice, which is counted;
@@ -14,13 +14,16 @@ a formula or a proof of one, and one a step file, in place of a design. Of each 
 * what `opt` prints is accepted again and printed as the same text; `translate` of it gives the Verilog of the source;
 * passes in any order are accepted, what they print is accepted again, and the Verilog of it is made;
 * `lec` of each public module of the source against itself, and against what passes made of it, says `==`, or `unknown`, or
-  that the ports or registers are others, or that there are too many gates.
+  that the ports or registers are others, or that there are too many gates;
+* its text in the AIGER format, unless it is refused for one of A1 to A4, has no fault, and its variables stand in order (this is
+  looked at below 1 MB).
 
 Of each formula and proof it asks that `check` verifies it, or refuses one of both with its line, which lies in that text or just
 after it; and that what is verified is refuted indeed where the formula has few variables.
 
 Of each step file of two registers it asks that `sim` prints the lines that are computed here, or refuses the line for the cause that
-is found here.
+is found here. Of each text in the AIGER format, that it is refused at the line and for the cause that is found here, or that what is
+printed of it is printed again as the same text, and is exported as a text that runs as it does.
 """
 import multiprocessing
 import multiprocessing.util
@@ -34,9 +37,10 @@ import sys
 import tempfile
 
 sys.dont_write_bytecode = True
+import aiger
 import support
 
-ERROR_LINE = re.compile(rb"\A([^\n]*):(\d+):(\d+): error: '([^'\n]*)' ([SVLPM]\d+): [^\n]+\n\Z", re.DOTALL)
+ERROR_LINE = re.compile(rb"\A([^\n]*):(\d+):(\d+): error: '([^'\n]*)' ([SVLPMAG]\d+): [^\n]+\n\Z", re.DOTALL)
 TOKEN = re.compile(r"\"(?:[^\"\\\n]|\\.)*\"|[%@#!]?[A-Za-z_$.0-9][\w$.\-]*|->|[^\s]|[ \t]+|\n")
 NUMBER = re.compile(r"\d+")
 LIMITS = ["0", "1", "2", "127", "128", "129", "255", "256", "4095", "4096", "65535", "65536", "2147483647", "2147483648",
@@ -197,7 +201,7 @@ class Program:
             return
         lines = (read(self.second) if line[1] == self.second.encode() else text).split(b"\n")
         row, column = int(line[2]), int(line[3])
-        last = len(lines) + 1 if line[5][:1] in b"PM" else len(lines)
+        last = len(lines) + 1 if line[5][:1] in b"PMG" else len(lines)
         if not (1 <= row <= last and 1 <= column <= len((lines + [b""])[row - 1]) + 1):
             raise Finding(f"{' '.join(words)}: {err[:300]!r} lies outside the text")
 
@@ -243,8 +247,19 @@ def check_design(program, text, chance):
     if program.taken(["opt"], made, f"what {words} made") != made:
         raise Finding(f"opt of what {words} made is another text")
     program.taken(["translate", "--export-verilog"], made, f"what {words} made")
+    check_export(program, text, [])
+    check_export(program, text, [words])
     check_verdicts(program, text, made, words)
     return True
+
+
+def check_export(program, text, words):
+    """Whether the text of a design in the AIGER format is right, where there is one."""
+    status, made = program.run(["translate", "--export-aiger", *words], text)
+    if status == 1 and b"' A" not in read(program.err):
+        raise Finding(f"--export-aiger refuses an accepted text: {read(program.err)!r}")
+    if status == 0 and len(made) < 1 << 20 and (aiger.first_fault(made) or not aiger.is_in_order(aiger.read_text(made.decode("latin-1")))):
+        raise Finding(f"--export-aiger: {aiger.first_fault(made)} or another order, {made[:200]!r}")
 
 
 def check_verdicts(program, text, made, words):
@@ -378,10 +393,77 @@ def check_steps(program, number):
 CAUSES = {b"M1": b"bad line", b"M2": b"wrong number of literals", b"M3": b"wrong width"}
 
 
+# ---- texts in the AIGER format
+
+
+def random_aiger(chance):
+    """A text of few inputs, latches and gates, in some order, with some numbers of variables."""
+    inputs, latches, gates = chance.randrange(4), chance.randrange(3), chance.randrange(7)
+    count = inputs + latches + gates
+    variables = chance.sample(range(1, count + 1 + chance.choice([0, 0, 2])), count)
+    known = [0] + variables[: inputs + latches]
+
+    def literal(among):
+        return 2 * chance.choice(among) + chance.randrange(2)
+
+    rows = []
+    for variable in variables[inputs + latches :]:
+        rows.append((2 * variable, literal(known), literal(known)))
+        known.append(variable)
+    chance.shuffle(rows)
+    held = [(2 * v, literal(known)) for v in variables[inputs : inputs + latches]]
+    tree = aiger.Aiger([2 * v for v in variables[:inputs]], held, [literal(known) for _ in range(chance.randrange(3))], rows,
+                       {"i0": "a"} if chance.randrange(2) else {})
+    lines = aiger.ascii_text(tree).split("\n")
+    for k in range(1 + inputs, 1 + inputs + latches):
+        lines[k] += chance.choice(["", "", " 0", " 1", " " + lines[k].split()[0]])
+    return "\n".join(lines) + chance.choice(["", "", "c\nx\n"])
+
+
+def check_aiger(program, number):
+    """Whether a text in the AIGER format is accepted. It raises a finding."""
+    chance = random.Random(f"{SEED} {number}")
+    text = random_aiger(chance)
+    for _ in range(chance.choice([0, 1, 1, 1, 2, 3])):
+        text = chance.choice(MUTATIONS)(chance, text, [random_aiger(chance)])
+    source = text.encode("utf-8", "surrogateescape")
+    fault = aiger.first_fault(source)
+    status, printed = program.run(["translate", "--import-aiger"], source)
+    if (status == 1) != (fault is not None):
+        raise Finding(f"--import-aiger: status {status}, {fault} was expected")
+    if fault:
+        line, code = fault
+        if read(program.err) != b"<stdin>:%d:1: error: 'aiger' %s: %s\n" % (line, code.encode(), CAUSES[code.encode()]):
+            raise Finding(f"--import-aiger: {read(program.err)!r}, not {fault}")
+        return False
+    if program.taken(["opt"], printed, "what --import-aiger printed") != printed:
+        raise Finding("opt of what --import-aiger printed is another text")
+    made = program.taken(["translate", "--export-aiger"], printed, "what --import-aiger printed")
+    compare_runs(aiger.read_text(text), aiger.read_text(made.decode()), chance)
+    return True
+
+
+def compare_runs(left, right, chance):
+    """Two trees have to run alike from one content."""
+    held = [[chance.randrange(2) for _ in left.latches]] * 2
+    for _ in range(6):
+        inputs = [chance.randrange(2) for _ in left.inputs]
+        (one, first), (two, second) = aiger.step(left, inputs, held[0]), aiger.step(right, inputs, held[1])
+        if one != two:
+            raise Finding(f"the imported text runs otherwise: {one}, {two}")
+        held = [first, second]
+
+
+CAUSES.update({b"G1": b"bad line", b"G2": b"literal out of range", b"G3": b"literal defined twice", b"G4": b"literal not defined",
+               b"G5": b"cycle of gates"})
+
+
 def check_one(program, number, source, chance):
-    """Whether the text of a number is accepted: a design, or a formula and a proof, or a step file."""
+    """Whether the text of a number is accepted: a design, or a formula and a proof, a step file, a text in the AIGER format."""
     if number % 10 == 9:
         return check_proof(program, number)
+    if number % 10 == 7:
+        return check_aiger(program, number)
     return check_steps(program, number) if number % 10 == 8 else check_design(program, source, chance)
 
 

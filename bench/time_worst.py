@@ -28,6 +28,7 @@ COMMANDS = [
     ("passes", "opt --canonicalize --cse"),
     ("flatten", "opt --hw-lower-aggregates --hw-flatten-modules --symbol-dce"),
     ("translate", "translate --export-verilog"),
+    ("export", "translate --export-aiger"),
     ("lec", "lec - -c1 T -c2 T --conflict-limit 1000"),
     ("sim", "sim - STEPS --top T"),
 ]
@@ -137,6 +138,48 @@ def hints(size, formula, proof):
 PROOFS = [clauses, steps, hints]
 
 
+def gates_in_order(size, write):
+    """Each gate uses the one before it."""
+    count = size // 24
+    write(f"aag {count + 1} 1 0 1 {count}\n2\n{2 * count + 2}\n")
+    for number in range(2, count + 2):
+        write(f"{2 * number} {2 * number - 1} 3\n")
+
+
+def gates_in_reverse(size, write):
+    """Each gate uses the one after it."""
+    count = size // 24
+    write(f"aag {count + 1} 1 0 1 {count}\n2\n4\n")
+    for number in range(2, count + 2):
+        write(f"{2 * number} {2 * number + 3 if number <= count else 3} 3\n")
+
+
+def gates_and_a_cycle(size, write):
+    """Gates that all need a cycle behind them, which alone is refused."""
+    count = size // 24
+    write(f"aag {count + 1} 1 0 1 {count}\n2\n4\n")
+    for number in range(2, count + 2):
+        write(f"{2 * number} {2 * number + 3 if number <= count else 2 * number} 3\n")
+
+
+def latches(size, write):
+    """Each latch takes the one after it."""
+    count = size // 24
+    write(f"aag {count + 1} 1 {count} 1 0\n2\n")
+    for number in range(2, count + 2):
+        write(f"{2 * number} {2 * number + 2 if number <= count else 2} {2 * number}\n")
+    write("4\n")
+
+
+def outputs(size, write):
+    """Many outputs, all of one negated literal."""
+    count = size // 3
+    write(f"aag 1 1 0 {count} 0\n2\n" + "3\n" * count)
+
+
+AIGER = [gates_in_order, gates_in_reverse, gates_and_a_cycle, latches, outputs]
+
+
 def limit_memory():
     resource.setrlimit(resource.RLIMIT_AS, (MEMORY, MEMORY))
 
@@ -178,6 +221,15 @@ def proof_rows(program, rounds, sizes, folder):
             print(f"| {make.__name__} | {size} | {cost(program, ['check', formula, proof], os.devnull, rounds)} |", flush=True)
 
 
+def aiger_rows(program, rounds, sizes, folder):
+    """The rows of texts in the AIGER format."""
+    text = f"{folder}/text.aag"
+    for make in AIGER:
+        for size in sizes:
+            support.write_text(text, make, size * 1000000)
+            print(f"| {make.__name__} | {size} | {cost(program, ['translate', '--import-aiger'], text, rounds)} |", flush=True)
+
+
 def main():
     program = support.program_word(__doc__)
     rounds = support.number_word(2, 1)
@@ -188,6 +240,8 @@ def main():
         design_rows(program, rounds, sizes, folder)
         print("\n| proof | MB | check |\n|---|---|---|")
         proof_rows(program, rounds, sizes, folder)
+        print("\n| text in the AIGER format | MB | import |\n|---|---|---|")
+        aiger_rows(program, rounds, sizes, folder)
 
 
 if __name__ == "__main__":
