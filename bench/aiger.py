@@ -169,7 +169,8 @@ def binary_bytes(tree, starts=None):
 def read_binary(data):
     """What a text of the binary form says."""
     end = data.index(b"\n")
-    _, inputs, latches, outputs, gates = map(int, data[:end].split()[1:6])
+    _, inputs, latches, outputs, gates, *more = map(int, data[:end].split()[1:])
+    outputs += more[0] if more else 0  # ABC writes the outputs of what has latches as bad states
     place = end + 1
 
     def line():

@@ -170,9 +170,41 @@ def written_by_yosys(case, text):
     """What Yosys writes of a text, by its own cells; it says the clock by itself."""
     (case.folder / "y.aag").write_text(text)
     out = case.folder / "w.aag"
-    words = f"read_aiger -clk_name clock {case.folder / 'y.aag'}; opt -purge; aigmap; write_aiger -ascii {out}"
+    words = f"read_aiger -clk_name clock {case.folder / 'y.aag'}; opt -purge; aigmap; write_aiger -ascii -symbols {out}"
     done = subprocess.run(["yosys", "-q", "-p", words], text=True, capture_output=True)
     return out.read_text() if done.returncode == 0 else None
+
+
+def places_of(tree, names):
+    """The places of the inputs, latches and outputs of a tree among those of these names; nothing where an output is missing."""
+    found = [[], [], []]
+    for part, letter, own in zip(found, "ilo", (tree.inputs, tree.latches, tree.outputs)):
+        numbers = {name: int(head[1:]) for head, name in names.items() if head[0] == letter}
+        part += [numbers.get(tree.names.get(f"{letter}{k}")) for k in range(len(own))]
+    count = sum(head[0] == "o" for head in names)
+    if None in found[0] + found[1] + found[2] or sorted(found[2]) != list(range(count)):
+        return None
+    return found
+
+
+def check_yosys(case, text, names, content, steps, wanted):
+    """Imports what Yosys wrote, where it kept all names; it sorts them, and drops inputs and latches that nobody uses."""
+    places = places_of(aiger.read_text(text), names)
+    if places is None:
+        return False, []
+    imported, said, status = case.run(["translate", "--import-aiger"], text)
+    again, _, _ = case.exported(imported)
+    if status:
+        return True, [f"Yosys's text is not imported: {said}"]
+    tree = aiger.read_text(again)
+    held = [bit for r in case.module.registers for bit in bits(content[r.result], r.width)]
+    held = [held[k] for k in places[1]]
+    for step, row in zip(steps, wanted):
+        inputs = [bit for name in free_inputs(case.module) for bit in bits(step[name], case.module.widths[name])]
+        outputs, held = aiger.step(tree, [inputs[k] for k in places[0]], held)
+        if outputs != [row[k] for k in places[2]]:
+            return True, ["Yosys's text runs otherwise when it is imported"]
+    return True, []
 
 
 def check_case(case, counts):
@@ -208,8 +240,10 @@ def check_case(case, counts):
         counts["read by Yosys"] += theirs is not None
         if theirs is None:
             wrong.append("Yosys does not read it")
-        elif len(aiger.read_text(theirs).inputs) == len(tree.inputs):
-            wrong += check_again(case, theirs, content, steps, wanted, "Yosys's text")
+        else:
+            is_run, faults = check_yosys(case, theirs, tree.names, content, steps, wanted)
+            counts["written by Yosys, imported and run"] += is_run
+            wrong += faults
     return wrong
 
 
