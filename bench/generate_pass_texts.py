@@ -19,6 +19,11 @@ The texts are
     dead       100,000 operations, of which none is used in the end
     above      two equal chains of 1,000 operations, each above the one that it uses, so that a sweep merges one of each
     above2     the same of 2,000 operations
+    above3     the same of 100,000 operations
+    unused     100,000 operations, each above the one that it uses, of which none is used in the end
+    constants  100,000 constants of one struct, of which no two are equal
+    widths     one bit repeated to each width up to 4,096
+    fields     a struct of 100 fields, of which each is taken 100 times
 """
 import sys
 
@@ -117,6 +122,42 @@ def above(count, write):
     write(f"  %o = comb.xor %x{count - 1}, %y{count - 1} : i32\n  hw.output %o : i32\n}}\n")
 
 
+def unused(count, write):
+    """So many operations, each above the one that it uses, of which none is used in the end."""
+    write(HEADER)
+    for number in reversed(range(1, count)):
+        write(f"  %{number} = comb.sub %{number - 1}, %b : i32\n")
+    write("  %0 = comb.mul %a, %b : i32\n  hw.output %a : i32\n}\n")
+
+
+def constants(count, write):
+    """So many constants of one struct, of which no two are equal."""
+    kind = "!hw.struct<x: i32, y: i32>"
+    write(HEADER)
+    for number in range(count):
+        write(f"  %{number} = hw.aggregate_constant [{number} : i32, {number % 7} : i32] : {kind}\n")
+        write(f'  %v{number} = hw.struct_extract %{number}["x"] : {kind}\n')
+    write(f"  %o = comb.xor {', '.join(f'%v{number}' for number in range(count))} : i32\n  hw.output %o : i32\n}}\n")
+
+
+def widths(count, write):
+    """One bit repeated to each width up to so many bits."""
+    write(HEADER)
+    for width in range(32, count + 1):
+        write(f"  %{width} = comb.replicate %c : (i1) -> i{width}\n  %v{width} = comb.extract %{width} from 0 : (i{width}) -> i32\n")
+    write(f"  %o = comb.xor {', '.join(f'%v{width}' for width in range(32, count + 1))} : i32\n  hw.output %o : i32\n}}\n")
+
+
+def fields(count, write):
+    """A struct of so many fields, of which each is taken 100 times."""
+    kind = "!hw.struct<" + ", ".join(f"f{number}: i32" for number in range(count)) + ">"
+    write(f"hw.module @M(in %s : {kind}, out o : i32) {{\n")
+    names = [f"%{time}_{number}" for time in range(100) for number in range(count)]
+    for name in names:
+        write(f'  {name} = hw.struct_extract %s["f{name.split("_")[1]}"] : {kind}\n')
+    write(f"  %o = comb.xor {', '.join(names)} : i32\n  hw.output %o : i32\n}}\n")
+
+
 TEXTS = {
     "modules": (generate_reader_texts.many_modules, 10000),
     "third": (third, 100000),
@@ -133,6 +174,11 @@ TEXTS = {
     "dead": (dead, 100000),
     "above": (above, 1000),
     "above2": (above, 2000),
+    "above3": (above, 100000),
+    "unused": (unused, 100000),
+    "constants": (constants, 100000),
+    "widths": (widths, 4096),
+    "fields": (fields, 100),
 }
 
 

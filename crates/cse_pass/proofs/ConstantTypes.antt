@@ -6,6 +6,7 @@ use Rattle.hw_model.specs.Types.{HwType}
 use Rattle.hw_model.specs.Types.HwType.{int, clock, array, struct}
 use Rattle.hw_model.specs.Kinds.{Kind}
 use Rattle.hw_model.specs.Kinds.Kind.{constant, aggregate_constant}
+use Rattle.hw_model.specs.Opcodes.{opcode_of}
 use Rattle.hw_model.specs.Resets.{is_constant}
 use Rattle.hw_model.specs.Design.{OpResult}
 use Rattle.type_inference.specs.ResultTypes.{first_type, result_count}
@@ -78,3 +79,11 @@ constant_value (Some t) (aggregate_constant ls) = refl
 constant_value None (aggregate_constant ls) = refl
 constant_value (Some t) _ = refl
 constant_value None _ = refl
+
+pub opcode_value : (x : Option HwType) (kind : Kind) → opcode_of (value_kind x kind) ≡ opcode_of kind
+opcode_value (Some t) (constant z) = refl
+opcode_value None (constant z) = refl
+opcode_value (Some t) (aggregate_constant ls) = refl
+opcode_value None (aggregate_constant ls) = refl
+opcode_value (Some t) _ = refl
+opcode_value None _ = refl

@@ -10,7 +10,6 @@ use Rattle.hw_model.specs.KindViews.{kind_of}
 use Rattle.ir_store.specs.declared.body.Body.{Body}
 use Rattle.ir_store.specs.declared.body.Op.{Op as ReadOp}
 use Rattle.ir_store.specs.declared.operation.OpId.{OpId}
-use Rattle.ir_store.specs.declared.operation.Value.TheVariants.{Result}
 use Rattle.ir_store.specs.Bodies.{ids_of, ops_of, op_id, read_op, read_parts}
 use Rattle.ir_store.specs.BodyOps.{BodyOp, ids_in, op_at}
 use Rattle.ir_store.specs.Live.{HasLive, AreLive, AreDistinct}
@@ -19,15 +18,14 @@ use Rattle.ir_store.proofs.BodyLemmas.{ids_once}
 use Rattle.ir_store.proofs.Walks.{found_by_id}
 use Rattle.fold_laws.specs.Unused.{is_pure}
 use Rattle.body_edits.specs.FitBodies.{IsOfFit}
-use Rattle.body_edits.specs.Readable.{MayBeWord}
 use Rattle.body_edits.specs.Views.{HasOp, body_ops, position_in, value_ref, op_seen}
-use Rattle.body_edits.proofs.FitOps.{fit_readable, fit_live}
-use Rattle.body_edits.proofs.ReadBodies.{op_seen_at, op_live, maker_seen, maker_word}
+use Rattle.body_edits.proofs.FitOps.{fit_live}
+use Rattle.body_edits.proofs.ReadBodies.{op_seen_at, op_live}
 use Rattle.cse_pass.specs.declared.groups.Groups.{Groups}
 use Rattle.cse_pass.specs.EqualOps.{equal_position, equal_before}
 use Rattle.cse_pass.specs.Groups.{group_of, has_hash, IsGrouping}
 use Rattle.cse_pass.specs.Hashes.{hash_of}
-use Rattle.cse_pass.specs.Same.{first_type, are_same, are_same_ops, are_same_at}
+use Rattle.cse_pass.specs.Same.{are_same, are_same_ops, are_same_at}
 use Rattle.cse_pass.proofs.EqualFinding.{IsTested, finds_equal, found_has}
 use Rattle.cse_pass.proofs.Grouping.{stands_at}
 use Rattle.cse_pass.proofs.SameHashes.{same_is_equal, same_hash, same_purity}
@@ -94,10 +92,6 @@ module _ (ops : List BodyOp) (once : AreDistinct (ids_in ops)) (live : AreLive o
 -- ---- in a body
 
 module _ (b : Body) (fit : IsOfFit b) (id : OpId) (o : ReadOp) (is : op_at (ops_of b) id.index ≡ Some (read_op id o)) (i : ℕ) (at : i ≡ position_in b id) where
-  -- constants are words
-  pub is_word : MayBeWord (kind_of o.kind.now) (first_type (read_parts o))
-  is_word = maker_word b (Result id 0) o (fit_readable b fit) (sym (maker_seen b id o is))
-
   pub none_impure : is_pure (kind_of o.kind.now) ≡ false → equal_before (body_ops b) i ≡ None
   none_impure other = before_impure (body_ops b) i (op_seen b o) (ap (slice_get (body_ops b)) at ∙ op_seen_at b id o is) other
 

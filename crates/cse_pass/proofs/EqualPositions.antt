@@ -4,18 +4,8 @@ use Rattle.wiring.proofs.Lists.{slice_get-take}
 use Rattle.wiring.proofs.Options.{and_then_some, option_map_some, option_map_none}
 use Rattle.hw_model.specs.Design.{Op}
 use Rattle.fold_laws.specs.Unused.{is_pure}
-use Rattle.cse_pass.specs.EqualOps.{are_equal, equal_position, equal_before}
+use Rattle.cse_pass.specs.EqualOps.{are_equal, equal_position, equal_before, EqualFound}
 use Rattle.cse_pass.specs.Merges.{HasNoEqual}
-
--- a pure operation and an equal one before it
-pub record EqualFound (os : List Op) (i j : ℕ) : Type 0 where
-  pub op : Op
-  pub there : slice_get os i ≡ Some op
-  pub pure : is_pure op.kind ≡ true
-  pub first : Op
-  pub first_there : slice_get os j ≡ Some first
-  pub before : j < i
-  pub equal : are_equal first op ≡ true
 
 get_from_take : (n : ℕ) (os : List Op) (j : ℕ) (p : Op) → slice_get (take n os) j ≡ Some p → (slice_get os j ≡ Some p) × (j < n)
 get_from_take zero os j p is = cc

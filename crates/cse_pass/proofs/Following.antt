@@ -14,13 +14,14 @@ use Rattle.body_edits.proofs.FitKept.{of_fit_kept}
 use Rattle.cse_pass.specs.Cse.{IsChange, Changes}
 use Rattle.cse_pass.proofs.MergedFits.{merge_steady, merge_lighter}
 pub use Rattle.cse_pass.proofs.EqualParts.{equal_ops_parts, equal_ops_from_parts}
-pub use Rattle.cse_pass.proofs.Leading.{no_change, changes_then, merge_is_change, trim_is_change}
+pub use Rattle.cse_pass.proofs.Leading.{no_change, changes_then, merges_change, trim_is_change}
 
 -- ---- one change
 
 change_follows : (d : Design) (k : ℕ) (m : Module) (os : List Op) → IsFit d → slice_get d k ≡ Some m → IsChange m.body os → Keeps d (with_body d k m os)
-change_follows d k m os fit at (inl (i, j, is, same)) =
-    subst (λ z. Keeps d (with_body d k m z)) (sym same) (record { steady = merge_steady d fit k m at i j is; lighter = merge_lighter d k m at i j is })
+change_follows d k m os fit at (inl step) =
+    subst (λ z. Keeps d (with_body d k m z)) (sym step.is)
+    (record { steady = merge_steady d fit k m at step.at step.earlier step.found; lighter = merge_lighter d k m at step.at step.earlier step.found })
 change_follows d k m os fit at (inr (i, is, same)) =
     let fold : IsFold d k m os = unused_is_fold d k m i os fit at (ap (option_map (λ (es : List Edit). edited_by es m.body)) is ∙ ap Some (sym same)) in
     record { steady = fold.steady; lighter = fold.lighter }

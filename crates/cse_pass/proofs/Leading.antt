@@ -6,10 +6,10 @@ use Rattle.hw_model.specs.Design.Ref.{undefined}
 use Rattle.edit_laws.specs.Laws.{erase_op}
 use Rattle.fold_laws.specs.Edits.{Edit}
 use Rattle.fold_laws.specs.Unused.{fold_unused}
-use Rattle.cse_pass.specs.EqualOps.{equal_before}
-use Rattle.cse_pass.specs.Merges.{merge_op, merge_at, merge_sweep, merges}
-use Rattle.cse_pass.specs.Trims.{trim_at, trim_sweep, trims}
-use Rattle.cse_pass.specs.Cse.{IsCseOf, IsMerge, IsTrim, IsChange, ChangeBy, Changes}
+use Rattle.cse_pass.specs.Merges.{merges, IsMerge, MergesBy, MergesInto}
+use Rattle.cse_pass.specs.Trims.{trim_at, trim_sweep, trims, IsTrim, TrimsBy, TrimsInto}
+use Rattle.cse_pass.specs.Cse.{IsCseOf, IsChange, ChangeBy, Changes}
+use Rattle.cse_pass.proofs.MergeRuns.{sweeps_merge}
 use Rattle.cse_pass.proofs.UnusedOps.{unused_found}
 
 -- ---- changes
@@ -38,19 +38,12 @@ changes_then a b c first second = then_by second.count a b c first second.leads
 
 -- ---- merges
 
-pub sweep_leads : (n i : ℕ) (os : List Op) → Changes os (merge_sweep n i os)
-sweep_leads zero i os = no_change os
-sweep_leads (suc n) i os = go (equal_before os i) refl (λ k xs. sweep_leads n k xs)
-  where
-    go : (x : Option ℕ) → equal_before os i ≡ x → ((k : ℕ) (xs : List Op) → Changes xs (merge_sweep n k xs))
-        → Changes os (merge_at (λ k xs. merge_sweep n k xs) i os x)
-    go None is later = later (suc i) os
-    go (Some j) is later =
-        changes_then os (merge_op i j os) (merge_sweep n i (merge_op i j os)) (merge_is_change os (merge_op i j os) (i, j, is, refl)) (later i (merge_op i j os))
+merges_by : (n : ℕ) (a b : List Op) → MergesBy n a b → Changes a b
+merges_by zero a b same = subst (Changes a) (sym same) (no_change a)
+merges_by (suc n) a b (between, leads, merge) = changes_then a between b (merges_by n a between leads) (merge_is_change between b merge)
 
-pub merges_lead : (n : ℕ) (os : List Op) → Changes os (merges n os)
-merges_lead zero os = no_change os
-merges_lead (suc n) os = changes_then os (merge_sweep (length os) 0 os) (merges (suc n) os) (sweep_leads (length os) 0 os) (merges_lead n (merge_sweep (length os) 0 os))
+pub merges_change : (a b : List Op) → MergesInto a b → Changes a b
+merges_change a b merges = merges_by merges.count a b merges.leads
 
 -- ---- trims
 
@@ -69,11 +62,18 @@ pub trims_lead : (n : ℕ) (os : List Op) → Changes os (trims n os)
 trims_lead zero os = no_change os
 trims_lead (suc n) os = changes_then os (trim_sweep (length os) os) (trims (suc n) os) (trim_sweep_leads (length os) os) (trims_lead n (trim_sweep (length os) os))
 
+trims_by : (n : ℕ) (a b : List Op) → TrimsBy n a b → Changes a b
+trims_by zero a b same = subst (Changes a) (sym same) (no_change a)
+trims_by (suc n) a b (between, leads, trim) = changes_then a between b (trims_by n a between leads) (trim_is_change between b trim)
+
+pub trims_change : (a b : List Op) → TrimsInto a b → Changes a b
+trims_change a b trims = trims_by trims.count a b trims.leads
+
 -- ---- both
 
 pub cse_leads : (os os' : List Op) → IsCseOf os os' → Changes os os'
 cse_leads os os' cse =
     subst (Changes os) (sym cse.trimmed.is)
     (changes_then os cse.between (trims cse.trimmed.sweeps cse.between)
-    (subst (Changes os) (sym cse.merged.is) (merges_lead cse.merged.sweeps os))
+    (subst (Changes os) (sym cse.merged.is) (merges_change os (merges cse.merged.sweeps os) (sweeps_merge cse.merged.sweeps os)))
     (trims_lead cse.trimmed.sweeps cse.between))

@@ -4,11 +4,17 @@ pub mod ConstantWords
 pub mod EqualParts
 pub mod EqualPositions
 pub mod Following
+pub mod Images
 pub mod Leading
+pub mod MergedBefore
 pub mod MergedFits
+pub mod MergeRuns
 pub mod Merging
 pub mod NoEqual
 pub mod Once
+pub mod Places
+pub mod Remnants
+pub mod TrimmedBefore
 pub mod UnusedOps
 mod SameNumbers
 mod SameParts
@@ -21,5 +27,6 @@ mod Walking
 mod MergedBodies
 mod MergedVisits
 mod Sweeping
+mod InOrder
 mod Trimming
 pub mod Samples

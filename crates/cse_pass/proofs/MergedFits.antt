@@ -31,12 +31,11 @@ use Rattle.pass_laws.proofs.Shapes.{shape_from_anchors}
 use Rattle.pass_laws.proofs.Steady.{steady_with_body}
 use Rattle.fold_laws.specs.Unused.{is_pure}
 use Rattle.fold_laws.proofs.MadeKinds.{anchors_kind}
-use Rattle.cse_pass.specs.EqualOps.{value_kind, equal_before}
+use Rattle.cse_pass.specs.EqualOps.{value_kind, EqualFound}
 use Rattle.cse_pass.specs.Merges.{merged_ref, merge_op}
 use Rattle.cse_pass.proofs.ConstantTypes.{IsNumber, number_own, constant_results, one_result, pure_value, constant_value}
 use Rattle.cse_pass.proofs.ConstantWords.{kind_word, nonzero_too}
 use Rattle.cse_pass.proofs.EqualParts.{equal_ops_parts}
-use Rattle.cse_pass.proofs.EqualPositions.{EqualFound, equal_found}
 use Rattle.cse_pass.proofs.Merging.{stand_at, stand_for, typed_result, Merged, merged_there, first_stays, merged_valid, merged_follows, body_is}
 
 pure_plain : (kind : Kind) → is_pure kind ≡ true → anchors_kind kind ≡ false
@@ -180,17 +179,16 @@ module _ (d : Design) (fit : IsFit d) (m : ℕ) (md : Module) (at : slice_get d 
         (body_is md i j found.op found.first merge (λ n z r is here. operand_there d fit m md at n z r is here)) edit_steady
 
   -- an operation that is merged with an equal one before it
-  pub merge_steady : (i j : ℕ) → equal_before md.body i ≡ Some j → IsSteady d (with_body d m md (merge_op i j md.body))
-  merge_steady i j is = found_steady i j (equal_found md.body i j is)
+  pub merge_steady : (i j : ℕ) → EqualFound md.body i j → IsSteady d (with_body d m md (merge_op i j md.body))
+  merge_steady i j found = found_steady i j found
 
 -- no module is heavier without it
-pub merge_lighter : (d : Design) (m : ℕ) (md : Module) → slice_get d m ≡ Some md → (i j : ℕ) → equal_before md.body i ≡ Some j
+pub merge_lighter : (d : Design) (m : ℕ) (md : Module) → slice_get d m ≡ Some md → (i j : ℕ) → EqualFound md.body i j
     → (s : Name) → weight (with_body d m md (merge_op i j md.body)) s ≤ weight d s
-merge_lighter d m md at i j is = weight_with_body d m md (merge_op i j md.body) at less
+merge_lighter d m md at i j found = weight_with_body d m md (merge_op i j md.body) at less
   where
     less : (inner : Name → ℕ) → body_weight inner (merge_op i j md.body) ≤ body_weight inner md.body
     less inner =
-        let found = equal_found md.body i j is in
         let merged : body_weight inner (merge_op i j md.body) ≡ body_weight inner (remove md.body i) = weight-retarget inner (merged_ref i j) (remove md.body i) in
         let erased : body_weight inner (erase_op i undefined md.body) ≡ body_weight inner (remove md.body i) = weight-retarget inner (without i undefined) (remove md.body i) in
         let sum : kind_weight inner found.op.kind found.op.types (length found.op.operands) + body_weight inner (erase_op i undefined md.body) ≡ body_weight inner md.body =

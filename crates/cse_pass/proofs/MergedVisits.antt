@@ -18,13 +18,14 @@ use Rattle.body_edits.proofs.IdsAfter.{ids_left}
 use Rattle.body_edits.proofs.Positions.{position_within}
 use Rattle.cse_pass.specs.declared.groups.Groups.{Groups}
 use Rattle.cse_pass.specs.Cse.{Changes}
-use Rattle.cse_pass.specs.EqualOps.{equal_before}
+use Rattle.cse_pass.specs.EqualOps.{equal_before, EqualFound}
 use Rattle.cse_pass.specs.Groups.{group_in, is_noted, has_hash, takes_purely, IsGrouping}
 use Rattle.cse_pass.specs.Hashes.{hash_of}
-use Rattle.cse_pass.specs.Merges.{merge_op}
+use Rattle.cse_pass.specs.Merges.{merge_op, MergesInto}
 use Rattle.cse_pass.specs.Sweeps.{merged_value, with_merged, IsMergedInto, IsMergedAt}
 use Rattle.cse_pass.proofs.EqualPositions.{equal_found}
-use Rattle.cse_pass.proofs.Following.{fit_after, merge_is_change, no_change}
+use Rattle.cse_pass.proofs.Following.{fit_after, merges_change, no_change}
+use Rattle.cse_pass.proofs.MergeRuns.{one_merge}
 use Rattle.cse_pass.proofs.MergedBodies.{ids_merged, numbered_merge}
 
 -- ---- lists
@@ -110,46 +111,57 @@ module _ (op first : OpId) where
 
 -- ---- a body after a merge
 
--- the first equal operation is another one
-pub is_other : (b : Body) (op first : OpId) → equal_before (body_ops b) (position_in b op) ≡ Some (position_in b first) → op.index ≡ first.index → ⊥
+-- an equal operation before it is another one
+pub is_other : (b : Body) (op first : OpId) → EqualFound (body_ops b) (position_in b op) (position_in b first) → op.index ≡ first.index → ⊥
 unfolding position_in
-is_other b op first equal same =
+is_other b op first found same =
     let one : position_of (ids_of b) op.index ≡ position_of (ids_of b) first.index = ap (position_of (ids_of b)) same in
-    omega (arith, one, (equal_found (body_ops b) (position_of (ids_of b) op.index) (position_of (ids_of b) first.index) equal).before)
+    omega (arith, one, found.before)
 
-module _ (b after : Body) (fit : IsOfFit b) (op first : OpId) (i : ℕ) (at : i ≡ position_in b op) (there : HasOp b op)
-    (equal : equal_before (body_ops b) i ≡ Some (position_in b first)) (merged : IsMergedInto b after op first) where
-  ops_merged : body_ops after ≡ merge_op i (position_in b first) (body_ops b)
+pub found_at : (b : Body) (op first : OpId) (i : ℕ) → i ≡ position_in b op → equal_before (body_ops b) i ≡ Some (position_in b first) → EqualFound (body_ops b) (position_in b op) (position_in b first)
+found_at b op first i at equal = equal_found (body_ops b) (position_in b op) (position_in b first) (sym (ap (equal_before (body_ops b)) at) ∙ equal)
+
+module _ (b after : Body) (fit : IsOfFit b) (op first : OpId) (there : HasOp b op) (found : EqualFound (body_ops b) (position_in b op) (position_in b first)) (merged : IsMergedInto b after op first) where
+  ops_merged : body_ops after ≡ merge_op (position_in b op) (position_in b first) (body_ops b)
   unfolding body_ops position_in
-  ops_merged =
-      ap ops_by_position merged
-      ∙ numbered_merge op first (ops_of b) (fit_live b fit) there before
-      ∙ ap (λ n. merge_op n (position_of (ids_of b) first.index) (ops_by_position (ops_of b))) (sym at)
-    where
-      before : position_of (ids_of b) first.index < position_of (ids_of b) op.index
-      before = subst (λ n. position_of (ids_of b) first.index < n) at (equal_found (body_ops b) i (position_of (ids_of b) first.index) equal).before
+  ops_merged = ap ops_by_position merged ∙ numbered_merge op first (ops_of b) (fit_live b fit) there found.before
 
-  ids_are : ids_of after ≡ remove (ids_of b) i
+  pub ids_are : ids_of after ≡ remove (ids_of b) (position_in b op)
   unfolding position_in
   ids_are =
       ap ids_in merged ∙ ids_left op.index (map (with_merged op first) (ops_of b))
-      ∙ ap (λ ids. remove ids (position_of ids op.index)) (ids_merged op first (ops_of b)) ∙ ap (remove (ids_of b)) (sym at)
+      ∙ ap (λ ids. remove ids (position_of ids op.index)) (ids_merged op first (ops_of b))
+
+  pub merged_into : MergesInto (body_ops b) (body_ops after)
+  merged_into = one_merge (body_ops b) (body_ops after) (record { at = position_in b op; earlier = position_in b first; found = found; is = ops_merged })
+
+  pub into_fit : IsOfFit after
+  into_fit = fit_after b after fit (merges_change (body_ops b) (body_ops after) merged_into)
+
+-- the first equal one
+module _ (b after : Body) (fit : IsOfFit b) (op first : OpId) (i : ℕ) (at : i ≡ position_in b op) (there : HasOp b op)
+    (equal : equal_before (body_ops b) i ≡ Some (position_in b first)) (merged : IsMergedInto b after op first) where
+  ids_without : ids_of after ≡ remove (ids_of b) i
+  ids_without = ids_are b after fit op first there (found_at b op first i at equal) merged ∙ ap (remove (ids_of b)) (sym at)
+
+  ops_without : body_ops after ≡ merge_op i (position_in b first) (body_ops b)
+  ops_without = ops_merged b after fit op first there (found_at b op first i at equal) merged ∙ ap (λ n. merge_op n (position_in b first) (body_ops b)) (sym at)
 
   pub merged_changes : Changes (body_ops b) (body_ops after)
-  merged_changes = merge_is_change (body_ops b) (body_ops after) (i, position_in b first, equal, ops_merged)
+  merged_changes = merges_change (body_ops b) (body_ops after) (merged_into b after fit op first there (found_at b op first i at equal) merged)
 
   pub merged_fit : IsOfFit after
-  merged_fit = fit_after b after fit merged_changes
+  merged_fit = into_fit b after fit op first there (found_at b op first i at equal) merged
 
   pub merged_within : i ≤ length (ids_of after)
   unfolding position_in
   merged_within =
       let less : i < length (ids_of b) = subst (λ n. n < length (ids_of b)) (sym at) (position_within (ids_of b) op.index there) in
-      let size : length (ids_of after) ≡ length (remove (ids_of b) i) = ap length ids_are in
+      let size : length (ids_of after) ≡ length (remove (ids_of b) i) = ap length ids_without in
       omega (arith, less, size, length-remove_one (ids_of b) i less)
 
   pub merged_at_with : (g : Groups) → IsGrouping g (take i (ops_of after)) → IsMergedAt b after g i
-  merged_at_with g grouped = record { earlier = position_in b first; equal = equal; ops = ops_merged; ids = ids_are; grouped = grouped }
+  merged_at_with g grouped = record { earlier = position_in b first; equal = equal; ops = ops_without; ids = ids_without; grouped = grouped }
 
   -- what stands before it
   prefix_is : take i (ops_of after) ≡ map (with_merged op first) (take i (ops_of b))

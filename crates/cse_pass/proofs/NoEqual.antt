@@ -24,7 +24,7 @@ use Rattle.cse_pass.proofs.EqualPositions.{none_before, has_no_equal}
 use Rattle.cse_pass.proofs.UnusedOps.{unused_found, unused_operands}
 
 -- positions keep their order where one is put in
-up_less : (i a b : ℕ) → a < b → up i a < up i b
+pub up_less : (i a b : ℕ) → a < b → up i a < up i b
 up_less zero a b less = omega (arith, less)
 up_less (suc i) a zero less = absurd (omega (arith, less))
 up_less (suc i) zero (suc b) less = omega arith

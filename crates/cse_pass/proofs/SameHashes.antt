@@ -1,12 +1,10 @@
 -- Operations that have one value have one hash, and are equal by positions.
-use Rattle.std.proofs.Common.{◌≡◌, ℕ, ◌%◌, ◌^◌, pos, negsuc, true, ◌&&◌, List, [], ◌∷◌, map, Option, Some, None, refl, sym, ap, ap₂, ◌∙◌}
+use Rattle.std.proofs.Common.{◌≡◌, ℕ, true, ◌&&◌, List, [], ◌∷◌, map, refl, sym, ap, ap₂, ◌∙◌}
 use Rattle.std.specs.Prelude.{All, nat_eq}
 use Rattle.std.specs.Cmp.Lexicographic.{pointwise}
 use Rattle.std.proofs.lemmas.List.Elements.{All-head, All-tail}
-use Rattle.hw_model.specs.Types.{HwType}
-use Rattle.hw_model.specs.Types.HwType.{int, clock, array, struct}
-use Rattle.hw_model.specs.Kinds.{Kind}
-use Rattle.hw_model.specs.Kinds.Kind.{extract, constant, aggregate_constant}
+use Rattle.opcode.specs.Listed.{name_of_listed}
+use Rattle.hw_model.specs.Opcodes.{opcode_of}
 use Rattle.hw_model.specs.Equality.{TellsApart, both, both_of, number_self, number_from}
 use Rattle.hw_model.specs.SameKind.{same_kind}
 use Rattle.hw_model.specs.KindsApart.{kinds_apart}
@@ -23,8 +21,8 @@ use Rattle.ir_store.proofs.Numbering.{same-ref_by}
 use Rattle.fold_laws.specs.Unused.{is_pure}
 use Rattle.cse_pass.specs.EqualOps.{value_kind, are_equal}
 use Rattle.cse_pass.specs.Same.{first_type, types_of_results, are_same}
-use Rattle.cse_pass.specs.Hashes.{with_values, word_number, attribute_number, hash_of}
-use Rattle.cse_pass.proofs.ConstantTypes.{pure_value}
+use Rattle.cse_pass.specs.Hashes.{with_values, with_bytes, with_attributes, width_number, hash_of}
+use Rattle.cse_pass.proofs.ConstantTypes.{pure_value, opcode_value}
 use Rattle.cse_pass.proofs.EqualParts.{lists_apart}
 use Rattle.cse_pass.proofs.SameOps.{first_types}
 
@@ -71,30 +69,6 @@ value_from Undefined (Result j n) h = cc
 values_apart : TellsApart same_value
 values_apart = record { self = value_self; from = value_from }
 
--- what the number that a hash begins with is, by a kind as it is read
-abbrev pub number_by : Kind → Option HwType → ℕ
-number_by (extract low) t = low
-number_by (constant (pos n)) (Some (int w)) = n % 2 ^ 64
-number_by k t = 0
-
-number_is : (k : Kind) (t : Option HwType) → attribute_number k t ≡ number_by (value_kind t k) t
-unfolding word_number
-number_is (extract low) None = refl
-number_is (extract low) (Some t) = refl
-number_is (constant z) None = number_none z
-  where
-    number_none : (z : _) → 0 ≡ number_by (constant z) None
-    number_none (pos n) = refl
-    number_none (negsuc n) = refl
-number_is (constant z) (Some (int w)) = refl
-number_is (constant z) (Some clock) = refl
-number_is (constant z) (Some (array n t)) = refl
-number_is (constant z) (Some (struct fs)) = refl
-number_is (aggregate_constant ls) None = refl
-number_is (aggregate_constant ls) (Some t) = refl
-number_is _ None = refl
-number_is _ (Some t) = refl
-
 module _ (p : OpParts) (vs : List Value) (q : OpParts) (ws : List Value) (same : are_same p vs q ws ≡ true) where
   record Parts : Type 0 where
     pub kinds : value_kind (first_type p) p.kind ≡ value_kind (first_type q) q.kind
@@ -114,12 +88,16 @@ module _ (p : OpParts) (vs : List Value) (q : OpParts) (ws : List Value) (same :
         types = first_types p.results q.results third.1;
       }
 
+  opcodes : opcode_of p.kind ≡ opcode_of q.kind
+  opcodes = sym (opcode_value (first_type p) p.kind) ∙ ap opcode_of parts.kinds ∙ opcode_value (first_type q) q.kind
+
+  -- what the hash begins with
+  begins : with_bytes (width_number (first_type p)) (name_of_listed (opcode_of p.kind)) ≡ with_bytes (width_number (first_type q)) (name_of_listed (opcode_of q.kind))
+  begins = ap₂ (λ t o. with_bytes (width_number t) (name_of_listed o)) parts.types opcodes
+
   pub same_hash : hash_of p vs ≡ hash_of q ws
   unfolding hash_of
-  same_hash =
-      ap₂ with_values
-      (number_is p.kind (first_type p) ∙ ap₂ number_by parts.kinds parts.types ∙ sym (number_is q.kind (first_type q)))
-      parts.values
+  same_hash = ap₂ with_values (ap₂ with_attributes begins parts.kinds) parts.values
 
   pub same_purity : is_pure p.kind ≡ is_pure q.kind
   same_purity = sym (pure_value (first_type p) p.kind) ∙ ap is_pure parts.kinds ∙ pure_value (first_type q) q.kind

@@ -1,8 +1,8 @@
 -- Numbers that the low bits of integers stand for.
 use Rattle.std.proofs.Common.{◌≡◌, ℕ, ◌+◌, ◌-◌, ◌*◌, ◌%◌, ◌^◌, ◌<◌, ◌≤◌, Bool, true, false, nat_eq, nat_le, map, not, refl, sym, ap, ◌∙◌, ne_eqb, eq-eqb, arith}
-use Rattle.std.proofs.lemmas.Bool.{eqb-true, eqb-false, leb-true}
-use Rattle.std.proofs.lemmas.Nat.{pow-add, pow_pos}
-use Rattle.std.proofs.Math.Nat.{pow-le-pow_right, mod-eq_of_lt}
+use Rattle.std.proofs.lemmas.Bool.{eqb-true, eqb-false, leb-true, leb-false}
+use Rattle.std.proofs.lemmas.Nat.{pow-add, pow_pos, mod-mul-add}
+use Rattle.std.proofs.Math.Nat.{pow-le-pow_right, mod-eq_of_lt, mod-le}
 use Rattle.bits_core.specs.Word.{number, bits}
 use Rattle.bits_core.proofs.Numbers.{length-bits, number-bits}
 use Rattle.bits_core.proofs.Complement.{number-not, not-bits}
@@ -68,3 +68,37 @@ above m n less = go (nat_le m n) refl
     go : (b : Bool) → nat_le m n ≡ b → b ≡ false
     go true is = absurd (omega (arith, less, leb-true m n is))
     go false is = refl
+
+-- ---- the low 128 bits of what integers stand for
+
+-- of a number below 2^128
+pub low_of_number : (w n : ℕ) → n < 2 ^ 128 → number (bits w n) ≡ number (bits w n) % 2 ^ 128
+low_of_number w n small = sym (mod-eq_of_lt below)
+  where
+    is : number (bits w n) ≡ n % 2 ^ w
+    is = number-bits w n
+
+    below : number (bits w n) < 2 ^ 128
+    below = omega (arith, is, mod-le n (2 ^ w), small)
+
+-- of a complement: those of the number that it makes 2^128 with
+pub low_of_complement : (w n top : ℕ) → n + top + 1 ≡ 2 ^ 128 → number (bits w top) ≡ number (map not (bits w n)) % 2 ^ 128
+low_of_complement w n top sum = go (nat_le w 128) refl
+  where
+    small : top < 2 ^ 128
+    small = omega (arith, sum)
+
+    little : n < 2 ^ 128
+    little = omega (arith, sum)
+
+    go : (b : Bool) → nat_le w 128 ≡ b → number (bits w top) ≡ number (map not (bits w n)) % 2 ^ 128
+    go true is = low_of_number w top small ∙ ap (λ k. k % 2 ^ 128) (narrow_complement w n top (leb-true w 128 is) sum)
+    go false is =
+        let wide : 128 ≤ w = omega (arith, leb-false w 128 is) in
+        let split : w ≡ (w - 128) + 128 = omega (arith, wide) in
+        let power : 2 ^ w ≡ 2 ^ (w - 128) * 2 ^ 128 = ap (λ k. 2 ^ k) split ∙ pow-add 2 (w - 128) 128 in
+        let some : 1 ≤ 2 ^ (w - 128) = pow_pos (w - 128) in
+        let first = whole w top wide small in
+        let second = whole w n wide little in
+        let many : number (map not (bits w n)) ≡ (2 ^ (w - 128) - 1) * 2 ^ 128 + top = omega (arith, complemented w n, second, power, some, sum) in
+        sym first ∙ sym (ap (λ k. k % 2 ^ 128) many ∙ mod-mul-add (2 ^ (w - 128) - 1) (2 ^ 128) top small)

@@ -34,7 +34,7 @@ drop_remove [] (suc i) = refl
 drop_remove (x ∷ xs) zero = refl
 drop_remove (x ∷ xs) (suc i) = drop_remove xs i
 
-same_ops : (b after : Body) → ops_of after ≡ ops_of b → body_ops after ≡ body_ops b
+pub same_ops : (b after : Body) → ops_of after ≡ ops_of b → body_ops after ≡ body_ops b
 unfolding body_ops
 same_ops b after same = ap ops_by_position same
 

@@ -1,14 +1,9 @@
 -- What the elimination of common subexpressions makes of a body (MLIR documentation, "Passes": `cse`).
-use Rattle.std.specs.Prelude.{◌≡◌, ◌⊎◌, ℕ, List, [], ◌∷◌, Some}
+use Rattle.std.specs.Prelude.{◌⊎◌, ℕ, List}
 use Rattle.hw_model.specs.Design.{Op}
-use Rattle.hw_model.specs.Design.Ref.{undefined}
-use Rattle.edit_laws.specs.Laws.{erase_op}
-use Rattle.fold_laws.specs.Edits.Edit.{erased}
-use Rattle.fold_laws.specs.Unused.{fold_unused}
 use Rattle.pass_laws.specs.Steps.{StepsBy}
-use Rattle.cse_pass.specs.EqualOps.{equal_before}
-use Rattle.cse_pass.specs.Merges.{merge_op, IsMerged}
-use Rattle.cse_pass.specs.Trims.{IsTrimmed}
+use Rattle.cse_pass.specs.Merges.{IsMerge, IsMerged}
+use Rattle.cse_pass.specs.Trims.{IsTrim, IsTrimmed}
 
 -- first equal operations are merged, then those without uses go
 pub record IsCseOf (before after : List Op) : Type 0 where
@@ -17,12 +12,6 @@ pub record IsCseOf (before after : List Op) : Type 0 where
   pub trimmed : IsTrimmed between after
 
 -- a single change: an operation that is equal to an earlier one goes, or one without uses
-abbrev pub IsMerge : List Op → List Op → Type 0
-IsMerge before after = (i : ℕ) × (j : ℕ) × (equal_before before i ≡ Some j) × (after ≡ merge_op i j before)
-
-abbrev pub IsTrim : List Op → List Op → Type 0
-IsTrim before after = (i : ℕ) × (fold_unused before i ≡ Some (erased i undefined ∷ [])) × (after ≡ erase_op i undefined before)
-
 abbrev pub IsChange : List Op → List Op → Type 0
 IsChange before after = IsMerge before after ⊎ IsTrim before after
 

@@ -1,5 +1,5 @@
 -- Operations that have one value, since their kinds, operands and types are the same (MLIR documentation, "Passes": `cse`).
-use Rattle.std.specs.Prelude.{ℕ, suc, ℤ, pos, Bool, ◌&&◌, cond, List, [], ◌∷◌, map, take, Option, Some, None, slice_get, option_and_then, option_map}
+use Rattle.std.specs.Prelude.{◌≡◌, ◌<◌, ℕ, suc, ℤ, pos, Bool, true, ◌&&◌, cond, List, [], ◌∷◌, map, take, Option, Some, None, slice_get, option_and_then, option_map}
 use Rattle.std.specs.Cmp.Lexicographic.{pointwise}
 use Rattle.bits_core.specs.Word.{number, bits_of_ℤ}
 use Rattle.hw_model.specs.Types.{HwType, width}
@@ -51,3 +51,13 @@ equal_position o (p ∷ os) = cond (are_equal p o) (Some 0) (option_map suc (equ
 -- that before the pure operation at a position
 abbrev pub equal_before : List Op → ℕ → Option ℕ
 equal_before os i = option_and_then (λ (o : Op). cond (is_pure o.kind) (equal_position o (take i os)) None) (slice_get os i)
+
+-- a pure operation and an equal one before it
+pub record EqualFound (os : List Op) (i j : ℕ) : Type 0 where
+  pub op : Op
+  pub there : slice_get os i ≡ Some op
+  pub pure : is_pure op.kind ≡ true
+  pub first : Op
+  pub first_there : slice_get os j ≡ Some first
+  pub before : j < i
+  pub equal : are_equal first op ≡ true

@@ -5,4 +5,5 @@ pub mod Cse
 pub mod Same
 pub mod Hashes
 pub mod Groups
+pub mod Orders
 pub mod Sweeps

@@ -5,7 +5,8 @@ use Rattle.hw_model.specs.Design.{Ref, Op}
 use Rattle.hw_model.specs.Design.Ref.{port, result, undefined}
 use Rattle.edit_laws.specs.Edit.{retarget}
 use Rattle.edit_laws.specs.Laws.{down}
-use Rattle.cse_pass.specs.EqualOps.{equal_before}
+use Rattle.pass_laws.specs.Steps.{StepsBy}
+use Rattle.cse_pass.specs.EqualOps.{equal_before, EqualFound}
 
 -- a value once the operation at position i is gone, that at position j before it standing for it
 abbrev pub merged_at : Option ℕ → ℕ → ℕ → Ref
@@ -20,6 +21,21 @@ merged_ref i j undefined = undefined
 -- the body without the operation at position i
 abbrev pub merge_op : ℕ → ℕ → List Op → List Op
 merge_op i j os = map (retarget (merged_ref i j)) (remove os i)
+
+-- a single merge: a pure operation goes, and any equal one before it stands for it
+pub record IsMerge (before after : List Op) : Type 0 where
+  pub at : ℕ
+  pub earlier : ℕ
+  pub found : EqualFound before at earlier
+  pub is : after ≡ merge_op at earlier before
+
+-- so many merges, one after another, lead from operations to others
+abbrev pub MergesBy : ℕ → List Op → List Op → Type 0
+MergesBy n before after = StepsBy IsMerge n before after
+
+pub record MergesInto (before after : List Op) : Type 0 where
+  pub count : ℕ
+  pub leads : MergesBy count before after
 
 -- the operation at the position of a sweep goes where an earlier one is equal, else the sweep goes on at the next position;
 -- `rest` is what the sweep does from a position on

@@ -1,9 +1,23 @@
 -- Pure operations without uses go, the last ones first (MLIR documentation, "Passes": `cse`).
-use Rattle.std.specs.Prelude.{◌≡◌, ℕ, zero, suc, cond, List, length, None, is_some}
+use Rattle.std.specs.Prelude.{◌≡◌, ℕ, zero, suc, cond, List, [], ◌∷◌, length, Some, None, is_some}
 use Rattle.hw_model.specs.Design.{Op}
 use Rattle.hw_model.specs.Design.Ref.{undefined}
 use Rattle.edit_laws.specs.Laws.{erase_op}
+use Rattle.fold_laws.specs.Edits.Edit.{erased}
 use Rattle.fold_laws.specs.Unused.{fold_unused}
+use Rattle.pass_laws.specs.Steps.{StepsBy}
+
+-- a single trim: a pure operation without uses goes
+abbrev pub IsTrim : List Op → List Op → Type 0
+IsTrim before after = (i : ℕ) × (fold_unused before i ≡ Some (erased i undefined ∷ [])) × (after ≡ erase_op i undefined before)
+
+-- so many trims, one after another, lead from operations to others
+abbrev pub TrimsBy : ℕ → List Op → List Op → Type 0
+TrimsBy n before after = StepsBy IsTrim n before after
+
+pub record TrimsInto (before after : List Op) : Type 0 where
+  pub count : ℕ
+  pub leads : TrimsBy count before after
 
 -- the operation at a position goes where it is pure and nothing names it
 abbrev pub trim_at : ℕ → List Op → List Op

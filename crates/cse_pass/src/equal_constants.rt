@@ -1,5 +1,5 @@
 //! Constants that are one number.
-ghost use Rattle.std.specs.Prelude.{◌≡◌, ◌&&◌, ℕ, min, map, not, nat_eq};
+ghost use Rattle.std.specs.Prelude.{◌≡◌, ◌&&◌, ◌%◌, ◌^◌, ℕ, min, map, not, nat_eq};
 ghost use Rattle.bits_core.specs.Word.{number, bits, bits_of_ℤ};
 ghost use Rattle.hw_model.specs.KindViews.{integer_of, literal_of, literals_of, literals_in};
 ghost use Rattle.hw_model.specs.SameKind.{same_integer, same_literal, same_literals};
@@ -72,6 +72,16 @@ fn is_complement(width: u64, m: u128, n: u128) -> bool
     ensures { (w : ℕ) → width ≡ min w u64.MAX → result ≡ nat_eq (number (bits w m)) (number (map not (bits w n))) }
 {
     width <= 128 && low(width, m) == low(width, u128::MAX - n)
+}
+
+/// The low 128 bits of the number that the low bits of an integer stand for, `width` of them, or more where that is 2^64 - 1.
+pub fn low_number(width: u64, value: Integer) -> u128
+    ensures { (w : ℕ) → width ≡ min w u64.MAX → result ≡ number (bits_of_ℤ w (integer_of value)) % 2 ^ 128 }
+{
+    match value {
+        Integer::NonNegative(n) => low(width, n),
+        Integer::Negative(n) => low(width, u128::MAX - n),
+    }
 }
 
 /// The low bits of a number, so many of them.

@@ -36,7 +36,7 @@ pub fn find_same(body: &Body, ids: &[OpId], op: OpId) -> Option<OpId>
 }
 
 /// Whether two operations have the same kind, operands and types.
-fn are_same(a: &Op<'_>, b: &Op<'_>) -> bool
+pub fn are_same(a: &Op<'_>, b: &Op<'_>) -> bool
     ensures { result ≡ are_same (read_parts a.now) a.now.operands.now (read_parts b.now) b.now.operands.now }
 {
     are_same_values(a.operands, b.operands)

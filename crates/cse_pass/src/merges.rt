@@ -1,10 +1,10 @@
 //! Equal operations are merged.
-ghost use Rattle.std.specs.Prelude.{◌≡◌, ◌≤◌, suc, Some, map, take, length, option_map, IfOk, IfSome, OnOk, OnErr};
+ghost use Rattle.std.specs.Prelude.{◌≡◌, ◌≤◌, suc, map, take, length, option_map, IfOk, IfSome, OnOk, OnErr};
 ghost use Rattle.ir_store.specs.Bodies.{ids_of, ops_of, op_id, first_id};
 ghost use Rattle.body_edits.specs.FitBodies.{IsOfFit};
 ghost use Rattle.body_edits.specs.Views.{HasOp, body_ops, position_in};
 ghost use Rattle.cse_pass.specs.Cse.{Changes};
-ghost use Rattle.cse_pass.specs.EqualOps.{equal_before};
+ghost use Rattle.cse_pass.specs.EqualOps.{equal_before, EqualFound};
 ghost use Rattle.cse_pass.specs.Groups.{IsGrouping};
 ghost use Rattle.cse_pass.specs.Merges.{IsMerged};
 ghost use Rattle.cse_pass.specs.Sweeps.{IsVisited, IsMergedInto, IsMergeSweep};
@@ -101,12 +101,13 @@ fn equal_earlier(body: &Body, groups: &Groups, op: OpId, position: usize) -> Opt
     find_same(body, groups.of(hash_of(&own)), op)
 }
 
-/// Has an operation stand for a later equal one, which goes. On an error the operations stay.
-fn merge(body: &mut Body, op: OpId, first: OpId) -> Result<(), AllocError>
+/// Has an operation stand for a later equal one, which goes. On an error the operations stay. Linear in the operation's
+/// results and, for each, in the chain of the head that they have.
+pub fn merge(body: &mut Body, op: OpId, first: OpId) -> Result<(), AllocError>
     requires fit { IsOfFit body.old }
     requires live { HasOp body.old op }
     requires first { HasOp body.old first }
-    requires equal { equal_before (body_ops body.old) (position_in body.old op) ≡ Some (position_in body.old first) }
+    requires equal { EqualFound (body_ops body.old) (position_in body.old op) (position_in body.old first) }
     ensures merged { OnOk result (IsMergedInto body.old body.new op first) }
     ensures kept { OnErr result (ops_of body.new ≡ ops_of body.old) }
 {

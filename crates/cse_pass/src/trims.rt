@@ -5,7 +5,7 @@ ghost use Rattle.ir_store.specs.Bodies.{ids_of};
 ghost use Rattle.body_edits.specs.FitBodies.{IsOfFit};
 ghost use Rattle.body_edits.specs.Views.{HasOp, body_ops, position_in};
 ghost use Rattle.cse_pass.specs.Cse.{Changes};
-ghost use Rattle.cse_pass.specs.Trims.{trim_at, IsTrimmed};
+ghost use Rattle.cse_pass.specs.Trims.{trim_at, TrimsInto, IsTrimmed};
 ghost use Rattle.cse_pass.specs.Sweeps.{IsTrimSweep};
 
 use body_edits::purity::is_pure;
@@ -22,6 +22,31 @@ pub fn trim(alloc: Global, body: &mut Body) -> Result<(), AllocError>
 {
     while trim_sweep(alloc, body)? {}
     Ok(())
+}
+
+/// Takes operations out that are pure and without uses, those of an order from the last on; some may be left. Linear in the
+/// order, and for each in its operands and in the chain of the head that its results have.
+pub fn trim_along(body: &mut Body, order: &[OpId])
+    requires { IsOfFit body.old }
+    ensures fit { IsOfFit body.new }
+    ensures trims { TrimsInto (body_ops body.old) (body_ops body.new) }
+{
+    let mut left = order.len();
+    while left > 0 {
+        left -= 1;
+        trim_there(body, order[left]);
+    }
+}
+
+/// Takes an operation out, where it is there, pure and without uses.
+fn trim_there(body: &mut Body, op: OpId)
+    requires { IsOfFit body.old }
+    ensures fit { IsOfFit body.new }
+    ensures trims { TrimsInto (body_ops body.old) (body_ops body.new) }
+{
+    if body.contains(op) {
+        let _ = trim_at(body, op);
+    }
 }
 
 /// A sweep over a body from the last operation to the first, and whether an operation went.

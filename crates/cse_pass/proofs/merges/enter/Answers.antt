@@ -2,11 +2,8 @@ use Rattle.std.proofs.Common.{take, sym, subst, ◌∙◌, refl}
 use Rattle.ir_store.specs.Bodies.{ops_of, read_op}
 use Rattle.cse_pass.specs.Groups.{IsGrouping}
 use Rattle.cse_pass.proofs.Grouping.{take_more, grouped_past, grouped_more, on_ok3}
-use Rattle.cse_pass.proofs.EarlierEqual.{is_word, stands_here}
+use Rattle.cse_pass.proofs.EarlierEqual.{stands_here}
 use Rattle.cse_pass.proofs.merges.enter.Goals as goal
-
-pub hash_of-requires : goal.hash_of-requires
-hash_of-requires c = is_word c.args.body.now c.requires.fit c.args.op c.op-own.result c.op-own.ensures c.args.position c.requires.position
 
 pub returns-then-not-is_pure : goal.returns-then-not-is_pure
 returns-then-not-is_pure c =

@@ -3,11 +3,8 @@ use Rattle.ir_store.specs.declared.operation.OpId.{OpId}
 use Rattle.ir_store.specs.Bodies.{ops_of}
 use Rattle.cse_pass.specs.Same.{are_same_at}
 use Rattle.cse_pass.specs.Groups.{group_of}
-use Rattle.cse_pass.proofs.EarlierEqual.{is_word, none_impure, position_found, found_there, group_there}
+use Rattle.cse_pass.proofs.EarlierEqual.{none_impure, position_found, found_there, group_there}
 use Rattle.cse_pass.proofs.merges.equal_earlier.Goals as goal
-
-pub hash_of-requires : goal.hash_of-requires
-hash_of-requires c = is_word c.args.body.now c.requires.fit c.args.op c.op-own.result c.op-own.ensures c.args.position c.requires.position
 
 pub find_same-requires-clause-there : goal.find_same-requires-clause-there
 find_same-requires-clause-there c = rw c.of.ensures (group_there (ops_of c.args.body.now) c.args.groups.now c.args.position c.hash_of.result c.requires.grouped)

@@ -1,5 +1,5 @@
 use Rattle.std.proofs.Common.{sym, ◌∙◌}
-use Rattle.cse_pass.proofs.MergedVisits.{merged_changes, merged_fit, merged_within, merged_at_with, merged_at_same, fit_same, same_changes}
+use Rattle.cse_pass.proofs.MergedVisits.{found_at, merged_changes, merged_fit, merged_within, merged_at_with, merged_at_same, fit_same, same_changes}
 use Rattle.cse_pass.proofs.merges.visit.Goals as goal
 
 pub returns-in_err-merge-clause-fit : goal.returns-in_err-merge-clause-fit
@@ -49,3 +49,6 @@ returns-else-takes-clause-visited c =
 pub returns-else-takes-clause-changes : goal.returns-else-takes-clause-changes
 returns-else-takes-clause-changes c =
     merged_changes c.args.body.now c.merge.new.body c.requires.fit c.args.op c.in-Some.first c.args.position c.requires.position c.requires.live c.in-Some.ensures.equal c.in_ok-merge.ensures.merged
+
+pub merge-requires-clause-equal : goal.merge-requires-clause-equal
+merge-requires-clause-equal c = found_at c.args.body.now c.args.op c.in-Some.first c.args.position c.requires.position c.in-Some.ensures.equal
