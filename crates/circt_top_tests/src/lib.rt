@@ -4,7 +4,11 @@
 #![tactic(auto)]
 
 #[cfg(test)]
-mod aiger;
+mod aiger_exports;
+#[cfg(test)]
+mod aiger_imports;
+#[cfg(test)]
+mod aiger_texts;
 #[cfg(test)]
 mod cuts;
 #[cfg(test)]
