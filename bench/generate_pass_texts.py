@@ -1,7 +1,7 @@
 #!/usr/bin/env python3
 """Writes a large text for measures of passes to standard output.
 
-    generate_pass_texts.py NAME
+    generate_pass_texts.py NAME [TIMES]     TIMES as many of what it has, by default 1; 2, 4 and 8 show how the cost grows
 
 The texts are
     modules    the 10,000 modules of generate_reader_texts.py, in which nothing folds
@@ -24,6 +24,18 @@ The texts are
     constants  100,000 constants of one struct, of which no two are equal
     widths     one bit repeated to each width up to 4,096
     fields     a struct of 100 fields, of which each is taken 100 times
+    equals     1,000 adds of one value and equal constants, each above the constant that it uses
+    below      1,000 operations, each below the one that it uses, of which none is used in the end
+    cone       a mux by a constant above 1,000 operations, each below the one that it uses, which nothing else uses
+    sum        one add of 2,000 constants
+    same       one and of one value 2,000 times
+    turns      one add of 2,000 operands, a constant and an input in turn
+    users      500 values that fold one after another, each used by 100 operations
+    injects    250 structs, each the one before it with another bit, beside an array of 1,023 bits
+    slices     seven parts of one array of 128 bits after another, of which none is used
+    line       1,250 private modules, each with one operation and one instance of the one before, and a public one at the end
+    row        1,250 private modules, each with one operation, of which a public one instances each
+    through    1,250 instances of a private module that gives its input, the last one first in the text, whose value has 1,250 uses
 """
 import sys
 
@@ -158,6 +170,103 @@ def fields(count, write):
     write(f"  %o = comb.xor {', '.join(names)} : i32\n  hw.output %o : i32\n}}\n")
 
 
+def equals(count, write):
+    """So many adds of one value and equal constants, each above the constant that it uses."""
+    write(HEADER)
+    for number in range(count):
+        write(f"  %{number} = comb.sub %a, %k{number} : i32\n")
+    for number in range(count):
+        write(f"  %k{number} = hw.constant 7 : i32\n")
+    write(f"  %o = comb.xor {', '.join(f'%{number}' for number in range(count))} : i32\n  hw.output %o : i32\n}}\n")
+
+
+def cone(count, write):
+    """A mux by a constant above so many operations, each below the one that it uses, which nothing else uses."""
+    write(HEADER + f"  %t = hw.constant true\n  %o = comb.mux %t, %a, %{count - 1} : i32\n  %0 = comb.mul %a, %b : i32\n")
+    for number in range(1, count):
+        write(f"  %{number} = comb.sub %{number - 1}, %b : i32\n")
+    write("  hw.output %o : i32\n}\n")
+
+
+def sum_of_constants(count, write):
+    """One add of so many constants."""
+    write(HEADER)
+    for number in range(count):
+        write(f"  %{number} = hw.constant {number + 1} : i32\n")
+    write(f"  %o = comb.add {', '.join(f'%{number}' for number in range(count))} : i32\n  hw.output %o : i32\n}}\n")
+
+
+def same(count, write):
+    """One and of one value so many times."""
+    write(HEADER + f"  %o = comb.and {', '.join(['%a'] * count)} : i32\n  hw.output %o : i32\n}}\n")
+
+
+def turns(count, write):
+    """One add of so many operands, a constant and an input in turn."""
+    write(HEADER + "  %k = hw.constant 7 : i32\n")
+    write(f"  %o = comb.add {', '.join('%a' if number % 2 else '%k' for number in range(count))} : i32\n  hw.output %o : i32\n}}\n")
+
+
+def users(count, write):
+    """So many values that fold one after another, each used by 100 operations."""
+    write(HEADER + "  %z = hw.constant 0 : i32\n  %v0 = comb.mul %a, %b : i32\n")
+    for number in range(1, count):
+        write(f"  %v{number} = comb.or %v{number - 1}, %z : i32\n")
+    for number in range(count):
+        for time in range(100):
+            write(f"  %u{number}_{time} = comb.sub %v{number}, %b : i32\n")
+    write(f"  hw.output %v{count - 1} : i32\n}}\n")
+
+
+def injects(count, write):
+    """So many structs, each the one before it with another bit, beside an array of 1,023 bits."""
+    kind = "!hw.struct<a: !hw.array<1023xi1>, b: i1>"
+    write(f"hw.module @M(in %s : {kind}, in %b : i1, out o : i1) {{\n  %0 = hw.struct_inject %s[\"b\"], %b : {kind}\n")
+    for number in range(1, count):
+        write(f'  %{number} = hw.struct_inject %{number - 1}["b"], %b : {kind}\n')
+    write(f'  %o = hw.struct_extract %{count - 1}["b"] : {kind}\n  hw.output %o : i1\n}}\n')
+
+
+def slices(count, write):
+    """Seven parts of one array of so many bits after another, of which none is used."""
+    kind = f"!hw.array<{count}xi1>"
+    width = max(1, (count - 1).bit_length())
+    write(f"hw.module @M(in %0 : {kind}, in %i : i{width}, in %b : i1, out o : i1) {{\n")
+    for number in range(1, 8):
+        write(f"  %{number} = hw.array_slice %{number - 1}[%i] : ({kind}) -> {kind}\n")
+    write("  hw.output %b : i1\n}\n")
+
+
+def line(count, write):
+    """So many private modules, each with one operation and one instance of the one before, and a public one at the end."""
+    write("hw.module private @P0(in %a : i8, out o : i8) {\n  hw.output %a : i8\n}\n")
+    for number in range(1, count + 1):
+        scope = "private " if number < count else ""
+        write(f"hw.module {scope}@P{number}(in %a : i8, out o : i8) {{\n  %0 = comb.mul %a, %a : i8\n")
+        write(f'  %1 = hw.instance "u" @P{number - 1}(a: %0: i8) -> (o: i8)\n  hw.output %1 : i8\n}}\n')
+
+
+def row(count, write):
+    """So many private modules, each with one operation, of which a public one instances each."""
+    for number in range(count):
+        write(f"hw.module private @P{number}(in %a : i8, out o : i8) {{\n  %0 = comb.mul %a, %a : i8\n  hw.output %0 : i8\n}}\n")
+    write("hw.module @M(in %a : i8, out o : i8) {\n")
+    for number in range(count):
+        write(f'  %{number} = hw.instance "u{number}" @P{number}(a: %a: i8) -> (o: i8)\n')
+    write(f"  hw.output %{count - 1} : i8\n}}\n")
+
+
+def through(count, write):
+    """So many instances of a private module that gives its input, each above the one that it uses, and as many uses of the last."""
+    write("hw.module private @P(in %a : i8, out o : i8) {\n  hw.output %a : i8\n}\n")
+    write("hw.module @M(in %0 : i8, out o : i8) {\n")
+    for number in range(count):
+        write(f"  %v{number} = comb.sub %{count}, %0 : i8\n")
+    for number in reversed(range(1, count + 1)):
+        write(f'  %{number} = hw.instance "u{number}" @P(a: %{number - 1}: i8) -> (o: i8)\n')
+    write(f"  %o = comb.xor {', '.join(f'%v{number}' for number in range(count))} : i8\n  hw.output %o : i8\n}}\n")
+
+
 TEXTS = {
     "modules": (generate_reader_texts.many_modules, 10000),
     "third": (third, 100000),
@@ -179,15 +288,27 @@ TEXTS = {
     "constants": (constants, 100000),
     "widths": (widths, 4096),
     "fields": (fields, 100),
+    "equals": (equals, 1000),
+    "below": (dead, 1000),
+    "cone": (cone, 1000),
+    "sum": (sum_of_constants, 2000),
+    "same": (same, 2000),
+    "turns": (turns, 2000),
+    "users": (users, 500),
+    "injects": (injects, 250),
+    "slices": (slices, 128),
+    "line": (line, 1250),
+    "row": (row, 1250),
+    "through": (through, 1250),
 }
 
 
 def main():
-    """Writes the text that the word names."""
-    if len(sys.argv) != 2 or sys.argv[1] not in TEXTS:
+    """Writes the text that the first word names, so many times as large as the second one says."""
+    if len(sys.argv) not in (2, 3) or sys.argv[1] not in TEXTS or not all(word.isdigit() for word in sys.argv[2:]):
         sys.exit(__doc__)
     make, count = TEXTS[sys.argv[1]]
-    make(count, sys.stdout.write)
+    make(count * int(sys.argv[2] if len(sys.argv) == 3 else 1), sys.stdout.write)
 
 
 if __name__ == "__main__":

@@ -35,10 +35,10 @@ def modules(count, write):
 
 
 def gates(count, write):
-    """Gates one after another, over two inputs and a latch."""
+    """Gates one after another, over two inputs and a latch, each fourth one of an inverted literal; their design has less than 64 MiB."""
     write(f"aag {count + 3} 2 1 1 {count}\n2\n4\n6 {2 * count + 6} 6\n{2 * count + 7}\n")
     for k in range(4, count + 4):
-        write(f"{2 * k} {2 * k - 1} {2 + 2 * (k % 3)}\n")
+        write(f"{2 * k} {2 * k - 2 + (k % 4 == 0)} {2 + 2 * (k % 3)}\n")
 
 
 def row(text, what, size, cost):

@@ -6,6 +6,8 @@ mod cases;
 #[cfg(test)]
 mod cycles;
 #[cfg(test)]
+mod large;
+#[cfg(test)]
 mod lines;
 #[cfg(test)]
 mod literals;

@@ -1,5 +1,6 @@
 //! Whether the cases of an example give what is expected.
 use crate::cases::{Case, are_labelled_alike, cases, commands};
+use crate::circuits::has_circuit;
 use crate::runs::{Ended, run};
 use crate::simulations::sim_prints;
 use crate::steps::{design_runs, run_of, verilog_runs};
@@ -14,6 +15,9 @@ const LIMIT: u64 = 1 << 20;
 // What `lec` prints first of modules that differ.
 const DIFFERENT: &str = "c1 != c2\n";
 
+// What an error message begins with that says a place of the text.
+const REFUSED: &str = "<stdin>:";
+
 /// What is expected of a command.
 #[derive(Clone, Copy, PartialEq, Eq)]
 enum Expected {
@@ -23,9 +27,9 @@ enum Expected {
     StableOutput,
     /// Its error message.
     ErrorMessage,
-    /// Its verdict on two modules.
+    /// Its verdict on two modules, each of which takes steps as its circuit in the AIGER format does; or its error message.
     Verdict,
-    /// The steps that the text that it prints takes, and `sim` prints of it where that is a design.
+    /// The steps that the text that it prints takes, and `sim` prints of it where that is a design, whose circuit does the same.
     Steps,
 }
 
@@ -219,7 +223,10 @@ fn is_given(
     let is_given = match expected {
         Expected::Output | Expected::StableOutput => ended.is(0, wanted, ""),
         Expected::ErrorMessage => ended.is(1, "", wanted),
-        Expected::Verdict => is_verdict(alloc, &ended, source, wanted)?,
+        Expected::Verdict if wanted.starts_with(REFUSED) => ended.is(1, "", wanted),
+        Expected::Verdict => {
+            is_verdict(alloc, &ended, source, wanted)? && have_circuits(rt, alloc, source)?
+        }
         Expected::Steps => takes_steps(rt, alloc, &ended, line, wanted)?,
     };
     if !is_given {
@@ -244,6 +251,11 @@ fn is_verdict(alloc: Global, ended: &Ended, source: &str, wanted: &str) -> anyho
     Ok(is_different && out.starts_with(DIFFERENT) && do_differ(alloc, source, out)?)
 }
 
+// Whether modules `p` and `q` of a text are each exported in the AIGER format as a circuit that does the same.
+fn have_circuits(rt: &(impl Threads + Sync), alloc: Global, source: &str) -> anyhow::Result<bool> {
+    Ok(has_circuit(rt, alloc, source, "p")? && has_circuit(rt, alloc, source, "q")?)
+}
+
 // Whether a run of a line's command ended well with a text that takes these steps.
 fn takes_steps(
     rt: &(impl Threads + Sync),
@@ -260,7 +272,11 @@ fn takes_steps(
         return Ok(false);
     }
     if line.starts_with("opt") {
-        Ok(design_runs(alloc, text, &run)? && sim_prints(rt, alloc, text, wanted)?)
+        Ok(
+            design_runs(alloc, text, &run)?
+                && sim_prints(rt, alloc, text, wanted)?
+                && has_circuit(rt, alloc, text, run.top())?,
+        )
     } else {
         Ok(verilog_runs(alloc, text, &run)?)
     }

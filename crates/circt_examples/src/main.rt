@@ -10,6 +10,7 @@
 
 mod cases;
 mod checks;
+mod circuits;
 mod designs;
 mod runs;
 mod simulations;

@@ -29,6 +29,13 @@ pub struct Run {
     last: Vec<Bits>,
 }
 
+impl Run {
+    /// The name of the module.
+    pub fn top(&self) -> &str {
+        self.top.as_str()
+    }
+}
+
 // The step that a line says, its inputs before `->` and its outputs after it.
 fn step_of(alloc: Global, text: &str) -> Result<Option<Step>, AllocError> {
     let Some((before, after)) = text.split_once("->") else {
