@@ -1,5 +1,5 @@
 -- What each edit keeps of the other operations, and what two edits keep, one after the other.
-use Rattle.std.proofs.Common.{◌≡◌, ◌⊎◌, ℕ, ◌+◌, ◌≤◌, List, length, map, map-id, set, Option, Some, None, slice_get, refl, sym, ap, subst, ◌∙◌, inl, inr, arith, option_map}
+use Rattle.std.proofs.Common.{◌≡◌, ◌⊎◌, ℕ, zero, suc, ◌+◌, ◌≤◌, List, length, map, map-id, set, Option, Some, None, slice_get, refl, sym, ap, subst, ◌∙◌, inl, inr, arith, option_map}
 use Rattle.std.specs.List.{remove}
 use Rattle.std.proofs.lemmas.List.{length-map}
 use Rattle.std.proofs.lemmas.Option.{slice_get-map}
@@ -51,6 +51,24 @@ pulled_is k j other = go (down k j) refl
     go : (x : Option ℕ) → down k j ≡ x → x ≡ Some (or_zero x)
     go None is = absurd (other (down_none k j is))
     go (Some n) is = refl
+
+-- two positions that stay stand one after the other
+pub pulled_suc : (k j : ℕ) → (j ≡ k → ⊥) → (suc j ≡ k → ⊥) → pulled k (suc j) ≡ suc (pulled k j)
+unfolding pulled
+pulled_suc zero zero other next = absurd (other refl)
+pulled_suc zero (suc j) other next = refl
+pulled_suc (suc zero) zero other next = absurd (next refl)
+pulled_suc (suc (suc k)) zero other next = refl
+pulled_suc (suc k) (suc j) other next =
+    let one : j ≡ k → ⊥ = (λ same. other (ap suc same)) in
+    let two : suc j ≡ k → ⊥ = (λ same. next (ap suc same)) in
+    ap (λ x. or_zero (option_map suc x)) (pulled_is k (suc j) two) ∙ ap suc (pulled_suc k j one two) ∙ sym (ap (λ x. suc (or_zero (option_map suc x))) (pulled_is k j one))
+
+pub up_suc : (i j : ℕ) → (suc j ≡ i → ⊥) → up i (suc j) ≡ suc (up i j)
+up_suc zero j other = refl
+up_suc (suc zero) zero other = absurd (other refl)
+up_suc (suc (suc i)) zero other = refl
+up_suc (suc i) (suc j) other = ap suc (up_suc i j (λ same. other (ap suc same)))
 
 pub pulled_up : (k j : ℕ) → pulled k (up k j) ≡ j
 unfolding pulled

@@ -16,7 +16,7 @@ use Rattle.fold_laws.specs.Nested.{uses_among, use_count}
 use Rattle.fold_laws.specs.Unused.{is_result_of}
 use Rattle.fold_laws.proofs.PutIn.{next_op}
 use Rattle.canonicalise.specs.Kept.{Keeps}
-use Rattle.canonicalise.proofs.Edits.{keeps_set, pulled, pulled_is, keeps_erase, keeps_put, keeps_then, keeps_more}
+use Rattle.canonicalise.proofs.Edits.{keeps_set, pulled, pulled_is, pulled_suc, up_suc, keeps_erase, keeps_put, keeps_then, keeps_more}
 use Rattle.canonicalise.proofs.PatternEdits.{IsTaken, TakesIn, IsShown}
 use Rattle.body_edits.specs.Folded.{ids_edited_by, IsPatternEdit}
 
@@ -44,6 +44,7 @@ pub record IsKept (os : List Op) (i : ℕ) (old : Op) (es : List Edit) : Type 0 
   pub few : (j : ℕ) → ((j ≡ i) ⊎ (j ≡ inner) → ⊥) → lost j ≤ gained j + uses_among j old.operands
   pub ids : (fresh : ℕ) (ids : List ℕ) → IsFreshOf fresh (length os) ids → (j : ℕ) → ((j ≡ i) ⊎ (j ≡ inner) → ⊥)
       → slice_get (ids_edited_by fresh es ids) (position j) ≡ slice_get ids j
+  pub next : (j : ℕ) → ((j ≡ i) ⊎ (j ≡ inner) → ⊥) → ((suc j ≡ i) ⊎ (suc j ≡ inner) → ⊥) → position (suc j) ≡ suc (position j)
   pub goes : (fresh : ℕ) → (inner ≡ i) ⊎ IsGone os old inner fresh es
 
 -- ---- forms
@@ -60,6 +61,7 @@ module _ (os : List Op) (i : ℕ) (old : Op) (there : slice_get os i ≡ Some ol
         (λ j same. inl same) (keeps_set os i old o there);
     few = λ j other. omega arith;
     ids = λ fresh ids of j other. refl;
+    next = λ j other more. refl;
     goes = λ fresh. inl refl;
   }
 
@@ -74,6 +76,7 @@ module _ (os : List Op) (i : ℕ) (old : Op) (there : slice_get os i ≡ Some ol
         (λ j same. inl same) (keeps_set os i old o there);
     few = λ j other. omega arith;
     ids = λ fresh ids of j other. slice_get-set_other ids i j fresh (λ same. other (inl same));
+    next = λ j other more. refl;
     goes = λ fresh. inl refl;
   }
 
@@ -88,6 +91,7 @@ module _ (os : List Op) (i : ℕ) (old : Op) (there : slice_get os i ≡ Some ol
         (λ j. uses_among j old.operands) (λ j. 0) os (erase_op i x os) (λ j same. inl same) (keeps_erase os i old x there);
     few = λ j other. omega arith;
     ids = λ fresh ids of j other. get_taken ids i j (pulled i j) (pulled_is i j (λ same. other (inl same)));
+    next = λ j other more. pulled_suc i j (λ same. other (inl same)) (λ same. more (inl same));
     goes = λ fresh. inl refl;
   }
 
@@ -129,6 +133,7 @@ module _ (os : List Op) (i : ℕ) (old : Op) (there : slice_get os i ≡ Some ol
       keeps = kept_both;
       few = few_both;
       ids = λ fresh ids of j other. get_taken ids k j (pulled k j) (pulled_is k j (λ same. other (inr same)));
+      next = λ j other more. pulled_suc k j (λ same. other (inr same)) (λ same. more (inr same));
       goes = λ fresh. inr (record {
         named = subst (λ (z : Op). In (result k 0) z.operands) same_old taken.named;
         once = taken.once;
@@ -169,6 +174,7 @@ module _ (os : List Op) (i : ℕ) (old : Op) (there : slice_get os i ≡ Some ol
       few = few_both;
       ids = λ fresh ids of j other.
           get_taken (set ids i fresh) k j (pulled k j) (pulled_is k j (λ same. other (inr same))) ∙ slice_get-set_other ids i j fresh (λ same. other (inl same));
+      next = λ j other more. pulled_suc k j (λ same. other (inr same)) (λ same. more (inr same));
       goes = λ fresh. inr (record {
         named = subst (λ (z : Op). In (result k 0) z.operands) same_old taken.named;
         once = taken.once;
@@ -220,6 +226,7 @@ module _ (os : List Op) (i : ℕ) (old : Op) (there : slice_get os i ≡ Some ol
           (keeps_put os i c within) (keeps_set (insert_op i c os) (suc i) (retarget (up_ref i) old) p (next_op os i c within old there)));
       few = λ j other. omega (arith, up_uses j old.operands);
       ids = λ fresh ids of j other. get_put ids i j fresh (let size = of.size in omega (arith, size, within));
+      next = λ j other more. up_suc i j (λ same. more (inl same));
       goes = λ fresh. inl refl;
     }
       where

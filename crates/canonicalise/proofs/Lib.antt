@@ -3,9 +3,12 @@ pub mod Dues
 pub mod Follows
 pub mod IdUses
 pub mod KeptOps
+pub mod Linked
+pub mod Losing
 pub mod Marking
 pub mod Ranks
 pub mod Reached
+pub mod Skips
 pub mod Sweeping
 pub mod Tried
 pub mod Visiting

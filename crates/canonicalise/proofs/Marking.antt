@@ -1,10 +1,11 @@
 -- What becomes of marks.
-use Rattle.std.proofs.Common.{◌≡◌, ◌⊎◌, ℕ, zero, suc, ◌+◌, ◌≤◌, ◌<◌, Bool, true, false, cond, not, nat_eq, List, [], ◌∷◌, ◌++◌, length, set, Option, Some, None, is_some, MatchOption, slice_get, refl, sym, ap, ◌∙◌, inl, inr, arith}
+use Rattle.std.proofs.Common.{◌≡◌, ◌⊎◌, ℕ, zero, suc, ◌+◌, ◌≤◌, ◌<◌, Bool, true, false, cond, not, nat_eq, get_or, List, [], ◌∷◌, ◌++◌, length, set, Option, Some, None, is_some, MatchOption, slice_get, refl, sym, ap, ◌∙◌, inl, inr, arith}
 use Rattle.std.specs.Prelude.{Contains}
-use Rattle.std.proofs.lemmas.Bool.{eqb-true}
+use Rattle.std.proofs.lemmas.Bool.{eqb-true, eqb-false}
 use Rattle.hw_model.specs.Equality.{both_of}
 use Rattle.ir_store.specs.declared.body.Body.{Body}
 use Rattle.ir_store.specs.declared.operation.OpId.{OpId}
+use Rattle.ir_store.specs.declared.operation.Value.{Value}
 use Rattle.ir_store.specs.declared.operation.Value.TheVariants.{Result}
 use Rattle.ir_store.specs.Bodies.{ids_of, ops_of}
 use Rattle.ir_store.specs.declared.operation.UsePosition.{UsePosition}
@@ -70,6 +71,20 @@ none_left (Some p) ps qs t is test left = let clash : true ≡ false = is ∙ ap
 pub some_left : (r : Option UsePosition) (ps qs : List UsePosition) (t : Bool) → is_some r ≡ not t → t ≡ false → MatchOption r ((ps ≡ []) × (qs ≡ [])) (λ p. ps ≡ p ∷ qs) → 1 ≤ length ps
 some_left None ps qs t is test left = let clash : false ≡ true = is ∙ ap not test in cc
 some_left (Some p) ps qs t is test left = let size : length ps ≡ suc (length qs) = ap length left in omega (arith, size)
+
+-- values one by one
+pub values_step : (b : Body) (values : List Value) (i id : ℕ) (d : Value) → ((k : ℕ) (op : OpId) (n : ℕ) → k < i → slice_get values k ≡ Some (Result op n) → IsApart b op id)
+    → ((op : OpId) (n : ℕ) → get_or values i d ≡ Result op n → IsApart b op id) → (k : ℕ) (op : OpId) (n : ℕ) → k < i + 1 → slice_get values k ≡ Some (Result op n) → IsApart b op id
+values_step b values i id d before here k op n less at = go (nat_eq k i) refl
+  where
+    got : (xs : List Value) (j : ℕ) (x : Value) → slice_get xs j ≡ Some x → get_or xs j d ≡ x
+    got [] j x is = cc
+    got (y ∷ ys) zero x is = cc
+    got (y ∷ ys) (suc j) x is = got ys j x is
+
+    go : (t : Bool) → nat_eq k i ≡ t → IsApart b op id
+    go true same = here op n (got values i (Result op n) (ap (slice_get values) (sym (eqb-true k i same)) ∙ at))
+    go false other = before k op n (omega (arith, less, eqb-false k i other)) at
 
 -- ---- operations apart from one that is there, by the uses of its first result
 

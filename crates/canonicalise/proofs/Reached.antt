@@ -37,6 +37,7 @@ use Rattle.body_edits.specs.Views.{HasOp, body_ops, position_in}
 use Rattle.body_edits.proofs.FitOps.{fit_live, fit_no_further}
 use Rattle.body_edits.proofs.OperandEditing.{op_there, operands_seen}
 use Rattle.canonicalise.specs.Canonical.{table}
+use Rattle.canonicalise.specs.Runs.{AreNext}
 use Rattle.canonicalise.specs.Settled.{IsUser, IsApart}
 use Rattle.canonicalise.proofs.IdUses.{at_position, contains_at, one_position, position_found, same_id, IsResultOf, result_among, operand_used, few_uses, times_few}
 use Rattle.canonicalise.proofs.KeptOps.{IsFreshOf, IsGone, IsKept, pattern_keeps}
@@ -89,7 +90,7 @@ module _ (before after : Body) (op : OpId) (fit : IsOfFit before) (fit_then : Is
   shown : IsShown os (position_in before op) folded.edits
   shown = table_shown os (position_in before op) folded.edits folded.matches
 
-  kept : IsKept os (position_in before op) old folded.edits
+  pub kept : IsKept os (position_in before op) old folded.edits
   kept = pattern_keeps os (position_in before op) old old_there folded.edits
       (subst (λ n. IsPatternEdit n (position_in before op) folded.edits) (sym (length-body_ops before)) folded.form) shown
 
@@ -98,6 +99,11 @@ module _ (before after : Body) (op : OpId) (fit : IsOfFit before) (fit_then : Is
 
   abbrev Gone : ℕ → Type 0
   Gone j = (j ≡ position_in before op) ⊎ (j ≡ kept.inner)
+
+  -- an operation stays, and no pattern matches at it
+  pub record Stays (u : ℕ) : Type 0 where
+    pub settled : Contains (ids_of after) u × (table os' (position_of (ids_of after) u) ≡ None)
+    pub stays : Gone (position_of (ids_of before) u) → ⊥
 
   -- where the id of an operation that stays stands afterwards
   id_after : (j w : ℕ) → (Gone j → ⊥) → slice_get (ids_of before) j ≡ Some w → slice_get (ids_of after) (kept.position j) ≡ Some w
@@ -246,5 +252,21 @@ module _ (before after : Body) (op : OpId) (fit : IsOfFit before) (fit_then : Is
         (sees_no_more Gone kept.name kept.position kept.lost kept.gained os (edited_by folded.edits os) kept.keeps p user user_there stays stay
         (λ none. unused (ap (use_count (kept.position p)) folded.ops ∙ none)) (λ j used one. single j used (ap (use_count (kept.position j)) folded.ops ∙ one)))
 
-    pub stays_settled : Contains (ids_of after) u × (table os' (position_of (ids_of after) u) ≡ None)
-    stays_settled = (still, ap (table os') kept_at ∙ first_quiet patterns all_patterns_quiet os p os' (kept.position p) sees quiet)
+    pub stays_settled : Stays u
+    stays_settled = record {
+      settled = (still, ap (table os') kept_at ∙ first_quiet patterns all_patterns_quiet os p os' (kept.position p) sees quiet);
+      stays = stays;
+    }
+
+  -- two that stay, one right after the other, stand so afterwards
+  pub next_stays : (x y : ℕ) → Stays x → Stays y → AreNext (ids_of before) x y → AreNext (ids_of after) x y
+  next_stays x y one other two =
+      let at : position_of (ids_of before) x ≡ two.at = position_found (ids_of before) x two.at (id_once before x) two.first in
+      let further : position_of (ids_of before) y ≡ suc two.at = position_found (ids_of before) y (suc two.at) (id_once before y) two.second in
+      let first : Gone two.at → ⊥ = (λ gone. one.stays (subst Gone (sym at) gone)) in
+      let second : Gone (suc two.at) → ⊥ = (λ gone. other.stays (subst Gone (sym further) gone)) in
+      record {
+        at = kept.position two.at;
+        first = id_after two.at x first two.first;
+        second = ap (slice_get (ids_of after)) (sym (kept.next two.at first second)) ∙ id_after (suc two.at) y second two.second;
+      }

@@ -79,7 +79,7 @@ pub after_op : (body : Body) (prefix : List ℕ) (id : ℕ) (rest : List ℕ) �
 after_op body prefix id rest whole =
     ap (λ z. drop (suc (position_of z id)) z) whole ∙ rest_here prefix id rest (λ v. subst (λ z. times v z ≤ 1) whole (ids_once body v))
 
-position_at : (body : Body) (prefix : List ℕ) (id : ℕ) (rest : List ℕ) → ids_of body ≡ prefix ++ id ∷ rest → position_of (ids_of body) id ≡ length prefix
+pub position_at : (body : Body) (prefix : List ℕ) (id : ℕ) (rest : List ℕ) → ids_of body ≡ prefix ++ id ∷ rest → position_of (ids_of body) id ≡ length prefix
 position_at body prefix id rest whole = ap (λ z. position_of z id) whole ∙ position_here prefix id rest (λ v. subst (λ z. times v z ≤ 1) whole (ids_once body v))
 
 -- the operation after the next one

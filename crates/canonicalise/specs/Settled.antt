@@ -11,7 +11,9 @@ use Rattle.ir_store.specs.Numbered.{position_of}
 use Rattle.ir_store.specs.Uses.{uses_in, use_times}
 use Rattle.body_edits.specs.Views.{body_ops}
 use Rattle.canonicalise.specs.Canonical.{table}
+use Rattle.canonicalise.specs.Runs.{HasRun, AreLinked, Breaks}
 use Rattle.canonicalise.specs.declared.marks.Marks.{Marks}
+use Rattle.canonicalise.specs.declared.runs.Run.{Run}
 
 -- the operation of an id is settled
 abbrev pub IsSettled : Marks → ℕ → Type 0
@@ -32,3 +34,18 @@ pub record IsApart (b : Body) (w : OpId) (id : ℕ) : Type 0 where
   pub gone : (Contains (ids_of b) w.index → ⊥) → id ≡ w.index → ⊥
   pub unused : length (uses_in (Result w 0) (ops_of b)) ≡ 0 → id ≡ w.index → ⊥
   pub single : Contains (ids_of b) w.index → length (uses_in (Result w 0) (ops_of b)) ≡ 1 → IsUser (Result w 0) (ops_of b) id → ⊥
+
+-- each operation of a whole run is settled
+abbrev pub AreQuiet : Marks → Type 0
+AreQuiet m = (id : ℕ) (run : Run) → HasRun m.runs id run → IsSettled m id
+
+-- runs are broken at operations that are settled no more
+pub record Loses (old new : Marks) : Type 0 where
+  pub breaks : Breaks old.runs new.runs
+  pub quiet : AreQuiet old → AreQuiet new
+
+-- marks of a body: no pattern matches at settled operations, of which there are runs
+pub record AreMarks (m : Marks) (b : Body) : Type 0 where
+  pub settled : AreSettled m b
+  pub quiet : AreQuiet m
+  pub linked : AreLinked m.runs (ids_of b)

@@ -6,7 +6,7 @@ ghost use Rattle.body_edits.specs.FitBodies.{IsOfFit};
 ghost use Rattle.body_edits.specs.Views.{body_ops};
 ghost use Rattle.canonicalise.specs.Canonical.{table, IsCanonicalOf, Leads};
 ghost use Rattle.canonicalise.specs.Dues.{after_some, IsDue};
-ghost use Rattle.canonicalise.specs.Settled.{AreSettled};
+ghost use Rattle.canonicalise.specs.Settled.{AreMarks};
 ghost use Rattle.canonicalise.specs.Sweeps.{IsSwept};
 
 use crate::marks::Marks;
@@ -18,30 +18,33 @@ use std::alloc::{AllocError, Global};
 /// Brings a body into its canonical form: sweeps over its operations in text order, at each of which the first pattern of the
 /// table of folds that matches changes the body, until none matches or the operation is gone; the last sweep changes
 /// nothing. On an error, which comes where memory that is needed is refused, some of the folds are made (MLIR
-/// documentation, "Operation canonicalization").
+/// documentation, "Operation canonicalization"). Beside what the folds take, the first sweep is linear in the operations, and
+/// each later one takes about the root of their number, and as much again for each operation at which a pattern may match anew.
 pub fn canonicalize(alloc: Global, body: &mut Body) -> Result<(), AllocError>
     requires { IsOfFit body.old }
     ensures canonical { OnOk result (IsCanonicalOf (body_ops body.old) (body_ops body.new)) }
     ensures partly { OnErr result (Leads table (body_ops body.old) (body_ops body.new)) }
 {
-    let mut marks = Marks::new(alloc);
+    let mut marks = Marks::new(alloc, body.op_count());
     while sweep(alloc, body, &mut marks)? {}
     Ok(())
 }
 
-/// A sweep over a body, in which patterns are tried at the operations that are not settled, and whether it changed something.
+/// A sweep over a body, in which patterns are tried at the operations that are not settled, and whether it changed something. It
+/// passes over runs of settled ones, each in one step.
 fn sweep(alloc: Global, body: &mut Body, marks: &mut Marks) -> Result<bool, AllocError>
     requires fit { IsOfFit body.old }
-    requires marks { AreSettled marks.old body.old }
+    requires marks { AreMarks marks.old body.old }
     ensures fit { IsOfFit body.new }
     ensures swept { IfOk result (λ changed. IsSwept table (body_ops body.old) changed (body_ops body.new)) }
     ensures leads { Leads table (body_ops body.old) (body_ops body.new) }
     ensures smaller { IfOk result (λ changed. changed ≡ true → IsSmaller (body_ops body.new) (body_ops body.old)) }
-    ensures settled { OnOk result (AreSettled marks.new body.new) }
+    ensures settled { OnOk result (AreMarks marks.new body.new) }
 {
     let mut changed = false;
     let mut at = first_op(body);
-    while let Some(op) = at {
+    while let Some(first) = at {
+        let op = marks.end_of(body, first);
         let next = body.next_op(op);
         let second = after(body, next);
         if visit(alloc, body, marks, op)? {

@@ -5,6 +5,7 @@ pub mod canonicalize;
 mod laws;
 mod marks;
 mod reach_laws;
+mod runs;
 mod visits;
 
 pub use laws::{canonical_bodies_are_folded, canonical_bodies_once, folds_follow};

@@ -5,7 +5,7 @@ ghost use Rattle.body_edits.specs.FitBodies.{IsOfFit};
 ghost use Rattle.body_edits.specs.Folded.{Tries};
 ghost use Rattle.body_edits.specs.Views.{HasOp, position_in};
 ghost use Rattle.canonicalise.specs.Canonical.{table};
-ghost use Rattle.canonicalise.specs.Settled.{IsSettled, AreSettled};
+ghost use Rattle.canonicalise.specs.Settled.{IsSettled, AreMarks};
 
 use crate::marks::Marks;
 use comb_fold::table::{fold, matches};
@@ -15,7 +15,8 @@ use smallvec::SmallVec;
 use std::alloc::{AllocError, Global};
 
 /// Tries the patterns of the table at an operation, unless it is settled, and says whether one has changed the body. Where none
-/// matches, the operation is settled. On an error, which comes where memory that is needed is refused, the operations stay.
+/// matches, the operation is settled; one that was settled joins a run. On an error, which comes where memory that is needed is
+/// refused, the operations stay.
 pub(crate) fn visit(
     alloc: Global,
     body: &mut Body,
@@ -24,12 +25,13 @@ pub(crate) fn visit(
 ) -> Result<bool, AllocError>
     requires fit { IsOfFit body.old }
     requires live { HasOp body.old op }
-    requires marks { AreSettled marks.old body.old }
+    requires marks { AreMarks marks.old body.old }
     ensures tries { IfOk result (Tries table body.old body.new (position_in body.old op)) }
     ensures kept { OnErr result (ops_of body.new ≡ ops_of body.old) }
-    ensures settled { OnOk result (AreSettled marks.new body.new) }
+    ensures settled { OnOk result (AreMarks marks.new body.new) }
 {
     if marks.is_settled(op) {
+        marks.join(body, op)?;
         return Ok(false);
     }
     if matches(body, op) {
@@ -50,11 +52,11 @@ fn fold_marked(
 ) -> Result<bool, AllocError>
     requires fit { IsOfFit body.old }
     requires live { HasOp body.old op }
-    requires marks { AreSettled marks.old body.old }
+    requires marks { AreMarks marks.old body.old }
     requires unsettled { IsSettled marks.old op.index → ⊥ }
     ensures tries { IfOk result (Tries table body.old body.new (position_in body.old op)) }
     ensures kept { OnErr result (ops_of body.new ≡ ops_of body.old) }
-    ensures settled { OnOk result (AreSettled marks.new body.new) }
+    ensures settled { OnOk result (AreMarks marks.new body.new) }
 {
     let operands: SmallVec<Value, 4, Global> = SmallVec::from_slice(alloc, body.op(op).operands)?;
     marks.mark_users(body, Value::Result(op, 0));
