@@ -46,9 +46,20 @@ def row(text, what, size, cost):
 
 
 def measure(text, size, rounds, runs):
-    costs = support.costs_in_turn(rounds, [run for _, run in runs])
-    for (what, _), cost in zip(runs, costs):
-        row(text, what, size, cost)
+    """Rows of what each run costs, where all are made in turn, so many rounds; one that fails once is not made again."""
+    costs = [[] for _ in runs]
+    for _ in range(rounds):
+        for own, (_, run) in zip(costs, runs):
+            try:
+                if None not in own:
+                    own.append(run())
+            except SystemExit:
+                own.append(None)
+    for (what, _), own in zip(runs, costs):
+        if None in own:
+            print(f"| {text} | {what} | fails | | |", flush=True)
+        else:
+            row(text, what, size, support.median_cost(own))
 
 
 def others(aag, aig):

@@ -12,8 +12,12 @@ use operation_values::bit_string::BitString;
 use std::alloc::{AllocError, Global};
 use std::thread::Threads;
 
-// How many steps a module and its circuit take.
+// How many steps a module and its circuit take; and how many they take with more bits than these.
 const STEPS: u64 = 64;
+
+const WIDE_STEPS: u64 = 4;
+
+const MOST_BITS: u64 = 128;
 
 // How deep values of nets stand at most.
 const DEPTH: u32 = 2100;
@@ -242,10 +246,19 @@ impl Pair<'_> {
         )
     }
 
+    // How many steps they take.
+    fn step_count(&self) -> u64 {
+        if (self.clocks.len() as u64).saturating_add(self.held) > MOST_BITS {
+            WIDE_STEPS
+        } else {
+            STEPS
+        }
+    }
+
     // Whether they take all steps alike.
     fn runs_alike(&self, alloc: Global) -> Result<bool, AllocError> {
         let mut alike = self.is_alike();
-        for taken in 0..STEPS {
+        for taken in 0..self.step_count() {
             alike &= self.steps_alike(alloc, taken)?;
         }
         Ok(alike)
