@@ -3,10 +3,10 @@
 
     time_aiger.py PROGRAM [ROUNDS [SCALE]]     by default 3 rounds, all of the size; SCALE divides the modules and the gates
 
-Two texts: that of 10,000 modules with a register each, as instances of one; and one of 1,000,000 gates, each of the one before it and
-an input. The first is exported and imported, the second imported and exported. Yosys reads the ASCII form and writes it again, or only reads
-it; ABC reads and writes the binary form, which is made here. All run in turn. A row for each: seconds of the processor, MB of text a second
-(of the ASCII form), MB of memory.
+Two texts: that of 10,000 modules with a register each, as instances of one; and one of 1,000,000 gates in chains of 1,000 (with one
+chain of all gates ABC ends by a signal where it reads, Yosys where it writes). The first is exported and imported, the second imported
+and exported. Yosys reads the ASCII form and writes it again, or only reads it; ABC reads and writes the binary form, which is made here.
+All run in turn. A row for each: seconds of the processor, MB of text a second (of the ASCII form), MB of memory.
 """
 import os
 import pathlib
@@ -35,10 +35,14 @@ def modules(count, write):
 
 
 def gates(count, write):
-    """Gates one after another, over two inputs and a latch, each fourth one of an inverted literal; their design has less than 64 MiB."""
-    write(f"aag {count + 3} 2 1 1 {count}\n2\n4\n6 {2 * count + 6} 6\n{2 * count + 7}\n")
+    """Chains of 1,000 gates over two inputs and a latch, of which each has an output; each fourth gate takes an inverted literal. Their
+    design has less than 64 MiB."""
+    length = min(1000, count)
+    ends = [number + length + 3 for number in range(0, count, length)]
+    write(f"aag {count + 3} 2 1 {len(ends)} {count}\n2\n4\n6 {2 * count + 6} 6\n" + "".join(f"{2 * end}\n" for end in ends))
     for k in range(4, count + 4):
-        write(f"{2 * k} {2 * k - 2 + (k % 4 == 0)} {2 + 2 * (k % 3)}\n")
+        before = k - 1 if (k - 4) % length else 3
+        write(f"{2 * k} {2 * before + (k % 4 == 0)} {2 + 2 * (k % 3)}\n")
 
 
 def row(text, what, size, cost):
