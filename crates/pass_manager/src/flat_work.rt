@@ -6,7 +6,7 @@ ghost use Rattle.shared_schedule.specs.Views.{callees_in};
 ghost use Rattle.shared_schedule.specs.Copies.{AreReceived};
 ghost use Rattle.ir_store.specs.Designs.{design_of, modules_of};
 ghost use Rattle.inline_pass.specs.OneBody.{IsOwnBody, IsFlatBody};
-ghost use Rattle.pass_manager.specs.Flats.{AreListsOf, IsFlatCopy};
+ghost use Rattle.pass_manager.specs.Flats.{AreListsOf, IsFlatCopy, IsKeptBody};
 
 use crate::owners::free_body;
 use inline_pass::received::flatten_received;
@@ -17,7 +17,8 @@ use std::alloc::{AllocError, Global};
 use std::snapshot::Snapshot;
 use std::sync::Arc;
 
-/// The bodies of a design, which are made flat. A finished body has owners: it goes to the callers of its module without a copy.
+/// The bodies of a design, which are made flat. A flat body has owners: it goes to the callers of its module without a copy. Of a
+/// private module nothing else stays, so its flat body lives until the last caller has put it in.
 #[derive(Drop)]
 pub(crate) struct FlatBodies<'d> {
     /// The modules, with empty bodies.
@@ -30,7 +31,7 @@ impl Pieces for FlatBodies<'_> {
     ghost use Rattle.std.specs.Arc.{arc_value};
     ghost use Rattle.ir_store.specs.Designs.{design_of, modules_of};
     ghost use Rattle.inline_pass.specs.OneBody.{IsOwnBody, IsFlatBody};
-    ghost use Rattle.pass_manager.specs.Flats.{AreListsOf, IsFlatCopy};
+    ghost use Rattle.pass_manager.specs.Flats.{AreListsOf, IsFlatCopy, IsKeptBody};
 
     type Body = Arc<Body>;
 
@@ -38,12 +39,15 @@ impl Pieces for FlatBodies<'_> {
 
     ghost first = { λ pieces m body. IsOwnBody (design_of pieces.before.value) m (arc_value body) };
 
-    ghost finished = { λ pieces m body. IsFlatBody (design_of pieces.before.value) m (arc_value body) };
+    ghost made = { λ pieces m body. IsFlatBody (design_of pieces.before.value) m (arc_value body) };
+
+    ghost finished = { λ pieces m body. IsKeptBody (design_of pieces.before.value) m (arc_value body) };
 
     ghost copied = { λ pieces m copy. IsFlatCopy (design_of pieces.before.value) m copy };
 }
 
 /// What a worker does with a module: it puts the flat bodies of private modules where the body instances these.
+/// Linear in the body, in the flat bodies that are put in, and in the uses of the results of the instances.
 #[derive(Drop)]
 pub(crate) struct FlatWork;
 
@@ -83,9 +87,28 @@ impl<'d> Work<FlatBodies<'d>> for FlatWork {
         body: &Arc<Body>,
     ) -> Result<Option<Arc<Body>>, AllocError>
         requires lists { AreListsOf (design_of plan.now.pieces.before.value) (modules_of plan.now.pieces.headers.now) (callees_in plan.now) }
-        requires finished { IsFlatBody (design_of plan.now.pieces.before.value) m (arc_value body.now) }
+        requires made { IsFlatBody (design_of plan.now.pieces.before.value) m (arc_value body.now) }
         ensures { IfOk result (λ copy. IsFlatCopy (design_of plan.now.pieces.before.value) m copy) }
     {
         Ok(Some(Arc::try_clone(body)?))
+    }
+
+    fn keep(
+        &self,
+        alloc: Global,
+        plan: &Plan<FlatBodies<'d>>,
+        m: u32,
+        body: Arc<Body>,
+    ) -> Result<Arc<Body>, AllocError>
+        requires within { m < length (callees_in plan.now) }
+        requires lists { AreListsOf (design_of plan.now.pieces.before.value) (modules_of plan.now.pieces.headers.now) (callees_in plan.now) }
+        requires made { IsFlatBody (design_of plan.now.pieces.before.value) m (arc_value body) }
+        ensures { IfOk result (λ b. IsKeptBody (design_of plan.now.pieces.before.value) m (arc_value b)) }
+    {
+        if plan.pieces.headers.module(m).private {
+            let empty = Body::new(alloc);
+            return Ok(Arc::new(alloc, empty)?);
+        }
+        Ok(body)
     }
 }

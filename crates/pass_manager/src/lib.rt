@@ -10,6 +10,7 @@ mod flattening;
 pub mod gate;
 mod laws;
 mod owners;
+mod public_modules;
 pub mod run;
 
 pub use aggregate_lower::lowering_keeps;

@@ -12,6 +12,7 @@ use crate::body_pass::{BodyPass, CanonicalForm, CommonSubexpressions, LoweredReg
 use crate::body_work::{Bodies, BodyWork};
 use crate::callees::callee_lists;
 use crate::flattening::flatten_modules;
+use crate::owners::{free_bodies, owned_bodies};
 use aggregate_lower::lowering::lower_aggregates;
 use inline_pass::dead_modules::symbol_dce;
 use ir_store::design::Design;
@@ -26,9 +27,11 @@ use std::thread::Threads;
 
 /// What the passes of a pipeline make of a design of which nothing is refused, one pass after another, for any number of
 /// workers, 1 to 64. A pass on bodies works each module by itself after those that it instances, on whichever worker comes to
-/// it, and `hw-flatten-modules` with the finished bodies of these; private modules go on the caller alone, and so do aggregates.
+/// it, and `hw-flatten-modules` with the flat bodies of these; private modules go on the caller alone, and so do aggregates.
 /// The gate is told of each module once for each such pass, just before the pass works on its body, by a handle of the worker.
-/// The error comes only when out of memory, and the design is dropped then.
+/// Over what the passes cost, each pass on bodies has a table of a few words for each module and each instance. Of
+/// `hw-flatten-modules` time is the sum of all flat bodies, and memory is that of the design before and after, where private modules
+/// are reached from public ones. The error comes only when out of memory, and the design is dropped then.
 pub fn run_pipeline<R: Threads + Sync, G: Gate + Send + Drop>(
     rt: &R,
     alloc: Global,
@@ -108,7 +111,9 @@ fn change_bodies<R: Threads + Sync, P: BodyPass + Sync, G: Gate + Send + Drop>(
         before: Snapshot::of(&bodies),
         pass: PhantomData,
     };
-    let done = run_modules(rt, alloc, pieces, callees, bodies, workers, &BodyWork, gate)?;
-    put_bodies(design, done);
+    let firsts = owned_bodies(alloc, bodies)?;
+    let done = run_modules(rt, alloc, pieces, callees, firsts, workers, &BodyWork, gate)?;
+    let bodies = free_bodies(alloc, done)?;
+    put_bodies(design, bodies);
     Ok(())
 }

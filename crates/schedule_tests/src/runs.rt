@@ -24,6 +24,8 @@ impl Pieces for Sevens {
 
     ghost first = { λ _ m b. b ≡ 7 };
 
+    ghost made = { λ _ m b. b ≡ 7 + m };
+
     ghost finished = { λ _ m b. b ≡ 7 + m };
 
     ghost copied = { λ _ m o. o ≡ Some (7 + m) };
@@ -100,10 +102,23 @@ impl Work<Sevens> for Count {
         m: u32,
         body: &u64,
     ) -> Result<Option<u64>, AllocError>
-        requires finished { body.now ≡ 7 + m }
+        requires made { body.now ≡ 7 + m }
         ensures { IfOk result (λ o. o ≡ Some (7 + m)) }
     {
         Ok(Some(*body))
+    }
+
+    fn keep(
+        &self,
+        _alloc: Global,
+        _plan: &Plan<Sevens>,
+        m: u32,
+        body: u64,
+    ) -> Result<u64, AllocError>
+        requires made { body ≡ 7 + m }
+        ensures { IfOk result (λ b. b ≡ 7 + m) }
+    {
+        Ok(body)
     }
 }
 

@@ -86,7 +86,7 @@ impl<P: Pieces> Shared<P> {
         body
     }
 
-    /// Puts the finished body of a module that the worker has taken, whose edges it has emptied.
+    /// Puts what stays of the body of a module that the worker has taken, whose edges it has emptied.
     pub fn put_done(&self, seat: &mut Seat<Slot<P::Body>, View<P>>, m: u32, body: P::Body)
         requires idle { IsIdle self.now.table.shared.table_id self.now.plan seat.old }
         requires within { m < length (callees_in self.now.plan) }
@@ -153,7 +153,7 @@ impl<P: Pieces> Shared<P> {
         copy
     }
 
-    /// Puts a copy of the finished body of a module that the worker did, or none, on a caller's edge, whose slot then is
+    /// Puts a copy of the body that was made for a module that the worker did, or none, on a caller's edge, whose slot then is
     /// out with the worker until it reports the edge.
     pub fn put_edge(
         &self,

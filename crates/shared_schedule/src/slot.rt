@@ -12,7 +12,7 @@ pub enum Slot<B> {
     Made(B),
     /// Nothing was put on the edge yet.
     Bare,
-    /// A copy of the callee's finished body, or none.
+    /// A copy of the body that was made for the callee, or none.
     Copied(Option<B>),
     /// The copy was taken.
     Cleared,

@@ -57,7 +57,7 @@ where
     P::Body: Drop,
     requires within { m < length (callees_in shared.now.plan) }
     requires lists { P.lists shared.now.plan.pieces (callees_in shared.now.plan) }
-    requires finished { P.finished shared.now.plan.pieces m body.now }
+    requires made { P.made shared.now.plan.pieces m body.now }
     ensures { IfOk result (λ v. AreCopies (P.copied shared.now.plan.pieces m) (length (slice_index_or (map (λ row. row.items) shared.now.callers.items) m [])) v.items) }
 {
     let mut copies = Vec::new(alloc);
@@ -159,6 +159,7 @@ where
     gate.enter(m);
     let body = work.work(alloc, &shared.plan, m, body, received, &*gate)?;
     let copies = copies_of(shared, alloc, work, m, &body)?;
+    let body = work.keep(alloc, &shared.plan, m, body)?;
     shared.put_done(seat, m, body);
     tell_callers(shared, seat, queue, m, copies)
 }

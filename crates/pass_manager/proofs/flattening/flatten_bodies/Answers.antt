@@ -5,10 +5,11 @@ use Rattle.std.specs.Arc.{arc_value}
 use Rattle.ir_store.specs.Designs.{design_of, modules_of}
 use Rattle.ir_store.proofs.ThreadBodies.{body_send, body_sync}
 use Rattle.ir_store.proofs.ThreadDesigns.{design_sync}
-use Rattle.inline_pass.specs.OneBody.{IsOwnBody, IsFlatBody, AreHeaders}
-use Rattle.pass_manager.specs.Flats.{AreListsOf}
+use Rattle.inline_pass.specs.OneBody.{IsOwnBody, AreHeaders}
+use Rattle.pass_manager.specs.Flats.{AreListsOf, IsKeptBody}
 use Rattle.pass_manager.proofs.AllBodies.{count_emptied}
-use Rattle.pass_manager.proofs.FlatBodies.{headers_of, own_first, count_flat, all_flat}
+use Rattle.pass_manager.proofs.FlatBodies.{headers_of, own_first, all_kept}
+use Rattle.pass_manager.proofs.OwnedBodies.{count_freed}
 use Rattle.pass_manager.proofs.Visits.{visits_all}
 use Rattle.pass_manager.proofs.flattening.flatten_bodies.Goals as goal
 
@@ -34,7 +35,7 @@ run_modules-requires-clause-lists g c κs within =
 
 pub put_bodies-requires : goal.put_bodies-requires
 put_bodies-requires g c =
-    count_flat c.in_ok-done.done.items c.in_ok-bodies-2.bodies.items c.in_ok-bodies-2.ensures ∙ c.in_ok-done.ensures.len ∙ c.in_ok-callees.ensures.count
+    count_freed c.in_ok-done.done.items c.in_ok-bodies-2.bodies.items c.in_ok-bodies-2.ensures ∙ c.in_ok-done.ensures.len ∙ c.in_ok-callees.ensures.count
     ∙ sym (ap length c.in_ok-bodies.ensures.modules ∙ count_emptied (modules_of c.args.design.now))
 
 pub returns-clause-visits : goal.returns-clause-visits
@@ -42,6 +43,6 @@ returns-clause-visits g c = visits_all (modules_of c.args.design.now) _ _ _ c.in
 
 pub returns-clause-made : goal.returns-clause-made
 returns-clause-made g c =
-    all_flat (modules_of c.args.design.now) (modules_of c.take_bodies.new.design) (modules_of c.put_bodies.new.design) c.in_ok-done.done.items c.in_ok-bodies-2.bodies.items
+    all_kept (modules_of c.args.design.now) (modules_of c.take_bodies.new.design) (modules_of c.put_bodies.new.design) c.in_ok-done.done.items c.in_ok-bodies-2.bodies.items
     c.in_ok-bodies.ensures.modules (c.in_ok-done.ensures.len ∙ c.in_ok-callees.ensures.count) c.in_ok-bodies-2.ensures
-    (λ i b at. subst (λ x. IsFlatBody (design_of x) i (arc_value b)) c.of-before.ensures (c.in_ok-done.ensures.finished i b at)) c.put_bodies.ensures
+    (λ i b at. subst (λ x. IsKeptBody (design_of x) i (arc_value b)) c.of-before.ensures (c.in_ok-done.ensures.finished i b at)) c.put_bodies.ensures

@@ -29,6 +29,9 @@ work-requires-clause-within g c = (between-due (callees_in c.args.shared.now.pla
 pub copies_of-requires-clause-within : goal.copies_of-requires-clause-within
 copies_of-requires-clause-within g c = (between-due (callees_in c.args.shared.now.plan) c.args.seat.now.me.0 c.args.queue.now.items c.args.m c.requires.between).1
 
+pub keep-requires-clause-within : goal.keep-requires-clause-within
+keep-requires-clause-within g c = (between-due (callees_in c.args.shared.now.plan) c.args.seat.now.me.0 c.args.queue.now.items c.args.m c.requires.between).1
+
 pub put_done-requires-clause-within : goal.put_done-requires-clause-within
 put_done-requires-clause-within g c = (between-due (callees_in c.args.shared.now.plan) c.args.seat.now.me.0 c.args.queue.now.items c.args.m c.requires.between).1
 
