@@ -22,7 +22,6 @@ The texts are
     above3     the same of 100,000 operations
     unused     100,000 operations, each above the one that it uses, of which none is used in the end
     constants  100,000 constants of one struct, of which no two are equal
-    widths     one bit repeated to each width up to 4,096
     fields     a struct of 100 fields, of which each is taken 100 times
     equals     1,000 adds of one value and equal constants, each above the constant that it uses
     below      1,000 operations, each below the one that it uses, of which none is used in the end
@@ -152,14 +151,6 @@ def constants(count, write):
     write(f"  %o = comb.xor {', '.join(f'%v{number}' for number in range(count))} : i32\n  hw.output %o : i32\n}}\n")
 
 
-def widths(count, write):
-    """One bit repeated to each width up to so many bits."""
-    write(HEADER)
-    for width in range(32, count + 1):
-        write(f"  %{width} = comb.replicate %c : (i1) -> i{width}\n  %v{width} = comb.extract %{width} from 0 : (i{width}) -> i32\n")
-    write(f"  %o = comb.xor {', '.join(f'%v{width}' for width in range(32, count + 1))} : i32\n  hw.output %o : i32\n}}\n")
-
-
 def fields(count, write):
     """A struct of so many fields, of which each is taken 100 times."""
     kind = "!hw.struct<" + ", ".join(f"f{number}: i32" for number in range(count)) + ">"
@@ -286,7 +277,6 @@ TEXTS = {
     "above3": (above, 100000),
     "unused": (unused, 100000),
     "constants": (constants, 100000),
-    "widths": (widths, 4096),
     "fields": (fields, 100),
     "equals": (equals, 1000),
     "below": (dead, 1000),

@@ -29,7 +29,6 @@ FAMILIES = {
     "equals": "opt --cse",
     "unused": "opt --cse",
     "constants": "opt --cse",
-    "widths": "opt --cse",
     "below": "opt --canonicalize",
     "cone": "opt --canonicalize",
     "back": "opt --canonicalize",
@@ -45,7 +44,7 @@ FAMILIES = {
     "slices": "translate --export-verilog",
 }
 # Families whose size in TEXTS is that of the largest run.
-LARGE = {"unused": 1000, "constants": 1000, "widths": 512, "back": 500, "long": 1000, "same": 1000, "turns": 1000}
+LARGE = {"unused": 1000, "constants": 1000, "back": 500, "long": 1000, "same": 1000, "turns": 1000}
 
 
 def limit():
