@@ -1,9 +1,9 @@
 -- What the operands of the blocks of a body are: values that have a type, or first results of operations that are there.
-use Rattle.std.proofs.Common.{◌≡◌, ◌⊎◌, ℕ, zero, suc, ◌+◌, ◌<◌, Bool, true, false, cond, List, [], ◌∷◌, length, map, Option, Some, None, slice_get, refl, sym, ap, subst, ◌∙◌, arith, inl, inr, option_and_then}
+use Rattle.std.proofs.Common.{◌≡◌, ◌⊎◌, ℕ, ◌+◌, ◌<◌, Bool, true, false, List, [], ◌∷◌, length, map, Option, Some, slice_get, refl, sym, ap, subst, ◌∙◌, arith, inl, inr, option_and_then}
 use Rattle.std.proofs.lemmas.Option.{slice_get_within}
 use Rattle.wiring.specs.Wiring.{In}
 use Rattle.wiring.proofs.Options.{and_then_some}
-use Rattle.wiring.proofs.Members.{In-slice_get, position_of_In, In-map, from_In-map, from_In-flat_map, In-append_cases}
+use Rattle.wiring.proofs.Members.{In-slice_get, position_of_In, In-map, from_In-map, from_In-flat_map}
 use Rattle.hw_model.specs.Types.{HwType, leaves}
 use Rattle.hw_model.specs.Kinds.{Kind, Reset}
 use Rattle.hw_model.specs.Kinds.Reset.{no_reset, sync_reset}
@@ -12,17 +12,12 @@ use Rattle.hw_model.specs.Design.{Ref, Port, Op, RegisterForm, takes_enable, reg
 use Rattle.hw_model.specs.Design.Ref.{result}
 use Rattle.hw_model.specs.Sound.{type_in, register_types, Fits, OpFits}
 use Rattle.edit_laws.specs.Edit.{is_anchor}
-use Rattle.ir_store.specs.declared.operation.OpId.{OpId}
-use Rattle.ir_store.specs.Bodies.{op_id}
-use Rattle.aggregate_laws.specs.Leaves.{in_row, bare_kind, bare_op, leaf_operands, leaf_registers, leaves_of, spread}
+use Rattle.aggregate_laws.specs.Leaves.{bare_kind, bare_op, leaf_operands, leaf_registers, leaves_of, spread}
 use Rattle.aggregate_laws.specs.Rules.{Rules, count_by, begin, blocks, parts_of, StandsBefore, StandsTyped, Splits, SplitsShape}
-use Rattle.aggregate_laws.proofs.Lists.{from_In-in_row}
 use Rattle.aggregate_laws.proofs.Bare.{form_bare, type_bare}
 use Rattle.aggregate_laws.proofs.Anchors.{from_leaf_register, by_form}
-use Rattle.aggregate_laws.proofs.Blocks.{block_by, length_blocks, blocks_at, blocks_position}
-use Rattle.aggregate_acceptance.specs.Joins.{only_joins}
-use Rattle.aggregate_lower.proofs.JoinsLeaving.{how_many, join_ids}
-use Rattle.aggregate_lower.proofs.NumberedBodies.{IsBelow}
+use Rattle.aggregate_laws.proofs.Blocks.{block_by, blocks_at, blocks_position}
+use Rattle.aggregate_lower.specs.Targets.{IsNamed}
 
 -- ---- registers
 
@@ -53,61 +48,13 @@ register_typed (register c r) f ts xs t k is fits z here = typed_member (takes_e
 register_typed async_firreg f ts xs t k is fits z here = typed_member false sync_reset t z (subst (In z) fits here)
 register_typed _ f ts xs t k is fits z here = cc
 
--- ---- the ids of wires that leave
-
--- the id is that of the n-th wire of the operation at position j
-record IsJoinId (rules : Rules) (start : ℕ) (os : List Op) (w : OpId) : Type 0 where
-  pub j : ℕ
-  pub o : Op
-  pub n : ℕ
-  pub there : slice_get os j ≡ Some o
-  pub joins : only_joins o.kind ≡ true
-  pub within : n < count_by rules o
-  pub number : w ≡ op_id (start + (begin rules os j + n))
-
-from_join_ids : (rules : Rules) (start : ℕ) (os : List Op) (w : OpId) → In w (join_ids rules start os) → IsJoinId rules start os w
-from_join_ids rules start [] w here = absurd here
-from_join_ids rules start (o ∷ os) w here =
-    go (In-append_cases w (cond (only_joins o.kind) (in_row op_id start (count_by rules o)) []) (join_ids rules (start + count_by rules o) os) here)
-    (from_join_ids rules (start + count_by rules o) os w)
-  where
-    own : (b : Bool) → only_joins o.kind ≡ b → In w (cond b (in_row op_id start (count_by rules o)) []) → IsJoinId rules start (o ∷ os) w
-    own false is among = absurd among
-    own true is among =
-        let from = from_In-in_row op_id start (count_by rules o) w among in
-        record {
-          j = 0;
-          o = o;
-          n = from.0;
-          there = refl;
-          joins = is;
-          within = from.1;
-          number = from.2 ∙ ap (λ k. op_id (start + k)) (let e : from.0 ≡ 0 + from.0 = omega arith in e);
-        }
-
-    go : In w (cond (only_joins o.kind) (in_row op_id start (count_by rules o)) []) ⊎ In w (join_ids rules (start + count_by rules o) os)
-        → (In w (join_ids rules (start + count_by rules o) os) → IsJoinId rules (start + count_by rules o) os w) → IsJoinId rules start (o ∷ os) w
-    go (inl among) rest = own (only_joins o.kind) refl among
-    go (inr among) rest =
-        let from = rest among in
-        record {
-          j = suc from.j;
-          o = from.o;
-          n = from.n;
-          there = from.there;
-          joins = from.joins;
-          within = from.within;
-          number = from.number
-              ∙ ap op_id (let e : (start + count_by rules o) + (begin rules os from.j + from.n) ≡ start + ((count_by rules o + begin rules os from.j) + from.n) = omega arith in e);
-        }
-
 -- ---- blocks
 
 -- a value has a type, or is the first result of an operation that is there
 abbrev pub IsThere : List Port → List Op → Ref → Type 0
 IsThere ps os r = ((u : HwType) × (type_in ps os r ≡ Some u)) ⊎ ((j : ℕ) × (j < length os) × (r ≡ result j 0))
 
-there_below : (ps : List Port) (os : List Op) (r : Ref) → IsThere ps os r → IsBelow (length os) r
+there_below : (ps : List Port) (os : List Op) (r : Ref) → IsThere ps os r → IsNamed (length os) r
 there_below ps os r (inr (i, below, same)) j k is =
     let equal : result i 0 ≡ result j k = sym same ∙ is in
     let number : i ≡ j = cc in
@@ -132,9 +79,6 @@ module _ (rules : Rules) (ps ps' : List Port) (os : List Op) where
       (fits : (n : ℕ) (x : Op) → slice_get new_ops n ≡ Some x → OpFits new_type x) where
     shapes : (o : Op) → In o os → SplitsShape (rules.rule o) stand o
     shapes o here = (splits o here).shape
-
-    pub blocks_many : length new_ops ≡ how_many rules os
-    blocks_many = length_blocks rules stand os shapes 0
 
     part_typed : (o : Op) (y : Ref) → In o os → In y o.operands → (r : Ref) → In r (stand y) → IsThere ps' new_ops r
     part_typed o y there among r here =
@@ -204,27 +148,5 @@ module _ (rules : Rules) (ps ps' : List Port) (os : List Op) where
         let from = blocks_position rules stand os shapes 0 spot.0 x spot.1 in
         operand_there from.0 from.1 from.3 from.2 x from.4 r here
 
-    pub all_below : (x : Op) (r : Ref) → In x new_ops → In r x.operands → IsBelow (length new_ops) r
+    pub all_below : (x : Op) (r : Ref) → In x new_ops → In r x.operands → IsNamed (length new_ops) r
     all_below x r there here = there_below ps' new_ops r (all_there x r there here)
-
-    -- ---- wires that leave
-
-    module _ (wires : (o : Op) → In o os → only_joins o.kind ≡ true → (start : ℕ) (y : Op) → In y (block_by rules stand start o) → (k : ℕ) → result_type y (suc k) ≡ None) where
-      first_of : (r : Ref) → IsThere ps' new_ops r → (j k : ℕ) → r ≡ result j k → In (op_id j) (join_ids rules 0 os) → k ≡ 0
-      first_of r (inr (i, below, same)) j k is leaves_later = let equal : result i 0 ≡ result j k = sym same ∙ is in cc
-      first_of r (inl (u, has)) j zero is leaves_later = refl
-      first_of r (inl (u, has)) j (suc k) is leaves_later =
-          let from = from_join_ids rules 0 os (op_id j) leaves_later in
-          let j_is : j ≡ 0 + (begin rules os from.j + from.n) = ap (λ (i : OpId). i.index) from.number in
-          let found = and_then_some (slice_get new_ops j) (λ (o : Op). result_type o (suc k)) (ap new_type (sym is) ∙ has) in
-          let position : begin rules os from.j + from.n ≡ j = omega arith in
-          let at : slice_get (block_by rules stand (0 + begin rules os from.j) from.o) from.n ≡ Some found.0 =
-          sym (blocks_at rules stand os shapes from.j from.o from.there from.n 0 from.within) ∙ ap (slice_get new_ops) position ∙ found.1 in
-          let none : result_type found.0 (suc k) ≡ None =
-          wires from.o (In-slice_get from.o os from.j from.there) from.joins (0 + begin rules os from.j) found.0
-          (In-slice_get found.0 (block_by rules stand (0 + begin rules os from.j) from.o) from.n at) k in
-          let never : None ≡ Some u = sym none ∙ found.2 in
-          cc
-
-      pub all_first : (x : Op) (r : Ref) → In x new_ops → In r x.operands → (j k : ℕ) → r ≡ result j k → In (op_id j) (join_ids rules 0 os) → k ≡ 0
-      all_first x r there here = first_of r (all_there x r there here)

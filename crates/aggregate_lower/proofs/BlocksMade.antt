@@ -1,11 +1,11 @@
 -- What operations become, one after another, by a table of what stands for values.
-use Rattle.std.proofs.Common.{◌≡◌, ℕ, suc, ◌+◌, ◌<◌, ◌≤◌, List, [], ◌∷◌, ◌++◌, length, map, drop, get_or, Some, slice_get, refl, sym, ap, ap₂, ◌∙◌, arith, append_assoc, inl, inr, option_map}
-use Rattle.std.proofs.lemmas.List.{length-map, append-nil, drop_all}
+use Rattle.std.proofs.Common.{◌≡◌, ℕ, zero, suc, ◌+◌, ◌<◌, List, [], ◌∷◌, ◌++◌, length, map, get_or, Some, slice_get, refl, sym, ap, ap₂, ◌∙◌, arith, inl, inr, option_map}
+use Rattle.std.proofs.lemmas.List.{length-map}
 use Rattle.std.proofs.lemmas.Option.{slice_get-map}
 use Rattle.wiring.specs.Wiring.{In}
-use Rattle.wiring.proofs.Lists.{map-map, drop_some, slice_get_some}
+use Rattle.wiring.proofs.Lists.{map-map, slice_get_some}
 use Rattle.wiring.proofs.Members.{map_same}
-use Rattle.hw_model.specs.Design.{Ref, Op, Design}
+use Rattle.hw_model.specs.Design.{Ref, Design}
 use Rattle.ir_store.specs.declared.body.Body.{Body}
 use Rattle.ir_store.specs.declared.body.Op.{Op as ReadOp}
 use Rattle.ir_store.specs.declared.operation.OpId.{OpId}
@@ -36,21 +36,11 @@ read_there b ids all j within o found =
     let index : there.0.id ≡ (get_or ids j (op_id 0)).index = cc in
     there.1 ∙ sym (op_once (ops_of b) j there.0 there.1 (ids_once b there.0.id)) ∙ ap (op_at (ops_of b)) index ∙ found
 
-module _ (d : Design) (t : LeafTable) where
-  -- one more
-  pub block_next : (ops : List BodyOp) (starts : List ℕ) (p : ℕ) (o : BodyOp) (start : ℕ) (before after whole : List Op) → slice_get ops p ≡ Some o → slice_get starts p ≡ Some start
-      → after ≡ before ++ block_made d t o start → before ++ blocks_made d t (drop p ops) (drop p starts) ≡ whole
-      → after ++ blocks_made d t (drop (p + 1) ops) (drop (p + 1) starts) ≡ whole
-  block_next ops starts p o start before after whole at start_at is left =
-      let next : suc p ≡ p + 1 = omega arith in
-      ap (λ xs. xs ++ blocks_made d t (drop (p + 1) ops) (drop (p + 1) starts)) is
-      ∙ append_assoc before (block_made d t o start) (blocks_made d t (drop (p + 1) ops) (drop (p + 1) starts))
-      ∙ sym (ap₂ (λ xs ys. before ++ blocks_made d t xs ys) (drop_some ops p o at ∙ ap (λ n. o ∷ drop n ops) next) (drop_some starts p start start_at ∙ ap (λ n. start ∷ drop n starts) next))
-      ∙ left
-
-  pub no_block_left : (ops : List BodyOp) (starts : List ℕ) (p : ℕ) (before whole : List Op) → length ops ≤ p → before ++ blocks_made d t (drop p ops) (drop p starts) ≡ whole → before ≡ whole
-  no_block_left ops starts p before whole past left =
-      sym (append-nil before) ∙ ap (λ xs. before ++ blocks_made d t xs (drop p starts)) (sym (drop_all p ops past)) ∙ left
+-- a number that is read of a list stands in its position
+pub number_at : (xs : List ℕ) (p x : ℕ) → p < length xs → x ≡ get_or xs p x → slice_get xs p ≡ Some x
+number_at [] p x below is = absurd (omega arith)
+number_at (y ∷ xs) zero x below is = ap Some (sym is)
+number_at (y ∷ xs) (suc p) x below is = number_at xs p x (omega arith) is
 
 -- ---- all blocks
 
@@ -59,7 +49,7 @@ module _ (d : Design) (t : LeafTable) (parts : Ref → List Ref) (position : ℕ
   abbrev pub HasParts : BodyOp → Type 0
   HasParts o = (v : Value) → In v o.operands → leaves_at t v ≡ parts (ref_by position v)
 
-  block_same : (o : BodyOp) → HasParts o → (start : ℕ) → block_made d t o start ≡ block ((lowering_rules d).rule (op_by position o)) parts start (op_by position o)
+  pub block_same : (o : BodyOp) → HasParts o → (start : ℕ) → block_made d t o start ≡ block ((lowering_rules d).rule (op_by position o)) parts start (op_by position o)
   block_same o has start =
       ap₂ (λ (rule : Rule) args. rule.made args start) (rule_without d (op_by position o) [] o.parts.kind)
       (map_same (leaves_at t) (λ v. parts (ref_by position v)) o.operands has ∙ sym (map-map parts (ref_by position) o.operands))

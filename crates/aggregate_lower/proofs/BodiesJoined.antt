@@ -1,42 +1,126 @@
 -- The body of a module of a fit design, by its leaves.
-use Rattle.std.proofs.Common.{◌≡◌, ℕ, suc, ◌+◌, ◌≤◌, Bool, List, [], ◌∷◌, length, refl, sym, ap, ap₂, subst, ◌∙◌, arith}
-use Rattle.std.specs.Prelude.{Contains}
+use Rattle.std.proofs.Common.{◌≡◌, ℕ, suc, ◌+◌, Bool, true, false, cond, List, [], ◌∷◌, ◌++◌, length, map, refl, sym, ap, subst, ◌∙◌, arith, inl, inr}
 use Rattle.std.proofs.lemmas.List.{length-map}
 use Rattle.wiring.specs.Wiring.{In}
+use Rattle.wiring.proofs.Members.{In-map, from_In-map}
 use Rattle.hw_model.specs.Design.{Ref, Port, Op, Design}
+use Rattle.edit_laws.specs.Edit.{retarget}
+use Rattle.edit_laws.specs.Falls.{LocalHeight}
 use Rattle.acceptance_laws.specs.Keeps.{IsFit}
 use Rattle.ir_store.specs.declared.body.Body.{Body}
-use Rattle.ir_store.specs.declared.operation.OpId.{OpId}
 use Rattle.ir_store.specs.declared.operation.NewOp.{NewOp}
+use Rattle.ir_store.specs.declared.operation.Value.{Value}
 use Rattle.ir_store.specs.Bodies.{ids_of, ops_of, op_id}
 use Rattle.ir_store.specs.BodyOps.{BodyOp, ids_in}
 use Rattle.ir_store.specs.Live.{AreDistinct}
 use Rattle.ir_store.specs.Numbered.{position_of, op_by, ops_by_position}
 use Rattle.ir_store.proofs.BodyLemmas.{ids_once}
+use Rattle.inline_laws.specs.Unwire.{unwire}
 use Rattle.aggregate_laws.specs.Rules.{Rules, count_by, blocks, parts_of}
-use Rattle.aggregate_acceptance.specs.Joins.{without_joins}
+use Rattle.aggregate_acceptance.specs.Joins.{only_joins, without_joins}
 use Rattle.lowering_rules.specs.declared.leaf_table.LeafTable.{LeafTable}
-use Rattle.lowering_rules.specs.LeafTables.{starts_from, ends_from, IsLeafTable}
+use Rattle.lowering_rules.specs.LeafTables.{starts_from, IsLeafTable}
 use Rattle.lowering_rules.specs.LoweringRules.{lowering_rules}
 use Rattle.lowering_rules.specs.Made.{made_in}
-use Rattle.lowering_rules.specs.Reading.{new_seen}
-use Rattle.aggregate_lower.specs.JoinsOut.{joins_out, CanJoin}
-use Rattle.aggregate_lower.specs.MadeBodies.{numbered_from, blocks_made, joined_body, HasBody}
-use Rattle.aggregate_lower.proofs.BlocksMade.{blocks_same}
-use Rattle.aggregate_lower.specs.Chains.{flagged, join_flags, CanLeave, LeaveAlike}
-use Rattle.aggregate_lower.proofs.JoinFlags.{flags_ids, joins_same}
-use Rattle.aggregate_lower.proofs.JoinsLeaving.{how_many, join_ids, join_below, Leave, they_leave, all_stand}
-use Rattle.aggregate_lower.proofs.NumberedBodies.{IsBelow, ids_numbered, number_there, numbered_seen}
-use Rattle.aggregate_lower.proofs.WiresLeaving.{StandsFrom}
+use Rattle.lowering_rules.specs.Reading.{new_ref, new_refs}
+use Rattle.aggregate_lower.specs.declared.made.Made.{Made}
+use Rattle.aggregate_lower.specs.Targets.{MadeOp, wire_flags, ops_made, ops_kept, targets_from, moved_ref, IsNamed, Places}
+use Rattle.aggregate_lower.specs.Targets.MadeOp.{wire, kept}
+use Rattle.aggregate_lower.specs.MadeBodies.{numbered_from, block_made, blocks_made, all_made_by, all_made, joined_body, HasBody, IsMade, IsJoined, AreMoved, CanSettle}
+use Rattle.aggregate_lower.proofs.BlocksMade.{block_same, blocks_same}
+use Rattle.aggregate_lower.proofs.Erasing.{out}
+use Rattle.aggregate_lower.proofs.LeftWires.{targets_many, LeftOf, left_of, settled_left}
+use Rattle.aggregate_lower.proofs.MadeParts.{flags-append, made_many, made_blocks, made_bare}
+use Rattle.aggregate_lower.proofs.NumberedBodies.{numbered_seen}
 use Rattle.aggregate_lower.proofs.OperandsTyped.{IsWellNamed, well_named}
+use Rattle.aggregate_lower.proofs.Settled.{moved_place}
+
+-- ---- wires leave block by block
+
+out_wires : (i : ℕ) (os : List Op) (flags : List Bool) (body : List Op) → out i (wire_flags (map wire os) ++ flags) body ≡ out i flags (unwire i (length os) body)
+out_wires i [] flags body = refl
+out_wires i (o ∷ os) flags body = out_wires i os flags _
+
+out_kept : (i : ℕ) (os : List Op) (flags : List Bool) (body : List Op) → out i (wire_flags (map kept os) ++ flags) body ≡ out (i + length os) flags body
+out_kept i [] flags body = let same : i ≡ i + 0 = omega arith in ap (λ n. out n flags body) same
+out_kept i (o ∷ os) flags body = let next : suc i + length os ≡ i + suc (length os) = omega arith in out_kept (suc i) os flags body ∙ ap (λ n. out n flags body) next
+
+module _ (d : Design) (t : LeafTable) (position : ℕ → ℕ) where
+  -- each block has as many operations as its rule says
+  abbrev HaveSizes : List BodyOp → Type 0
+  HaveSizes ops = (o : BodyOp) → In o ops → (start : ℕ) → length (block_made d t o start) ≡ count_by (lowering_rules d) (op_by position o)
+
+  all_leave : (ops : List BodyOp) → HaveSizes ops → (start i : ℕ) (body : List Op)
+      → out i (wire_flags (all_made d t ops (starts_from (lowering_rules d) start (map (op_by position) ops)))) body ≡ without_joins (lowering_rules d) i (map (op_by position) ops) body
+  all_leave [] sizes start i body = refl
+  all_leave (o ∷ ops) sizes start i body =
+      ap (λ fs. out i fs body) (flags-append (all_made_by (only_joins o.parts.kind) own) rest)
+      ∙ go (only_joins o.parts.kind) (all_leave ops (λ p here. sizes p (inr here)) (start + count))
+    where
+      count : ℕ
+      count = count_by (lowering_rules d) (op_by position o)
+
+      own : List Op
+      own = block_made d t o start
+
+      rest : List MadeOp
+      rest = all_made d t ops (starts_from (lowering_rules d) (start + count_by (lowering_rules d) (op_by position o)) (map (op_by position) ops))
+
+      size : length (block_made d t o start) ≡ count_by (lowering_rules d) (op_by position o)
+      size = sizes o (inl refl) start
+
+      go : (b : Bool) → ((i : ℕ) (body : List Op) → out i (wire_flags rest) body ≡ without_joins (lowering_rules d) i (map (op_by position) ops) body)
+          → out i (wire_flags (all_made_by b own) ++ wire_flags rest) body
+          ≡ cond b (without_joins (lowering_rules d) i (map (op_by position) ops) (unwire i count body)) (without_joins (lowering_rules d) (i + count) (map (op_by position) ops) body)
+      go true leave = out_wires i own (wire_flags rest) body ∙ leave i (unwire i (length own) body) ∙ ap (λ n. without_joins (lowering_rules d) i (map (op_by position) ops) (unwire i n body)) size
+      go false leave = out_kept i own (wire_flags rest) body ∙ leave (i + length own) body ∙ ap (λ n. without_joins (lowering_rules d) (i + n) (map (op_by position) ops) body) size
+
+-- ---- operations settled
+
+-- what is left is a body, and its operands are there
+settles : (os : List Op) (xs : List MadeOp) (known : LeftOf xs) → out 0 (wire_flags xs) (ops_made xs) ≡ os → (kept_ops : List NewOp) → made_in kept_ops ≡ ops_kept xs
+    → CanSettle os (wire_flags xs) (targets_from 0 xs) kept_ops
+settles os xs known left kept_ops kept_are = record {
+  many = targets_many 0 xs;
+  places_are = known.places_are;
+  becomes = λ moved m. record {
+    are = m.are ∙ ap (map (retarget (moved_ref (wire_flags xs) m.targets))) kept_are ∙ settled_left xs known m.targets m.settled ∙ left;
+    named = names moved m;
+  };
+}
+  where
+    names : (moved : List NewOp) → AreMoved (wire_flags xs) (targets_from 0 xs) known.places_are kept_ops moved → (o : Op) (r : Ref) → In o (made_in moved) → In r o.operands → IsNamed (length moved) r
+    names moved m o r here among =
+        let g = moved_ref (wire_flags xs) m.targets in
+        let are : made_in moved ≡ map (retarget g) (ops_kept xs) = m.are ∙ ap (map (retarget g)) kept_are in
+        let from = from_In-map (retarget g) o (ops_kept xs) (subst (In o) are here) in
+        let named = from_In-map g r from.0.operands (subst (λ (x : Op). In r x.operands) from.2 among) in
+        let known_there = known.named from.0 named.0 from.1 named.1 in
+        let goes : r ≡ known.places_are.place named.0 = named.2 ∙ moved_place (wire_flags xs) (targets_from 0 xs) known.places_are m.targets m.settled named.0 known_there in
+        let many : length (ops_kept xs) ≡ length moved = sym (length-map (ops_kept xs) (retarget g)) ∙ sym (ap length are) ∙ made_many moved in
+        subst (λ n. IsNamed n r) many (subst (IsNamed (length (ops_kept xs))) (sym goes) (known.there named.0 known_there))
+
+pub settles_by : (os : List Op) (xs : List MadeOp) (known : LeftOf xs) → out 0 (wire_flags xs) (ops_made xs) ≡ os → (made : Made) → IsMade xs made
+    → CanSettle os made.flags.items (new_refs made.targets.items) made.kept.items
+settles_by os xs known left made is =
+    subst (λ flags. CanSettle os flags (new_refs made.targets.items) made.kept.items) (sym is.flags_are)
+    (subst (λ ts. CanSettle os (wire_flags xs) ts made.kept.items) (sym is.targets_are) (settles os xs known left made.kept.items is.kept_are))
+
+module _ (os : List Op) (flags flags' : List Bool) (ts ts' : List Value) (kept_ops : List NewOp) (can : CanSettle os flags (new_refs ts) kept_ops) (flags_are : flags' ≡ flags) (ts_are : ts' ≡ ts) where
+  can_by : CanSettle os flags' (new_refs ts') kept_ops
+  can_by = subst (λ fs. CanSettle os fs (new_refs ts') kept_ops) (sym flags_are) (subst (λ vs. CanSettle os flags (new_refs vs) kept_ops) (sym ts_are) can)
+
+  pub many_by : length ts' ≡ length flags'
+  many_by = sym (length-map ts' new_ref) ∙ can_by.many
+
+  pub joined_by : (moved : List NewOp) → ((s : Places flags' (new_refs ts')) → AreMoved flags' (new_refs ts') s kept_ops moved) → IsJoined os moved
+  joined_by moved moves = can_by.becomes moved (moves can_by.places_are)
+
+-- ---- the body
 
 many_starts : (rules : Rules) (start : ℕ) (os : List Op) → length (starts_from rules start os) ≡ length os
 many_starts rules start [] = refl
 many_starts rules start (o ∷ os) = ap suc (many_starts rules (start + count_by rules o) os)
-
-many_ends : (rules : Rules) (start : ℕ) (os : List Op) → length (ends_from rules start os) ≡ length os
-many_ends rules start [] = refl
-many_ends rules start (o ∷ os) = ap suc (many_ends rules (start + count_by rules o) os)
 
 module _ (d : Design) (ps : List Port) (b : Body) (t : LeafTable) (table : IsLeafTable (lowering_rules d) ps b t) where
   ids_many : length t.ids.items ≡ length (ops_by_position (ops_of b))
@@ -47,85 +131,43 @@ module _ (d : Design) (ps : List Port) (b : Body) (t : LeafTable) (table : IsLea
   pub starts_many : length t.starts.items ≡ length t.ids.items
   starts_many = ap length table.starts ∙ many_starts (lowering_rules d) 0 (ops_by_position (ops_of b)) ∙ sym ids_many
 
-  pub ends_many : length t.ends.items ≡ length t.ids.items
-  ends_many = ap length table.ends ∙ many_ends (lowering_rules d) 0 (ops_by_position (ops_of b)) ∙ sym ids_many
-
-  module _ (fit : IsFit d) (has : HasBody d ps (ops_by_position (ops_of b))) (made : List NewOp) (made_is : made_in made ≡ blocks_made d t (ops_of b) t.starts.items)
-      (new : Body) (new_is : ops_of new ≡ numbered_from 0 made) where
+  module _ (fit : IsFit d) (has : HasBody d ps (ops_by_position (ops_of b))) where
     abbrev all_blocks : List Op
     all_blocks = blocks (lowering_rules d) (parts_of (lowering_rules d) ps (ops_by_position (ops_of b))) 0 (ops_by_position (ops_of b))
 
-    blocks_are : made_in made ≡ all_blocks
-    blocks_are =
-        made_is ∙ ap (blocks_made d t (ops_of b)) table.starts
-        ∙ blocks_same d t (parts_of (lowering_rules d) ps (ops_by_position (ops_of b))) (position_of (ids_of b)) (ops_of b) (λ o here v among. table.values v) 0
+    abbrev parts_made : List MadeOp
+    parts_made = all_made d t (ops_of b) t.starts.items
 
     named : IsWellNamed (lowering_rules d) ps (ops_by_position (ops_of b))
     named = well_named d fit ps (ops_by_position (ops_of b)) has
 
-    many_made : length made ≡ length all_blocks
-    unfolding made_in
-    many_made = sym (length-map made new_seen) ∙ ap length blocks_are
+    blocks_are : ops_made (all_made d t (ops_of b) t.starts.items) ≡ all_blocks
+    blocks_are =
+        made_blocks d t (ops_of b) t.starts.items ∙ ap (blocks_made d t (ops_of b)) table.starts
+        ∙ blocks_same d t (parts_of (lowering_rules d) ps (ops_by_position (ops_of b))) (position_of (ids_of b)) (ops_of b) (λ o here v among. table.values v) 0
 
-    all_below : (x : Op) (r : Ref) → In x (made_in made) → In r x.operands → IsBelow (length made) r
-    all_below x r there here = subst (λ n. IsBelow n r) (sym many_made) (named.below x r (subst (In x) blocks_are there) here)
+    sizes : (o : BodyOp) → In o (ops_of b) → (start : ℕ) → length (block_made d t o start) ≡ count_by (lowering_rules d) (op_by (position_of (ids_of b)) o)
+    sizes o here start =
+        ap length (block_same d t (parts_of (lowering_rules d) ps (ops_by_position (ops_of b))) (position_of (ids_of b)) o (λ v among. table.values v) start)
+        ∙ named.sizes (op_by (position_of (ids_of b)) o) (In-map (op_by (position_of (ids_of b))) o (ops_of b) here) start
 
-    once : AreDistinct (ids_in (numbered_from 0 made))
-    once = subst (λ (ops : List BodyOp). AreDistinct (ids_in ops)) new_is (ids_once new)
+    left_is : out 0 (wire_flags (all_made d t (ops_of b) t.starts.items)) (ops_made (all_made d t (ops_of b) t.starts.items)) ≡ joined_body (lowering_rules d) ps (ops_by_position (ops_of b))
+    left_is =
+        ap (out 0 (wire_flags (all_made d t (ops_of b) t.starts.items))) blocks_are
+        ∙ ap (λ starts. out 0 (wire_flags (all_made d t (ops_of b) starts)) all_blocks) table.starts
+        ∙ all_leave d t (position_of (ids_of b)) (ops_of b) sizes 0 0 all_blocks
 
-    room : how_many (lowering_rules d) (ops_by_position (ops_of b)) ≤ length made
-    room = let size = named.size in omega (arith, many_made, size)
+    known : LeftOf (all_made d t (ops_of b) t.starts.items)
+    known = left_of (all_made d t (ops_of b) t.starts.items) named.heights.0
+        (subst (λ (os : List Op). LocalHeight os named.heights.0) (sym blocks_are) named.heights.1)
+        (made_bare d t (ops_of b) t.starts.items)
+        (subst (λ (os : List Op). (o : Op) (r : Ref) → In o os → In r o.operands → IsNamed (length os) r) (sym blocks_are) named.below)
 
-    stand : StandsFrom (join_ids (lowering_rules d) 0 (ops_by_position (ops_of b))) [] 0 (length made) (numbered_from 0 made)
-    stand = all_stand (lowering_rules d) (ops_by_position (ops_of b)) made once all_below (λ x r there here. named.first x r (subst (In x) blocks_are there) here)
+    pub body_settles : (made : Made) → IsMade (all_made d t (ops_of b) t.starts.items) made
+        → CanSettle (joined_body (lowering_rules d) ps (ops_by_position (ops_of b))) made.flags.items (new_refs made.targets.items) made.kept.items
+    body_settles made is = settles_by (joined_body (lowering_rules d) ps (ops_by_position (ops_of b))) (all_made d t (ops_of b) t.starts.items) known left_is made is
 
-    leave : Leave (lowering_rules d) 0 0 (ops_by_position (ops_of b)) (numbered_from 0 made)
-    leave = they_leave (lowering_rules d) (ops_by_position (ops_of b)) (length made) (numbered_from 0 made) room stand
-
-    by_position : ops_by_position (numbered_from 0 made) ≡ all_blocks
-    by_position = numbered_seen made once all_below ∙ blocks_are
-
-    -- where flags tell the wires of operations that only join
-    module _ (flags : List Bool) (flags_are : flags ≡ join_flags (ops_by_position (ops_of b)) t.starts.items t.ends.items) where
-      ids_are : flagged flags ≡ join_ids (lowering_rules d) 0 (ops_by_position (ops_of b))
-      ids_are =
-          ap flagged (flags_are ∙ ap₂ (join_flags (ops_by_position (ops_of b))) table.starts table.ends)
-          ∙ flags_ids (lowering_rules d) 0 (ops_by_position (ops_of b))
-
-      all_there : (w : OpId) → In w (join_ids (lowering_rules d) 0 (ops_by_position (ops_of b))) → Contains (ids_in (numbered_from 0 made)) w.index
-      all_there w here =
-          let below = join_below (lowering_rules d) 0 (ops_by_position (ops_of b)) w here in
-          subst (λ ids. Contains ids w.index) (sym (ids_numbered 0 made)) (number_there (length made) w.index (omega (arith, below, room)))
-
-      pub can_leave : CanLeave (flagged flags) (ops_of new)
-      can_leave = subst (λ (ws : List OpId). CanLeave ws (ops_of new)) (sym ids_are) (subst (CanLeave (join_ids (lowering_rules d) 0 (ops_by_position (ops_of b)))) (sym new_is) (record {
-        there = all_there;
-        live = stand.live;
-        first_only = stand.first_only;
-      }))
-
-      -- and chains of these are shortened
-      module _ (short : Body) (alike : LeaveAlike (flagged flags) (ops_of new) (ops_of short)) where
-        alike_by_ids : LeaveAlike (join_ids (lowering_rules d) 0 (ops_by_position (ops_of b))) (numbered_from 0 made) (ops_of short)
-        alike_by_ids = subst (λ (ws : List OpId). LeaveAlike ws (numbered_from 0 made) (ops_of short)) ids_are (subst (λ (ops : List BodyOp). LeaveAlike (flagged flags) ops (ops_of short)) new_is alike)
-
-        short_leave : Leave (lowering_rules d) 0 0 (ops_by_position (ops_of b)) (ops_of short)
-        short_leave = they_leave (lowering_rules d) (ops_by_position (ops_of b)) (length made) (ops_of short) room (record {
-          ids = alike_by_ids.ids ∙ stand.ids;
-          once = ids_once short;
-          live = alike_by_ids.can.live;
-          first_only = alike_by_ids.can.first_only;
-        })
-
-        pub can_join : CanJoin (ops_by_position (ops_of b)) t.starts.items t.ends.items (ops_of short)
-        can_join =
-            subst (λ highs. CanJoin (ops_by_position (ops_of b)) t.starts.items highs (ops_of short)) (sym table.ends)
-            (subst (λ lows. CanJoin (ops_by_position (ops_of b)) lows (ends_from (lowering_rules d) 0 (ops_by_position (ops_of b))) (ops_of short)) (sym table.starts) short_leave.can)
-
-        pub body_joined : (after : List BodyOp) → after ≡ joins_out (ops_by_position (ops_of b)) t.starts.items t.ends.items (ops_of short)
-            → ops_by_position after ≡ joined_body (lowering_rules d) ps (ops_by_position (ops_of b))
-        body_joined after is =
-            ap ops_by_position
-            (is ∙ ap₂ (λ lows highs. joins_out (ops_by_position (ops_of b)) lows highs (ops_of short)) table.starts table.ends
-            ∙ joins_same (lowering_rules d) (ops_by_position (ops_of b)) (numbered_from 0 made) (ops_of short) alike_by_ids.left)
-            ∙ leave.left ∙ ap (without_joins (lowering_rules d) 0 (ops_by_position (ops_of b))) by_position
+-- its operations by positions
+pub body_joined : (os : List Op) (moved : List NewOp) → IsJoined os moved → (new : Body) → ops_of new ≡ numbered_from 0 moved → ops_by_position (ops_of new) ≡ os
+body_joined os moved joined new is =
+    ap ops_by_position is ∙ numbered_seen moved (subst (λ (ops : List BodyOp). AreDistinct (ids_in ops)) is (ids_once new)) joined.named ∙ joined.are

@@ -1,9 +1,8 @@
 -- Bodies in which the ids of operations are their positions.
 use Rattle.std.proofs.Common.{◌≡◌, ℕ, suc, ◌<◌, List, [], ◌∷◌, ◌++◌, length, map, refl, sym, ap, ap₂, subst, ◌∙◌, arith, append_assoc, length-append, zero-add, inl, inr, Some}
-use Rattle.std.specs.Prelude.{Contains, All}
 use Rattle.std.proofs.lemmas.List.{length-map}
 use Rattle.wiring.specs.Wiring.{In}
-use Rattle.wiring.proofs.Members.{Contains-from_In, All-from_members, In-map, map_same}
+use Rattle.wiring.proofs.Members.{In-map, map_same}
 use Rattle.hw_model.specs.Design.{Ref, Op}
 use Rattle.hw_model.specs.Design.Ref.{result}
 use Rattle.ir_store.specs.declared.operation.OpId.{OpId}
@@ -12,14 +11,14 @@ use Rattle.ir_store.specs.declared.operation.Value.{Value}
 use Rattle.ir_store.specs.declared.operation.Value.TheVariants.{Port, Result, Undefined}
 use Rattle.ir_store.specs.Bodies.{op_id}
 use Rattle.ir_store.specs.BodyOps.{BodyOp, as_new, ids_in}
-use Rattle.ir_store.specs.Live.{IsLive, HasLive, AreLive, AreDistinct}
+use Rattle.ir_store.specs.Live.{AreDistinct}
 use Rattle.ir_store.specs.Numbered.{position_of, ref_by, op_by, ops_by_position}
-use Rattle.ir_store.proofs.Living.{all_none, all_with}
 use Rattle.body_index.proofs.PositionTables.{position_found}
 use Rattle.aggregate_laws.specs.Leaves.{in_row}
-use Rattle.aggregate_laws.proofs.Lists.{in_rule_at, In-in_row}
+use Rattle.aggregate_laws.proofs.Lists.{in_rule_at}
 use Rattle.lowering_rules.specs.Reading.{new_ref, new_seen}
 use Rattle.lowering_rules.specs.Made.{made_in}
+use Rattle.aggregate_lower.specs.Targets.{IsNamed}
 use Rattle.aggregate_lower.specs.MadeBodies.{numbered_from}
 
 -- the numbers from one on
@@ -49,33 +48,20 @@ pub ids_numbered : (s : ℕ) (os : List NewOp) → ids_in (numbered_from s os) �
 ids_numbered s [] = refl
 ids_numbered s (o ∷ os) = ap (λ ids. s ∷ ids) (ids_numbered (suc s) os)
 
-pub number_there : (n j : ℕ) → j < n → Contains (numbers 0 n) j
-number_there n j below =
-    Contains-from_In j (numbers 0 n) (subst (λ (k : ℕ). In k (numbers 0 n)) (zero-add j) (In-in_row (λ i. i) 0 n j below))
-
 -- ---- by positions
-
--- a value is a result of one of n operations, or none
-abbrev pub IsBelow : ℕ → Ref → Type 0
-IsBelow n r = (j k : ℕ) → r ≡ result j k → j < n
 
 module _ (n : ℕ) (once : AreDistinct (numbers 0 n)) where
   number_position : (j : ℕ) → j < n → position_of (numbers 0 n) j ≡ j
   number_position j below = position_found (numbers 0 n) j j (once j) (in_rule_at (λ i. i) 0 n j below ∙ ap Some (zero-add j))
 
-  value_seen : (v : Value) → IsBelow n (new_ref v) → ref_by (position_of (numbers 0 n)) v ≡ new_ref v
+  value_seen : (v : Value) → IsNamed n (new_ref v) → ref_by (position_of (numbers 0 n)) v ≡ new_ref v
   value_seen (Port p) below = refl
   value_seen (Result id k) below = ap (λ j. result j k) (number_position id.index (below id.index k refl))
   value_seen Undefined below = refl
 
-  value_live : (v : Value) → IsBelow n (new_ref v) → IsLive (numbers 0 n) v
-  value_live (Port p) below = tt
-  value_live (Result id k) below = number_there n id.index (below id.index k refl)
-  value_live Undefined below = tt
-
   -- operations whose operands are results of these
   AreBelow : List NewOp → Type 0
-  AreBelow os = (o : NewOp) (v : Value) → In o os → In v o.operands.items → IsBelow n (new_ref v)
+  AreBelow os = (o : NewOp) (v : Value) → In o os → In v o.operands.items → IsNamed n (new_ref v)
 
   all_seen : (s : ℕ) (os : List NewOp) → AreBelow os → map (op_by (position_of (numbers 0 n))) (numbered_from s os) ≡ map new_seen os
   unfolding AreBelow
@@ -85,15 +71,7 @@ module _ (n : ℕ) (once : AreDistinct (numbers 0 n)) where
       (map_same (ref_by (position_of (numbers 0 n))) new_ref o.operands.items (λ v here. value_seen v (below o v (inl refl) here)))
       (all_seen (suc s) os (λ p v there. below p v (inr there)))
 
-  all_live : (s : ℕ) (os : List NewOp) → AreBelow os → All (HasLive (numbers 0 n)) (numbered_from s os)
-  unfolding AreBelow
-  all_live s [] below = all_none (HasLive (numbers 0 n))
-  all_live s (o ∷ os) below =
-      all_with (HasLive (numbers 0 n)) (as_new (op_id s) o) (numbered_from (suc s) os)
-      (All-from_members (IsLive (numbers 0 n)) o.operands.items (λ v here. value_live v (below o v (inl refl) here)))
-      (all_live (suc s) os (λ p v there. below p v (inr there)))
-
-module _ (os : List NewOp) (once : AreDistinct (ids_in (numbered_from 0 os))) (below : (x : Op) (r : Ref) → In x (made_in os) → In r x.operands → IsBelow (length os) r) where
+module _ (os : List NewOp) (once : AreDistinct (ids_in (numbered_from 0 os))) (below : (x : Op) (r : Ref) → In x (made_in os) → In r x.operands → IsNamed (length os) r) where
   apart : AreDistinct (numbers 0 (length os))
   apart = subst AreDistinct (ids_numbered 0 os) once
 
@@ -107,6 +85,3 @@ module _ (os : List NewOp) (once : AreDistinct (ids_in (numbered_from 0 os))) (b
   numbered_seen =
       ap (λ ids. map (op_by (position_of ids)) (numbered_from 0 os)) (ids_numbered 0 os)
       ∙ all_seen (length os) apart 0 os are_below
-
-  pub numbered_live : AreLive (numbered_from 0 os)
-  numbered_live = subst (λ ids. All (HasLive ids) (numbered_from 0 os)) (sym (ids_numbered 0 os)) (all_live (length os) apart 0 os are_below)

@@ -1,4 +1,4 @@
-pub mod Chains
-pub mod JoinsOut
+pub mod Targets
+pub mod Settling
 pub mod Lowering
 pub mod MadeBodies

@@ -4,8 +4,9 @@
 #![tactic(auto)]
 
 mod aggregates;
-mod chains;
 mod laws;
 pub mod lowering;
+mod made;
+mod places;
 
 pub use laws::lowering_keeps;

@@ -1,38 +1,32 @@
 //! The lowering of aggregates in a whole design.
-ghost use Rattle.std.specs.Prelude.{◌≡◌, true, cond, length, map, IfOk, OnOk, OnErr};
+ghost use Rattle.std.specs.Prelude.{◌≡◌, map, IfOk, OnOk, OnErr};
 ghost use Rattle.wiring.specs.Wiring.{In};
-ghost use Rattle.hw_model.specs.KindViews.{kind_of};
-ghost use Rattle.ir_store.specs.Bodies.{ids_of, ops_of, op_id};
+ghost use Rattle.ir_store.specs.Bodies.{ops_of};
 ghost use Rattle.ir_store.specs.Numbered.{ops_by_position};
 ghost use Rattle.ir_store.specs.Designs.{design_of, module_of, numbered_module, ports_in};
 ghost use Rattle.acceptance_laws.specs.Keeps.{IsFit};
-ghost use Rattle.body_edits.specs.WiresOut.{StandTogether};
-ghost use Rattle.aggregate_acceptance.specs.Joins.{only_joins, joined_module};
+ghost use Rattle.aggregate_acceptance.specs.Joins.{joined_module};
 ghost use Rattle.lowering_rules.specs.Callees.{AreCallees, module_leaves};
 ghost use Rattle.lowering_rules.specs.LoweringRules.{lowering_rules};
-ghost use Rattle.lowering_rules.specs.Made.{made_in};
+ghost use Rattle.lowering_rules.specs.Reading.{new_refs};
 ghost use Rattle.aggregate_lower.specs.Lowering.{lowered_aggregates};
-ghost use Rattle.aggregate_lower.specs.JoinsOut.{ids_between, wires_out, joins_out, CanJoin};
-ghost use Rattle.aggregate_lower.specs.MadeBodies.{numbered_from, blocks_made, joined_body, HasBody};
+ghost use Rattle.aggregate_lower.specs.MadeBodies.{numbered_from, joined_body, HasBody, CanSettle};
 
 use crate::aggregates::has_aggregates;
-use crate::chains::{joined_wires, only_joins, shorten_chains};
-use body_edits::wires::carried_value;
-use hw_model::kinds::OpKind;
+use crate::made::{Made, all_made};
+use crate::places::settled_ops;
 use ir_store::body::Body;
 use ir_store::design::{Design, Module, PortList};
-use ir_store::operation::{NewOp, OpId, Value};
-use lowering_rules::arguments::Arguments;
-use lowering_rules::blocks::put_block;
+use ir_store::operation::NewOp;
 use lowering_rules::instances::Callees;
-use lowering_rules::leaf_table::{LeafTable, leaf_table};
+use lowering_rules::leaf_table::leaf_table;
 use lowering_rules::port_leaves::split_ports;
 use std::alloc::{AllocError, Global};
 
 /// Has each value of an aggregate type of a design become its leaves, where there is one (CIRCT, HW dialect: `hw-lower-aggregates`). On
 /// an error, which comes only when out of memory, for which 2^32 operations of a module or more count, the design stays.
-/// Linear in the leaves of its values and in the operations that are made, and in the uses of values of structs and arrays that
-/// are created.
+/// Linear in the leaves of its values and in the operations that are made, in time and in memory; no operation is kept for values that
+/// only join others or take them apart.
 pub fn lower_aggregates(alloc: Global, design: &mut Design) -> Result<(), AllocError>
     requires { IsFit (design_of design.old) }
     ensures ok { OnOk result (design_of design.new ≡ lowered_aggregates (design_of design.old)) }
@@ -102,43 +96,32 @@ fn lowered_body(
     requires there { HasBody (design_of callees.now.design.now) (ports_in ports.now) (ops_by_position (ops_of body.now)) }
     ensures { IfOk result (λ made. ops_by_position (ops_of made) ≡ joined_body (lowering_rules (design_of callees.now.design.now)) (ports_in ports.now) (ops_by_position (ops_of body.now))) }
 {
-    let table = leaf_table(alloc, ports, body)?;
-    let made = all_blocks(alloc, callees, body, &table)?;
-    let mut lowered = body_of(alloc, made)?;
-    let joined = joined_wires(alloc, body, &table)?;
-    shorten_chains(alloc, joined.as_slice(), &mut lowered)?;
-    take_joins_out(body, &table, &mut lowered);
+    let mut made = made_of(alloc, callees, ports, body)?;
+    let kept = made.kept;
+    let moved = settled_ops(
+        alloc,
+        made.flags.as_slice(),
+        made.targets.as_mut_slice(),
+        kept,
+    )?;
+    let lowered = body_of(alloc, moved)?;
     Ok(lowered)
 }
 
-// What all operations become.
-fn all_blocks(
+// What the operations of a body become.
+fn made_of(
     alloc: Global,
     callees: &Callees<'_>,
+    ports: &PortList,
     body: &Body,
-    table: &LeafTable,
-) -> Result<Vec<NewOp>, AllocError>
+) -> Result<Made, AllocError>
     requires callees { AreCallees callees.now }
-    requires ids { table.now.ids.items ≡ map op_id (ids_of body.now) }
-    requires starts { length table.now.starts.items ≡ length table.now.ids.items }
-    ensures { IfOk result (λ made. made_in made.items ≡ blocks_made (design_of callees.now.design.now) table.now (ops_of body.now) table.now.starts.items) }
+    requires fit { IsFit (design_of callees.now.design.now) }
+    requires there { HasBody (design_of callees.now.design.now) (ports_in ports.now) (ops_by_position (ops_of body.now)) }
+    ensures { IfOk result (λ made. CanSettle (joined_body (lowering_rules (design_of callees.now.design.now)) (ports_in ports.now) (ops_by_position (ops_of body.now))) made.flags.items (new_refs made.targets.items) made.kept.items) }
 {
-    let mut made = Vec::new(alloc);
-    for (position, id) in table.ids.as_slice().iter().enumerate() {
-        let op = body.op(*id);
-        let arguments = Arguments {
-            table,
-            operands: op.operands,
-        };
-        put_block(
-            alloc,
-            &mut made,
-            callees,
-            &op,
-            arguments,
-            table.starts[position],
-        )?;
-    }
+    let table = leaf_table(alloc, ports, body)?;
+    let made = all_made(alloc, callees, body, &table)?;
     Ok(made)
 }
 
@@ -154,41 +137,4 @@ fn body_of(alloc: Global, made: Vec<NewOp>) -> Result<Body, AllocError>
         body.add_op(None, op)?;
     }
     Ok(body)
-}
-
-// Takes the wires of operations that only join out of the new body, in text order.
-fn take_joins_out(body: &Body, table: &LeafTable, lowered: &mut Body)
-    requires ids { table.now.ids.items ≡ map op_id (ids_of body.now) }
-    requires starts { length table.now.starts.items ≡ length table.now.ids.items }
-    requires ends { length table.now.ends.items ≡ length table.now.ids.items }
-    requires together { CanJoin (ops_by_position (ops_of body.now)) table.now.starts.items table.now.ends.items (ops_of lowered.old) }
-    ensures { ops_of lowered.new ≡ joins_out (ops_by_position (ops_of body.now)) table.now.starts.items table.now.ends.items (ops_of lowered.old) }
-{
-    for (position, id) in table.ids.as_slice().iter().enumerate() {
-        let (low, high) = (table.starts[position], table.ends[position]);
-        take_join_out(body.op(*id).kind, low, high, lowered);
-    }
-}
-
-// Takes the wires between two positions out of the new body, where they are those of an operation that only joins.
-fn take_join_out(kind: &OpKind, low: u32, high: u32, lowered: &mut Body)
-    requires { only_joins (kind_of kind.now) ≡ true → StandTogether (ids_between low high) (ops_of lowered.old) }
-    ensures { ops_of lowered.new ≡ cond (only_joins (kind_of kind.now)) (wires_out (ids_between low high) (ops_of lowered.old)) (ops_of lowered.old) }
-{
-    if only_joins(kind) {
-        take_wires_out(lowered, low, high);
-    }
-}
-
-// Takes the wires between two positions out of the new body, the operand of each standing for its result.
-fn take_wires_out(lowered: &mut Body, low: u32, high: u32)
-    requires { StandTogether (ids_between low high) (ops_of lowered.old) }
-    ensures { ops_of lowered.new ≡ wires_out (ids_between low high) (ops_of lowered.old) }
-{
-    for number in low..high {
-        let wire = OpId::nth(number);
-        let value = carried_value(lowered, wire);
-        lowered.replace_all_uses(Value::Result(wire, 0), value);
-        lowered.erase(wire);
-    }
 }
