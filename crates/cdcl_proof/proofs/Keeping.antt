@@ -16,7 +16,7 @@ use Rattle.resolution_proof.specs.Fresh.{IsFresh, is_empty, has_no_empty}
 use Rattle.cdcl_proof.specs.Store.{IsKept, IsLogged, steps_of}
 use Rattle.resolution_proof.specs.Proof.{IsProof, Refutes, Exhausts}
 use Rattle.resolution_proof.proofs.Laws.{clauses_once, follows, fresh_new_from, replays_from-push, fresh_push, learnt_clauses-push}
-use Rattle.cdcl_proof.proofs.Regularity.{regular_from-push}
+use Rattle.clause_learning.proofs.Regularity.{regular_from-push}
 use Rattle.resolution_proof.proofs.Counting.{fewer_than}
 
 given_clauses : (f : Formula) (steps : List Step) → IsKept f steps → (are_clauses f.variables f.clauses ≡ true) × (are_clauses f.variables (learnt_clauses steps) ≡ true)

@@ -1,15 +1,2 @@
-pub mod Entries
 pub mod Satisfying
-pub mod Scanning
-pub mod Sound
-pub mod Regularity
-pub mod Marking
-pub mod Resolution
-pub mod LearntClauses
 pub mod Keeping
-pub mod StoredClauses
-pub mod Tables
-pub mod AddedClauses
-pub mod Covering
-pub mod Visiting
-pub mod Adding

@@ -8,7 +8,7 @@ use Rattle.resolution_proof.specs.Literal.{holds, mentions, is_once}
 use Rattle.resolution_proof.specs.Clause.{is_among, is_within, is_clause}
 use Rattle.resolution_proof.specs.Fresh.{is_free, count_free, is_closed, is_closed_at}
 use Rattle.resolution_proof.specs.Formula.{Formula, are_clauses, is_true, makes_true, satisfies}
-use Rattle.cdcl_proof.specs.Trail.{IsTotal}
+use Rattle.clause_learning.specs.Trail.{IsTotal}
 use Rattle.resolution_proof.proofs.Sets.{any_at, any_from, among_low, among_high}
 
 -- no literal of a clause is free under a total set

@@ -1,11 +1,5 @@
-pub mod Trail
-pub mod Learning
 pub mod Store
-pub mod Propagation
-pub mod Resolving
 pub mod Order
 pub mod Search
+pub mod Sweeping
 pub mod Answer
-pub mod Watching
-pub mod Table
-pub mod Watcher

@@ -1,7 +1,7 @@
 -- What a search keeps.
 use Rattle.std.specs.Prelude.{ℕ, true, ◌≡◌, ◌≤◌, ◌≢◌, ◌⊎◌, length, take}
 use Rattle.cdcl_proof.specs.declared.solve.Search.{Search}
-use Rattle.cdcl_proof.specs.Trail.{IsSound, literals}
+use Rattle.clause_learning.specs.Trail.{IsSound, literals}
 use Rattle.resolution_proof.specs.Literal.{mentions}
 use Rattle.cdcl_proof.specs.Order.{IsOrder, Waits}
 use Rattle.cdcl_proof.specs.Store.{IsLogged}
@@ -11,7 +11,7 @@ pub record IsSearching (s : Search) : Type 0 where
   pub variables : s.watched.variables ≡ s.cnf.now.variables
   pub logged : IsLogged s.cnf.now s.watched.clauses s.chains.items
   pub sound : IsSound s.watched.variables s.watched.clauses s.watched.entries
-  pub seen : length s.seen.items ≡ s.watched.variables
+  pub seen : length s.seen ≡ s.watched.variables
   pub order : IsOrder s.watched.variables s.order
   pub phases : length s.phases.items ≡ s.watched.variables
 

@@ -103,6 +103,12 @@ impl Order {
         self.sift_down();
     }
 
+    /// The variable's activity, or 0 where there is no such variable.
+    pub(crate) fn activity(&self, variable: u64) -> u64 {
+        let index = variable.saturating_sub(1) as usize;
+        self.activities.get(index).copied().unwrap_or(0)
+    }
+
     /// Exchanges two positions of the heap.
     fn exchange(&mut self, i: usize, j: usize)
         requires order { IsOrder (length self.old.activities.items) self.old }

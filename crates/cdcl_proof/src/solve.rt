@@ -6,17 +6,21 @@ ghost use Rattle.cdcl_proof.specs.Order.{Waits, KeepsWaiting};
 ghost use Rattle.resolution_proof.specs.Replay.{derives, learnt_clauses};
 ghost use Rattle.resolution_proof.specs.Regular.{is_regular};
 ghost use Rattle.resolution_proof.specs.Fresh.{is_closed};
-ghost use Rattle.cdcl_proof.specs.Trail.{literals, entry_at, NoDecision, IsTotal};
+ghost use Rattle.clause_learning.specs.Trail.{literals, entry_at, NoDecision, IsTotal};
 ghost use Rattle.cdcl_proof.specs.Store.{IsKept, steps_of};
-ghost use Rattle.cdcl_proof.specs.Propagation.{IsConflict, IsOutcome};
+ghost use Rattle.clause_learning.specs.Propagation.{IsConflict, IsOutcome};
 ghost use Rattle.resolution_proof.specs.Proof.{Refutes};
 ghost use Rattle.cdcl_proof.specs.Answer.{Answers, IsDecided, IsSatisfied};
 ghost use Rattle.cdcl_proof.specs.Search.{IsSearching, AllWait, WaitFrom, OthersWait};
+ghost use Rattle.cdcl_proof.specs.Sweeping.{IsOpen, CanMove, IsTried, IsSwept};
 
-use crate::learning::{LearntClause, learn, refute};
+use crate::guide::{Guide, NoPairs, Outcome, Pair};
 use crate::order::Order;
 use crate::restarts::Restarts;
-use crate::watched::Watched;
+use clause_learning::learning::{Depth, LearntClause, learn, refute};
+use clause_learning::marked::Marked;
+use clause_learning::trail::Trail;
+use clause_learning::watched::Watched;
 use resolution_proof::assignment::Assignment;
 use resolution_proof::clause::Clause;
 use resolution_proof::cnf::Cnf;
@@ -45,28 +49,73 @@ pub fn solve(alloc: Global, cnf: &Cnf, budget: u64) -> Result<Answer, AllocError
     ensures answers { IfOk result (Answers cnf.now budget) }
     ensures decided { 3 ^ cnf.now.variables ≤ budget → IfOk result IsDecided }
 {
+    let mut guide = NoPairs;
+    let answer = solve_guided(alloc, cnf, &mut guide, budget)?;
+    Ok(answer)
+}
+
+/// The same, but the guide's pairs are tried first, each at the cost of 1,000 conflicts at most, and no more of them
+/// than four for each variable and 64. Where a formula says that two circuits differ, and the guide proposes what their
+/// inner signals have in common, such a sweep often leaves little to search (Mishchenko, Chatterjee, Brayton and Eén,
+/// Improvements to combinational equivalence checking, 2006). What the guide answers decides what is learnt, and no more.
+pub fn solve_guided<G: Guide>(
+    alloc: Global,
+    cnf: &Cnf,
+    guide: &mut G,
+    budget: u64,
+) -> Result<Answer, AllocError>
+    requires { 1 ≤ budget }
+    ensures answers { IfOk result (Answers cnf.now budget) }
+    ensures decided { 3 ^ cnf.now.variables ≤ budget → IfOk result IsDecided }
+{
     let mut search = Search::new(alloc, cnf)?;
-    loop {
-        match search.propagate()? {
-            Some(conflict) => match search.watched.trail().last_decision() {
-                Some(floor) => {
-                    search.resolve_conflict(alloc, conflict, floor)?;
-                    if search.chains.len() as u64 == budget {
-                        return Ok(Answer::Spent(Log::from_vec(search.into_steps(alloc)?)));
-                    }
-                    search.restart_if_due()?;
-                }
-                None => {
-                    let step = search.refute(alloc, conflict)?;
-                    return Ok(Answer::Refuted(search.into_refutation(alloc, step)?));
-                }
-            },
-            None => {
-                if !search.decide() {
-                    return search.into_assignment(alloc);
-                }
-            }
-        }
+    let swept = search.sweep(alloc, guide, budget)?;
+    let answer = search.go_on(alloc, swept, budget)?;
+    Ok(answer)
+}
+
+/// How many conflicts the trial of a pair may cost.
+const SHARE: u64 = 1000;
+
+/// How a sweep ended.
+#[derive(Clone, Copy)]
+enum Swept {
+    /// With some clauses left to learn.
+    Open,
+    /// With the number of a clause that is false, where no decision is left to take back.
+    Conflict(u64),
+    /// With the budget's number of clauses learnt.
+    Spent,
+}
+
+/// How the trial of a pair ended.
+#[derive(Clone, Copy)]
+enum Trial {
+    /// With this outcome, and some clauses left to learn.
+    Ended(Outcome),
+    /// With the number of a clause that is false, where no decision is left to take back.
+    Conflict(u64),
+    /// With the budget's number of clauses learnt.
+    Spent,
+}
+
+/// What a trial does next.
+#[derive(Clone, Copy)]
+enum Move {
+    Assume(Literal),
+    End(Outcome),
+}
+
+/// How far a conflict of a trial is resolved: down to decisions, where there are no more than the pair's two.
+fn depth_of(trail: &Trail, floor: usize) -> Depth
+    requires floor { floor < length trail.now.entries }
+    requires decision { IsNone (entry_at trail.now.entries floor).reason }
+{
+    let first = trail.decision_from(0, floor);
+    if first == floor || trail.decision_from(first + 1, floor) == floor {
+        Depth::Decisions
+    } else {
+        Depth::FirstPoint
     }
 }
 
@@ -80,7 +129,7 @@ pub(crate) struct Search<'a> {
     order: Order,
     phases: Vec<bool>,
     restarts: Restarts,
-    seen: Vec<bool>,
+    seen: Marked,
 }
 
 impl<'a> Search<'a> {
@@ -101,8 +150,227 @@ impl<'a> Search<'a> {
             order: Order::new(alloc, variables)?,
             phases: vec![in alloc; false; variables as usize]?,
             restarts: Restarts::new(),
-            seen: vec![in alloc; false; variables as usize]?,
+            seen: Marked::new(alloc, variables)?,
         })
+    }
+
+    /// Goes on after the sweep.
+    fn go_on(self, alloc: Global, swept: Swept, budget: u64) -> Result<Answer, AllocError>
+        requires searching { IsSearching self }
+        requires waiting { AllWait self }
+        requires swept { IsSwept budget self swept }
+        ensures answers { IfOk result (Answers self.entry.cnf.now budget) }
+        ensures decided { 3 ^ self.entry.cnf.now.variables ≤ budget → IfOk result IsDecided }
+    {
+        match swept {
+            Swept::Open => self.run(alloc, budget),
+            Swept::Conflict(conflict) => { Ok(Answer::Refuted(self.refutation(alloc, conflict)?)) }
+            Swept::Spent => self.give_up(alloc, budget),
+        }
+    }
+
+    /// Gives up with the budget's number of clauses.
+    fn give_up(self, alloc: Global, budget: u64) -> Result<Answer, AllocError>
+        requires searching { IsSearching self }
+        requires spent { length self.chains.items ≡ budget }
+        ensures answers { IfOk result (Answers self.entry.cnf.now budget) }
+        ensures decided { 3 ^ self.entry.cnf.now.variables ≤ budget → IfOk result IsDecided }
+    {
+        Ok(Answer::Spent(Log::from_vec(self.into_steps(alloc)?)))
+    }
+
+    /// The log that ends with a clause that is false, where no decision is left to take back.
+    fn refutation(self, alloc: Global, conflict: u64) -> Result<Log, AllocError>
+        requires searching { IsSearching self }
+        requires conflict { IsConflict self.watched.clauses (literals self.watched.entries) conflict }
+        requires decisions { NoDecision self.watched.entries 0 (length self.watched.entries) }
+        ensures { IfOk result (Refutes self.entry.cnf.now) }
+    {
+        let mut search = self;
+        let step = search.refute(alloc, conflict)?;
+        let log = search.into_refutation(alloc, step)?;
+        Ok(log)
+    }
+
+    /// Searches until there is an answer.
+    fn run(self, alloc: Global, budget: u64) -> Result<Answer, AllocError>
+        requires searching { IsSearching self }
+        requires waiting { AllWait self }
+        requires budget { length self.chains.items < budget }
+        ensures answers { IfOk result (Answers self.entry.cnf.now budget) }
+        ensures decided { 3 ^ self.entry.cnf.now.variables ≤ budget → IfOk result IsDecided }
+    {
+        let mut search = self;
+        loop {
+            match search.propagate()? {
+                Some(conflict) => match search.last_decision() {
+                    Some(floor) => {
+                        search.resolve_conflict(alloc, conflict, floor, Depth::FirstPoint)?;
+                        if search.chains.len() as u64 == budget {
+                            return search.give_up(alloc, budget);
+                        }
+                        search.restart_if_due()?;
+                    }
+                    None => {
+                        return Ok(Answer::Refuted(search.refutation(alloc, conflict)?));
+                    }
+                },
+                None => {
+                    if !search.decide() {
+                        return search.into_assignment(alloc);
+                    }
+                }
+            }
+        }
+    }
+
+    /// Tries the guide's pairs, one after another.
+    fn sweep<G: Guide>(
+        &mut self,
+        alloc: Global,
+        guide: &mut G,
+        budget: u64,
+    ) -> Result<Swept, AllocError>
+        requires searching { IsSearching self.old }
+        requires waiting { AllWait self.old }
+        requires budget { length self.old.chains.items < budget }
+        ensures searching { IfOk result (λ _. IsSearching self.new) }
+        ensures waiting { IfOk result (λ _. AllWait self.new) }
+        ensures formula { IfOk result (λ _. self.new.cnf.now ≡ self.old.cnf.now) }
+        ensures swept { IfOk result (IsSwept budget self.new) }
+    {
+        let mut fuel = self
+            .watched
+            .variables()
+            .saturating_mul(4)
+            .saturating_add(64);
+        while fuel > 0 {
+            fuel -= 1;
+            let Some(pair) = guide.next_pair()? else {
+                return Ok(Swept::Open);
+            };
+            self.back_to_root()?;
+            match self.trial(alloc, pair, guide.near(), budget)? {
+                Trial::Ended(outcome) => guide.tell(outcome, &self.watched)?,
+                Trial::Conflict(conflict) => return Ok(Swept::Conflict(conflict)),
+                Trial::Spent => return Ok(Swept::Spent),
+            }
+        }
+        Ok(Swept::Open)
+    }
+
+    /// Tries whether the pair's first literal implies its second: assumes the first and the negation of the second, and
+    /// decides on near variables until a conflict shows that both cannot be, or nothing is left to decide.
+    fn trial(
+        &mut self,
+        alloc: Global,
+        pair: Pair,
+        near: &[u64],
+        budget: u64,
+    ) -> Result<Trial, AllocError>
+        requires searching { IsSearching self.old }
+        requires waiting { AllWait self.old }
+        requires budget { length self.old.chains.items < budget }
+        ensures searching { IfOk result (λ _. IsSearching self.new) }
+        ensures waiting { IfOk result (λ _. AllWait self.new) }
+        ensures formula { IfOk result (λ _. self.new.cnf.now ≡ self.old.cnf.now) }
+        ensures tried { IfOk result (IsTried budget self.new) }
+    {
+        let mut share = SHARE;
+        loop {
+            match self.propagate()? {
+                Some(conflict) => match self.last_decision() {
+                    Some(floor) => {
+                        let depth = depth_of(self.watched.trail(), floor);
+                        self.resolve_conflict(alloc, conflict, floor, depth)?;
+                        if self.chains.len() as u64 == budget {
+                            return Ok(Trial::Spent);
+                        }
+                        if share == 0 {
+                            return Ok(Trial::Ended(Outcome::GaveUp));
+                        }
+                        share -= 1;
+                    }
+                    None => return Ok(Trial::Conflict(conflict)),
+                },
+                None => match self.next_move(pair, near) {
+                    Move::Assume(literal) => self.assume(literal),
+                    Move::End(outcome) => return Ok(Trial::Ended(outcome)),
+                },
+            }
+        }
+    }
+
+    /// Assumes the literal.
+    fn assume(&mut self, literal: Literal)
+        requires searching { IsSearching self.old }
+        requires waiting { AllWait self.old }
+        requires closed { is_closed (literals self.old.watched.entries) self.old.watched.clauses ≡ true }
+        requires open { IsOpen self.old.watched.variables (literals self.old.watched.entries) literal }
+        ensures searching { IsSearching self.new }
+        ensures waiting { AllWait self.new }
+        ensures formula { self.new.cnf.now ≡ self.old.cnf.now }
+        ensures chains { self.new.chains ≡ self.old.chains }
+        ensures longer { length self.new.watched.entries ≡ length self.old.watched.entries + 1 }
+        ensures room { length self.new.watched.entries ≤ self.new.watched.variables }
+    {
+        self.watched.assume(literal);
+    }
+
+    /// What a trial does where nothing is left to propagate. It costs a walk over the near variables.
+    fn next_move(&self, pair: Pair, near: &[u64]) -> Move
+        ensures { CanMove self.now.watched.variables (literals self.now.watched.entries) result }
+    {
+        if self.watched.is_true(pair.first.negation()) || self.watched.is_true(pair.second) {
+            return Move::End(Outcome::Proved);
+        }
+        if self.watched.is_open(pair.first) {
+            return Move::Assume(pair.first);
+        }
+        let denied = pair.second.negation();
+        if self.watched.is_open(denied) {
+            return Move::Assume(denied);
+        }
+        match self.highest(near) {
+            Some(literal) => Move::Assume(literal),
+            None => Move::End(Outcome::Refuted),
+        }
+    }
+
+    /// A literal of the unassigned variable of the highest activity among those, with its saved phase.
+    fn highest(&self, variables: &[u64]) -> Option<Literal>
+        ensures { IfSome result (IsOpen self.now.watched.variables (literals self.now.watched.entries)) }
+    {
+        let mut best = None;
+        for variable in variables {
+            best = self.higher(best, *variable);
+        }
+        best
+    }
+
+    /// The literal of the variable, if it has no value and more activity than the best one so far.
+    fn higher(&self, best: Option<Literal>, variable: u64) -> Option<Literal>
+        requires { IfSome best (IsOpen self.now.watched.variables (literals self.now.watched.entries)) }
+        ensures { IfSome result (IsOpen self.now.watched.variables (literals self.now.watched.entries)) }
+    {
+        let literal = Literal {
+            variable,
+            positive: self.phase(variable),
+        };
+        if !self.watched.is_open(literal) {
+            return best;
+        }
+        match best {
+            Some(other) if self.order.activity(variable) <= self.order.activity(other.variable) =>
+                best,
+            _ => Some(literal),
+        }
+    }
+
+    /// The variable's saved phase.
+    fn phase(&self, variable: u64) -> bool {
+        let index = variable.saturating_sub(1) as usize;
+        self.phases.get(index).copied().unwrap_or(false)
     }
 
     /// Propagates until nothing more follows. The result is the number of a false clause, if there is one.
@@ -119,12 +387,21 @@ impl<'a> Search<'a> {
         Ok(conflict)
     }
 
+    /// The position of the newest decision, if there is one.
+    fn last_decision(&self) -> Option<usize>
+        ensures decision { IfSome result (λ c. (c < length self.now.watched.entries) × IsNone (entry_at self.now.watched.entries c).reason × NoDecision self.now.watched.entries (c + 1) (length self.now.watched.entries)) }
+        ensures none { IfNone result (NoDecision self.now.watched.entries 0 (length self.now.watched.entries)) }
+    {
+        self.watched.trail().last_decision()
+    }
+
     /// Learns a clause from the conflict, and backjumps to the highest level of its literals but for the newest.
     fn resolve_conflict(
         &mut self,
         alloc: Global,
         conflict: u64,
         floor: usize,
+        depth: Depth,
     ) -> Result<(), AllocError>
         requires searching { IsSearching self.old }
         requires waiting { AllWait self.old }
@@ -144,6 +421,7 @@ impl<'a> Search<'a> {
             &mut self.seen,
             conflict,
             floor,
+            depth,
         )?;
         let LearntClause { step, position } = learnt;
         let Step { clause, hints } = step;
@@ -167,6 +445,19 @@ impl<'a> Search<'a> {
         if !self.restarts.is_due() {
             return Ok(());
         }
+        self.back_to_root()?;
+        Ok(())
+    }
+
+    /// Takes all decisions back.
+    fn back_to_root(&mut self) -> Result<(), AllocError>
+        requires searching { IsSearching self.old }
+        requires waiting { AllWait self.old }
+        ensures searching { IfOk result (λ _. IsSearching self.new) }
+        ensures waiting { IfOk result (λ _. AllWait self.new) }
+        ensures formula { self.new.cnf.now ≡ self.old.cnf.now }
+        ensures chains { self.new.chains ≡ self.old.chains }
+    {
         match self.watched.trail().last_decision() {
             Some(last) => {
                 let first = self.watched.trail().decision_from(0, last);
@@ -183,7 +474,7 @@ impl<'a> Search<'a> {
         requires searching { IsSearching self.old }
         requires conflict { IsConflict self.old.watched.clauses (literals self.old.watched.entries) conflict }
         requires decisions { NoDecision self.old.watched.entries 0 (length self.old.watched.entries) }
-        ensures searching { IsSearching self.new }
+        ensures searching { IfOk result (λ _. IsSearching self.new) }
         ensures watched { self.new.watched ≡ self.old.watched }
         ensures formula { self.new.cnf.now ≡ self.old.cnf.now }
         ensures chains { self.new.chains ≡ self.old.chains }
@@ -191,13 +482,14 @@ impl<'a> Search<'a> {
         ensures derived { IfOk result (λ s. derives self.old.watched.clauses s.hints [] ≡ true) }
         ensures regular { IfOk result (λ s. is_regular self.old.watched.clauses s.hints ≡ true) }
     {
-        refute(
+        let step = refute(
             alloc,
             self.watched.clauses(),
             self.watched.trail(),
             &mut self.seen,
             conflict,
-        )
+        )?;
+        Ok(step)
     }
 
     /// Puts the variables of the trail from the position on back among those that wait, and saves their phases.

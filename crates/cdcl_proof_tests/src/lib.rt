@@ -4,6 +4,8 @@
 #[cfg(test)]
 mod formulas;
 #[cfg(test)]
+mod guided;
+#[cfg(test)]
 mod replaying;
 #[cfg(test)]
 mod solving;

@@ -11,7 +11,7 @@ use std::test::Fail;
 
 /// What the solver says of a formula.
 #[derive(Clone, Copy, Debug, PartialEq, Eq)]
-enum Verdict {
+pub(crate) enum Verdict {
     Refuted,
     Satisfied,
     /// The budget is spent.
@@ -35,12 +35,18 @@ fn verdict_on(alloc: Global, cnf: &Cnf, budget: u64) -> Result<Verdict, AllocErr
     if budget == 0 {
         return Ok(Wrong);
     }
-    Ok(match solve(alloc, cnf, budget)? {
+    let answer = solve(alloc, cnf, budget)?;
+    Ok(verdict_of(cnf, budget, answer))
+}
+
+/// The verdict of an answer, once what comes with it is tried.
+pub(crate) fn verdict_of(cnf: &Cnf, budget: u64, answer: Answer) -> Verdict {
+    match answer {
         Answer::Refuted(log) if replays(cnf, &log) && ends_empty(&log) => Refuted,
         Answer::Satisfied(assignment) if cnf.is_satisfied_by(&assignment) => Satisfied,
         Answer::Spent(log) if replays(cnf, &log) && log.as_slice().len() as u64 == budget => Spent,
         Answer::Refuted(_) | Answer::Satisfied(_) | Answer::Spent(_) => Wrong,
-    })
+    }
 }
 
 /// A formula, how much may be learnt, and the verdict.
@@ -232,7 +238,7 @@ fn progressions_are_avoided_below_46(rt: HostRuntime) -> Result<(), Fail> {
 }
 
 /// The bits of the number as an assignment of twelve variables.
-fn bits_of(alloc: Global, number: u64) -> Result<Assignment, AllocError> {
+pub(crate) fn bits_of(alloc: Global, number: u64) -> Result<Assignment, AllocError> {
     let mut values = Vec::new(alloc);
     for position in 0..12 {
         values.push(number.wrapping_shr(position) % 2 == 1)?;

@@ -1,6 +1,6 @@
 //! Propagation by watched literals.
 use crate::formulas::{clause, formula};
-use cdcl_proof::watched::Watched;
+use clause_learning::watched::Watched;
 use resolution_proof::clause::is_within_variables;
 use resolution_proof::literal::Literal;
 use std::alloc::Global;

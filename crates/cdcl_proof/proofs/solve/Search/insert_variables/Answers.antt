@@ -1,12 +1,12 @@
 use Rattle.std.proofs.Common.{ℕ, true, ◌≡◌, ◌<◌, ◌≤◌, ◌+◌, ◌⊎◌, inl, inr, length, take, ap, subst, sym, ◌∙◌, refl, arith}
 use Rattle.std.proofs.lemmas.Bool.{cases_eq}
-use Rattle.cdcl_proof.specs.declared.trail.Entry.{Entry}
+use Rattle.clause_learning.specs.declared.trail.Entry.{Entry}
 use Rattle.resolution_proof.specs.Literal.{mentions}
 use Rattle.cdcl_proof.specs.Order.{Waits}
-use Rattle.cdcl_proof.specs.Trail.{Path, entry_at, literals}
-use Rattle.cdcl_proof.specs.Watching.{Watching}
-use Rattle.cdcl_proof.proofs.Entries.{entry_of_mentions}
-use Rattle.cdcl_proof.proofs.Adding.{before_or_from, mentions_before}
+use Rattle.clause_learning.specs.Trail.{Path, entry_at, literals}
+use Rattle.clause_learning.specs.Watching.{Watching}
+use Rattle.clause_learning.proofs.Entries.{entry_of_mentions}
+use Rattle.clause_learning.proofs.Adding.{before_or_from, mentions_before}
 use Rattle.cdcl_proof.proofs.solve.Search.insert_variables.Goals as goal
 
 pub loop-index-init : goal.loop-index-init

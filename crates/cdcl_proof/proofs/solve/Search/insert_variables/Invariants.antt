@@ -1,6 +1,6 @@
 use Rattle.std.proofs.Common.{ℕ, ◌≡◌, ◌<◌, ◌≤◌, ◌⊎◌, length}
 use Rattle.cdcl_proof.specs.Order.{Waits}
-use Rattle.cdcl_proof.specs.Trail.{entry_at}
+use Rattle.clause_learning.specs.Trail.{entry_at}
 use Rattle.cdcl_proof.specs.Search.{IsSearching}
 use Rattle.cdcl_proof.proofs.solve.Search.insert_variables.Given as goal
 

@@ -4,7 +4,7 @@ use Rattle.resolution_proof.specs.Literal.{holds}
 use Rattle.resolution_proof.specs.Formula.{is_true}
 use Rattle.resolution_proof.specs.Replay.{learnt_clauses}
 use Rattle.resolution_proof.specs.Fresh.{is_closed}
-use Rattle.cdcl_proof.specs.Trail.{Path, literals, IsTotal}
+use Rattle.clause_learning.specs.Trail.{Path, literals, IsTotal}
 use Rattle.cdcl_proof.specs.Store.{steps_of}
 use Rattle.cdcl_proof.proofs.Keeping.{logged_clauses}
 use Rattle.cdcl_proof.proofs.Satisfying.{closed_satisfies}

@@ -1,5 +1,5 @@
 use Rattle.std.proofs.Common.{ap, inl, arith}
-use Rattle.cdcl_proof.specs.Watching.{Watching}
+use Rattle.clause_learning.specs.Watching.{Watching}
 use Rattle.cdcl_proof.proofs.solve.Search.new.Goals as goal
 
 pub returns-clause-waiting : goal.returns-clause-waiting

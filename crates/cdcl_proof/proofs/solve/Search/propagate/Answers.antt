@@ -1,9 +1,9 @@
 use Rattle.std.proofs.Common.{ℕ, true, ◌≡◌, ◌⊎◌, inl, inr, List, subst, sym, ◌∙◌, arith}
 use Rattle.resolution_proof.specs.declared.literal.Literal.{Literal}
 use Rattle.resolution_proof.specs.Literal.{mentions}
-use Rattle.cdcl_proof.specs.Trail.{IsSound, literals}
+use Rattle.clause_learning.specs.Trail.{IsSound, literals}
 use Rattle.cdcl_proof.specs.Order.{IsOrder, Waits}
-use Rattle.cdcl_proof.proofs.Adding.{sound_propagates, mentions_kept}
+use Rattle.clause_learning.proofs.Adding.{sound_propagates, mentions_kept}
 use Rattle.cdcl_proof.proofs.solve.Search.propagate.Goals as goal
 
 pub returns-clause-searching : goal.returns-clause-searching

@@ -1,14 +1,14 @@
 use Rattle.std.proofs.Common.{ℕ, true, ◌≡◌, ◌⊎◌, inl, inr, List, ◌++◌, [], ◌∷◌, take, ap, subst, sym, ◌∙◌, arith}
 use Rattle.resolution_proof.specs.declared.literal.Literal.{Literal}
-use Rattle.cdcl_proof.specs.declared.trail.Entry.{Entry}
+use Rattle.clause_learning.specs.declared.trail.Entry.{Entry}
 use Rattle.resolution_proof.specs.Clause.{is_clause}
 use Rattle.resolution_proof.specs.Formula.{Formula}
-use Rattle.cdcl_proof.specs.Trail.{IsSound, literals}
+use Rattle.clause_learning.specs.Trail.{IsSound, literals}
 use Rattle.resolution_proof.specs.Literal.{mentions}
 use Rattle.cdcl_proof.specs.Order.{IsOrder, Waits}
-use Rattle.cdcl_proof.specs.Watching.{Watching}
+use Rattle.clause_learning.specs.Watching.{Watching}
 use Rattle.cdcl_proof.proofs.Keeping.{logged_push}
-use Rattle.cdcl_proof.proofs.Adding.{sound_propagates, not_empty, mentions_kept, backjump_keeps, search_learns}
+use Rattle.clause_learning.proofs.Adding.{sound_propagates, not_empty, mentions_kept, backjump_keeps, search_learns}
 use Rattle.cdcl_proof.proofs.solve.Search.resolve_conflict.Goals as goal
 
 pub learn-requires-2-clause-clause : goal.learn-requires-2-clause-clause

@@ -1,9 +1,0 @@
-use Rattle.cdcl_proof.specs.Trail.{literals}
-use Rattle.cdcl_proof.proofs.Scanning.{value_holds, none_holds}
-use Rattle.cdcl_proof.proofs.trail.Trail.is_true.Goals as goal
-
-pub returns-in-Some : goal.returns-in-Some
-returns-in-Some c = value_holds (literals c.args.self.now.entries) c.args.literal c.in-Some.value c.in-Some.ensures
-
-pub returns-in-None : goal.returns-in-None
-returns-in-None c = none_holds (literals c.args.self.now.entries) c.args.literal c.in-None.ensures

@@ -1,9 +1,0 @@
-use Rattle.std.proofs.Common.{◌≤◌, length}
-use Rattle.cdcl_proof.specs.Trail.{NoDecision}
-use Rattle.cdcl_proof.proofs.trail.Trail.last_decision.Given as goal
-
-abbrev pub invariant-loop-position : goal.invariant-loop-position
-invariant-loop-position l = (l.position ≤ length l.self-inside.entries.items) × NoDecision l.self-inside.entries.items l.position (length l.self-inside.entries.items)
-
-abbrev pub decreases-loop-position : goal.decreases-loop-position
-decreases-loop-position l = l.position

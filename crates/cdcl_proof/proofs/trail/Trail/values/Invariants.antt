@@ -1,6 +1,0 @@
-use Rattle.std.proofs.Common.{◌≡◌, take, map}
-use Rattle.cdcl_proof.specs.Trail.{sign_of}
-use Rattle.cdcl_proof.proofs.trail.Trail.values.Given as goal
-
-abbrev pub invariant-loop-mark : goal.invariant-loop-mark
-invariant-loop-mark l = l.values.items ≡ map sign_of (take l.mark-index l.mark-items)

@@ -1,4 +1,0 @@
-use Rattle.cdcl_proof.proofs.watched.Watched.learn.Goals as goal
-
-pub returns-clause-within : goal.returns-clause-within
-returns-clause-within c = rw c.learn.ensures.watching.variables c.learn.ensures.watching.table.clauses

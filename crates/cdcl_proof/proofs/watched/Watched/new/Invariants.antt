@@ -1,6 +1,0 @@
-use Rattle.std.proofs.Common.{◌≡◌, take, []}
-use Rattle.cdcl_proof.specs.Watcher.{IsWatching}
-use Rattle.cdcl_proof.proofs.watched.Watched.new.Given as goal
-
-abbrev pub invariant-loop-clause : goal.invariant-loop-clause
-invariant-loop-clause l = IsWatching l.watcher × (l.watcher.table.clauses.items ≡ take l.clause-index l.clause-items) × (l.watcher.trail ≡ record { variables = l.cnf.variables; entries = [] })

@@ -1,4 +1,0 @@
-use Rattle.cdcl_proof.proofs.watched.Watched.propagate.Goals as goal
-
-pub returns-clause-within : goal.returns-clause-within
-returns-clause-within c = rw c.propagate.ensures.watching.variables c.propagate.ensures.watching.table.clauses

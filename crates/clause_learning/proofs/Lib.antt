@@ -1,0 +1,15 @@
+pub mod Entries
+pub mod Scanning
+pub mod Sound
+pub mod Regularity
+pub mod Marking
+pub mod Listing
+pub mod Resolution
+pub mod LearntClauses
+pub mod Gathering
+pub mod StoredClauses
+pub mod Tables
+pub mod AddedClauses
+pub mod Covering
+pub mod Visiting
+pub mod Adding

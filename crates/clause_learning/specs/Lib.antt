@@ -1,0 +1,9 @@
+pub mod Trail
+pub mod Learning
+pub mod Marked
+pub mod Propagation
+pub mod Resolving
+pub mod Watching
+pub mod Gathering
+pub mod Table
+pub mod Watcher

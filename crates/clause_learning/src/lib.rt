@@ -1,0 +1,14 @@
+// Propagation by watched literals, and clauses learnt from conflicts.
+#![tactic(auto)]
+
+pub mod learning;
+pub mod marked;
+mod marks;
+mod packed;
+mod propagation;
+mod stored_clause;
+mod stored_clause_state;
+mod table;
+pub mod trail;
+pub mod watched;
+mod watcher;
