@@ -4,7 +4,8 @@
     time_verdicts.py CIRCT [RUNS] [QUESTION..]     CIRCT is the proved program; 3 runs of all questions by default
 
 Each question is whether two words of the same inputs are equal: MLIR text for `lec`; for `minisat` and `cadical` a formula by the rows of
-gates of generate_dimacs.py; for `berkeley-abc` both sides as BLIF, told apart by `cec`. A line has the median times in seconds.
+gates of generate_dimacs.py; for `berkeley-abc` both sides as BLIF, told apart by `cec`. Those of verdict_texts.py are pairs of texts, of
+which the other programs get the circuits that CIRCT exports, ABC for `cec` and `&cec`. A line has the median times in seconds.
 """
 import os
 import shutil
@@ -17,6 +18,7 @@ import time
 sys.dont_write_bytecode = True
 import support
 from generate_dimacs import Formula
+from verdict_texts import design, select, shifted_twice
 
 SECONDS = 300
 
@@ -122,7 +124,16 @@ class Question:
             texts.append(f"hw.module @{name}({ports}, out o : i{wide}) {{\n{lines}\n  hw.output %o : i{wide}\n}}\n")
         return "".join(texts)
 
-    def write(self, folder):
+    def commands(self, folder, circt):
+        """The command of each program."""
+        return {
+            "lec": [circt, "lec", f"{folder}/q.mlir", "-c1", "p", "-c2", "q"],
+            "minisat": ["minisat", "-verb=0", f"{folder}/q.cnf"],
+            "cadical": ["cadical", "-q", "-n", f"{folder}/q.cnf"],
+            "abc cec": ["berkeley-abc", "-q", f"cec {folder}/0.blif {folder}/1.blif"],
+        }
+
+    def write(self, folder, _circt):
         with open(f"{folder}/q.mlir", "w") as out:
             out.write(self.mlir())
         rows = Rows()
@@ -227,14 +238,31 @@ def rest(bits):
 
 
 QUESTIONS = {
+    "adders 16": lambda: associative(16),
     "adders 32": lambda: associative(32),
     "adders 64": lambda: associative(64),
     "adders 128": lambda: associative(128),
     "shifts 64": lambda: shifts(64),
+    "product 6": lambda: product(6),
     "product 8": lambda: product(8),
+    "product 10": lambda: product(10),
     "distributive 6": lambda: distributive(6),
     "rest 16": lambda: rest(16),
     "commuted 128": lambda: commuted(128),
+    "select 16": lambda: select(16),
+    "select 32": lambda: select(32),
+    "select 64": lambda: select(64),
+    "select 128": lambda: select(128),
+    "shifts twice 16": lambda: shifted_twice(16),
+    "shifts twice 32": lambda: shifted_twice(32),
+    "shifts twice 64": lambda: shifted_twice(64),
+    "design passes": lambda: design(100, 16, "passes"),
+    "design commuted": lambda: design(100, 16, "commuted"),
+    "design grouped": lambda: design(100, 16, "grouped"),
+    "design rewritten": lambda: design(100, 16, "rewritten"),
+    "design changed": lambda: design(100, 16, "changed"),
+    "design 8": lambda: design(40, 8, "rewritten"),
+    "design 32": lambda: design(40, 32, "rewritten"),
 }
 
 
@@ -260,16 +288,10 @@ def main():
     runs = support.number_word(2, 3)
     chosen = sys.argv[3:] or list(QUESTIONS)
     folder = tempfile.mkdtemp()
-    commands = {
-        "lec": [circt, "lec", f"{folder}/q.mlir", "-c1", "p", "-c2", "q"],
-        "minisat": ["minisat", "-verb=0", f"{folder}/q.cnf"],
-        "cadical": ["cadical", "-q", "-n", f"{folder}/q.cnf"],
-        "berkeley-abc": ["berkeley-abc", "-q", f"cec {folder}/0.blif {folder}/1.blif"],
-    }
-    commands = {name: command for name, command in commands.items() if shutil.which(command[0])}
-    print(f"{'question':16}" + "".join(f"{name:>16}" for name in commands))
     for name in chosen:
-        QUESTIONS[name]().write(folder)
+        question = QUESTIONS[name]()
+        question.write(folder, circt)
+        commands = {program: command for program, command in question.commands(folder, circt).items() if shutil.which(command[0])}
         times = {program: [] for program in commands}
         verdicts = dict.fromkeys(commands, "?")
         for _ in range(runs):
@@ -277,7 +299,7 @@ def main():
                 seconds, text = timed(command)
                 times[program].append(seconds)
                 verdicts[program] = verdict_of(text)
-        print(f"{name:16}" + "".join(f"{statistics.median(times[p]):14.3f} {verdicts[p]}" for p in commands), flush=True)
+        print(f"{name:16}" + "".join(f"  {p} {statistics.median(times[p]):.3f} {verdicts[p]}" for p in commands), flush=True)
     shutil.rmtree(folder)
 
 
