@@ -122,10 +122,31 @@ def undefined_or_cycle(rows, defined):
         if any(literal > 1 and literal // 2 not in defined for literal in used):
             return number, "G4"
     needs = {own // 2: {literal // 2 for literal in used} for _, kind, own, used in rows if kind == "gate"}
+    if all_settle(needs):
+        return None
     for number, kind, own, _ in rows:
         if kind == "gate" and own // 2 in reached(needs, own // 2):
             return number, "G5"
     return None
+
+
+def all_settle(needs):
+    """Whether gates can be put into an order in which each needs earlier ones alone: then none is on a cycle."""
+    users, left = {}, {}
+    for gate, used in needs.items():
+        own = [variable for variable in used if variable in needs]
+        left[gate] = len(own)
+        for variable in own:
+            users.setdefault(variable, []).append(gate)
+    ready = [gate for gate, count in left.items() if count == 0]
+    settled = 0
+    while ready:
+        settled += 1
+        for user in users.get(ready.pop(), ()):
+            left[user] -= 1
+            if left[user] == 0:
+                ready.append(user)
+    return settled == len(needs)
 
 
 def reached(needs, start):
