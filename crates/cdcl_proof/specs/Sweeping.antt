@@ -2,12 +2,12 @@
 use Rattle.std.specs.Prelude.{ℕ, true, ◌≡◌, ◌<◌, List, length}
 use Rattle.resolution_proof.specs.declared.literal.Literal.{Literal}
 use Rattle.cdcl_proof.specs.declared.solve.Search.{Search}
-use Rattle.cdcl_proof.specs.declared.solve.Move.{Move}
-use Rattle.cdcl_proof.specs.declared.solve.Move.TheVariants.{Assume, End}
-use Rattle.cdcl_proof.specs.declared.solve.Trial.{Trial}
-use Rattle.cdcl_proof.specs.declared.solve.Trial.TheVariants as Trials
-use Rattle.cdcl_proof.specs.declared.solve.Swept.{Swept}
-use Rattle.cdcl_proof.specs.declared.solve.Swept.TheVariants as Sweeps
+use Rattle.cdcl_proof.specs.declared.sweeping.Move.{Move}
+use Rattle.cdcl_proof.specs.declared.sweeping.Move.TheVariants.{Assume, End}
+use Rattle.cdcl_proof.specs.declared.sweeping.Trial.{Trial}
+use Rattle.cdcl_proof.specs.declared.sweeping.Trial.TheVariants as Trials
+use Rattle.cdcl_proof.specs.declared.sweeping.Swept.{Swept}
+use Rattle.cdcl_proof.specs.declared.sweeping.Swept.TheVariants as Sweeps
 use Rattle.resolution_proof.specs.Clause.{is_among}
 use Rattle.resolution_proof.specs.Fresh.{is_free}
 use Rattle.clause_learning.specs.Trail.{literals, NoDecision}

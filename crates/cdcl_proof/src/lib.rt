@@ -5,3 +5,4 @@ pub mod guide;
 mod order;
 mod restarts;
 pub mod solve;
+mod sweeping;

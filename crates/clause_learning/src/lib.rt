@@ -3,9 +3,12 @@
 
 pub mod learning;
 pub mod marked;
+mod marked_clause;
 mod marks;
+mod minimising;
 mod packed;
 mod propagation;
+mod resolving;
 mod stored_clause;
 mod stored_clause_state;
 mod table;
