@@ -227,5 +227,5 @@ fn print_result<R: Threads + Sync, G: Gate + Copy + Send>(
     ensures { IfOk result (IsPrinted passes.now (design_of verified.design)) }
 {
     let made = passes_result(means, verified, passes)?;
-    print_and_drop(means.alloc, made)
+    print_and_drop(means.rt, means.alloc, made, means.workers.count)
 }

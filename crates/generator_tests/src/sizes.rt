@@ -1,6 +1,7 @@
-//! A design of the greatest size.
+//! Large designs.
 use generator::generate;
 use ir_store::design::Design;
+use mlir_printer::design_text::{print_and_drop, print_design};
 use std::test::Fail;
 
 // How many operations a design has.
@@ -30,5 +31,17 @@ fn ten_thousand_modules_are_generated(rt: HostRuntime) -> Result<(), Fail> {
     assert_eq!(rt; design.module_count(), 10_000);
     assert_eq!(rt; operation_count(design), 79_999);
     assert_eq!(rt; public_count(design), 5_000);
+    Ok(())
+}
+
+// Several threads print 8,000 operations: the text is the one of a single thread.
+#[test]
+fn workers_print_the_same_text(rt: HostRuntime) -> Result<(), Fail> {
+    let alone = print_design(rt.alloc(), &generate(rt.alloc(), 7, 1_000)?)?;
+    for workers in [1u32, 2, 3, 4, 64] {
+        let verified = generate(rt.alloc(), 7, 1_000)?;
+        let text = print_and_drop(&rt, rt.alloc(), verified, workers)?;
+        assert!(rt; text == alone);
+    }
     Ok(())
 }

@@ -4,3 +4,4 @@ pub mod names
 pub mod lines
 pub mod again
 pub mod printable
+pub mod Sending

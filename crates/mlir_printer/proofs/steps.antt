@@ -1,5 +1,5 @@
-pub mod Dropping
 pub mod Entries
 pub mod Passing
+pub mod Runs
 pub mod Showing
 pub mod Steps

@@ -9,6 +9,7 @@ use Rattle.hw_model.specs.Opcodes.{opcode_of}
 use Rattle.hw_model.specs.Design.{Entry, Ref, Port, Op, Module, Design, same_name}
 use Rattle.hw_model.specs.Design.Attribute.{text_value}
 use Rattle.ir_store.specs.OperationViews.{OpParts}
+use Rattle.ir_store.specs.Designs.{StoredModule, numbered_module}
 use Rattle.mlir_operations.specs.ElementText.{InherentAttributes}
 use Rattle.mlir_operations.specs.ElementText.InherentAttributes.{nothing, with_reset, with_async_reset, predicate, position, number, literals, field_name, child}
 use Rattle.mlir_reader.specs.Resolving.{put_entry}
@@ -16,7 +17,7 @@ use Rattle.printing_laws.specs.Parts.{parts_in}
 use Rattle.printing_laws.specs.Numbers.{shown_by_first, shown_literals}
 use Rattle.mlir_printer.specs.Naming.{input_count, names_given, first_name, value_named, results_named}
 use Rattle.printing_laws.specs.NameHints.{name_count, port_name_hint}
-use Rattle.mlir_printer.specs.Modules.{PortText, ModuleText, file_bytes}
+use Rattle.mlir_printer.specs.Modules.{PortText, ModuleText, modules_bytes, file_bytes}
 use Rattle.mlir_printer.specs.Elements.{ValueText, Pending}
 use Rattle.mlir_printer.specs.Operations.{OperationText}
 
@@ -110,6 +111,10 @@ module_shown m = module_named (names_given m.ports (map parts_in m.body)) m
 -- what the text of a design says
 abbrev pub modules_shown : Design → List ModuleText
 modules_shown d = map module_shown d
+
+-- the text of stored modules, one after another
+unfoldable pub stored_bytes : List StoredModule → List ℕ
+stored_bytes ms = modules_bytes (modules_shown (map numbered_module ms))
 
 -- the text of a design
 unfoldable pub ir_text : Design → List ℕ

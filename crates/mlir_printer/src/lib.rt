@@ -15,6 +15,7 @@ mod modules;
 mod numbers;
 mod numerals;
 mod operations;
+mod shared_text;
 mod strings;
 mod types;
 mod value_names;

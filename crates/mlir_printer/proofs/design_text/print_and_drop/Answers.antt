@@ -6,7 +6,7 @@ use Rattle.mlir_printer.specs.Texts.{ir_text}
 use Rattle.mlir_printer.proofs.design_text.print_and_drop.Goals as goal
 
 pub returns-clause-spelled : goal.returns-clause-spelled
-returns-clause-spelled c =
+returns-clause-spelled g c =
     let verified = c.args.verified in
     let d = design_of verified.design in
     let printable = c.what_is_canonical_is_printable.ensures d verified.accepted verified.canonical in
