@@ -7,9 +7,7 @@ use Rattle.hw_model.specs.Meaning.{machine, HasNoCycle, HasHeights}
 use Rattle.hw_model.specs.Types.{Name}
 use Rattle.pass_pipeline.specs.declared.pass.Pass.{Pass}
 use Rattle.pass_laws.specs.PassLaw.{IsAfter}
-use Rattle.pass_manager.specs.Results.{IsResult}
-use Rattle.aggregate_laws.specs.Scalars.{has_aggregates}
-use Rattle.pass_manager.specs.Lowering.{lowered_aggregates}
+use Rattle.pass_manager.specs.Results.{IsResult, IsExported}
 use Rattle.export_verilog.specs.Aggregates.{HasNoAggregates}
 use Rattle.export_verilog.specs.Behaviour.{BehavesAs}
 use Rattle.export_verilog.specs.Exportable.{IsExportable}
@@ -87,21 +85,15 @@ pub record ExportLaws : Type 0 where
   pub exportable : (d : Design) → IsAccepted d → HasNoAggregates d → HasRoomToExport d → IsExportable d
   pub behaves : (options : Lowering) (d : Design) → IsExportable d → BehavesAs (verilog_text options d) d
 
--- what the law of lowering says
-pub record LoweringLaws : Type 0 where
-  pub none_left : (d : Design) → IsAccepted d → Printable d → has_aggregates (lowered_aggregates d) ≡ false
+-- what the law of what becomes of a design for an export says
+pub record ForExportLaws : Type 0 where
+  pub after : (passes : List Pass) (d f : Design) → IsAccepted d → Printable d → IsExported passes d f → IsAfter (exported_passes passes) d f
 
--- what passes make of an accepted design, with its aggregates lowered, has none
-pub lowered_none : ResultLaws → LoweringLaws → (passes : List Pass) (d e f : Design) → IsAccepted d → Printable d → IsResult passes d e → f ≡ lowered_aggregates e → HasNoAggregates f
-lowered_none results lowering passes d e f accepted shown is lowered =
-    let after : IsAfter passes d e = results.after passes d e accepted shown is in
-    ap has_aggregates lowered ∙ lowering.none_left e after.accepted after.printable
-
--- what passes and then the lowering made of an accepted design, exported, is its translation
-pub exported : ExportLaws → ResultLaws → (passes : List Pass) (options : Lowering) (d f : Design) → IsAccepted d → Printable d → IsResult (exported_passes passes) d f → HasNoAggregates f → HasRoomToExport f
+-- what passes made of an accepted design, and what became of it for an export, is its translation
+pub exported : ExportLaws → ForExportLaws → (passes : List Pass) (options : Lowering) (d f : Design) → IsAccepted d → Printable d → IsExported passes d f → HasNoAggregates f → HasRoomToExport f
     → (text : List ℕ) → text ≡ verilog_text options f → IsTranslatedFrom passes options d f text
 exported laws results passes options d f accepted shown all none room text laid =
-    let after : IsAfter (exported_passes passes) d f = results.after (exported_passes passes) d f accepted shown all in
+    let after : IsAfter (exported_passes passes) d f = results.after passes d f accepted shown all in
     let kept = partners (exported_passes passes) d f accepted after in
     let behaves : BehavesAs text f = subst (λ t. BehavesAs t f) (sym laid) (laws.behaves options f (laws.exportable f after.accepted none room)) in
     record {

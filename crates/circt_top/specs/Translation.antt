@@ -1,5 +1,5 @@
 -- What `translate --export-verilog` does with a text: a Verilog text that behaves as the design that passes make of the one that it
--- says, where aggregates have become their leaves.
+-- says, where aggregates that somebody uses have become their leaves.
 use Rattle.std.specs.Prelude.{◌≡◌, ℕ, List, [], ◌∷◌, ◌++◌}
 use Rattle.hw_model.specs.Design.{Design}
 use Rattle.export_verilog.specs.Behaviour.{BehavesAs}
@@ -7,12 +7,12 @@ use Rattle.lowering_options.specs.declared.lowering.Lowering.{Lowering}
 use Rattle.export_verilog.specs.Layout.{verilog_text}
 use Rattle.pass_pipeline.specs.declared.pass.Pass.{Pass}
 use Rattle.pass_pipeline.specs.declared.pass.Pass.TheVariants.{HwLowerAggregates}
-use Rattle.pass_manager.specs.Results.{IsResult}
+use Rattle.pass_manager.specs.Results.{IsExported}
 use Rattle.circt_top.specs.Accepting.{Accepted}
 use Rattle.circt_top.specs.Partners.{HasPartners}
 use Rattle.circt_top.specs.SourceBehaviour.{BehavesAsSource}
 
--- the passes before an export: those that are asked for, and then aggregates are lowered
+-- the passes whose law an export keeps: those that are asked for, and then aggregates are lowered
 abbrev pub exported_passes : List Pass → List Pass
 exported_passes passes = passes ++ HwLowerAggregates ∷ []
 
@@ -21,7 +21,7 @@ exported_passes passes = passes ++ HwLowerAggregates ∷ []
 pub record IsTranslated (passes : List Pass) (options : Lowering) (design : Design) (text : List ℕ) : Type 0 where
   pub behaves_as_source : BehavesAsSource (exported_passes passes) design text
   pub made : Design
-  pub result : IsResult (exported_passes passes) design made
+  pub result : IsExported passes design made
   pub partners : HasPartners (exported_passes passes) design made
   pub behaves : BehavesAs text made
   -- the text is laid out as `verilog_text` says, its expressions written as the options say

@@ -6,8 +6,8 @@ ghost use Rattle.op_verifier.specs.Verdict.{IsAccepted};
 ghost use Rattle.stored_form.specs.Canonical.{IsCanonical};
 ghost use Rattle.export_verilog.specs.Aggregates.{HasNoAggregates};
 ghost use Rattle.pass_pipeline.specs.declared.pass.Pass.{Pass};
-ghost use Rattle.pass_manager.specs.Results.{IsResult};
-ghost use Rattle.circt_top.specs.Translation.{exported_passes, IsTranslated, IsTranslatedFrom};
+ghost use Rattle.pass_manager.specs.Results.{IsResult, IsExported};
+ghost use Rattle.circt_top.specs.Translation.{IsTranslated, IsTranslatedFrom};
 
 use command_line::workers::Workers;
 use export_verilog::export::export;
@@ -17,9 +17,10 @@ use export_verilog::{
 use io_edge::byte_text::Text;
 use lowering_options::lowering::Lowering;
 use op_verifier::Verified;
+use pass_manager::exports_follow;
+use pass_manager::for_export::lowered_for_export;
 use pass_manager::gate::Gate;
-use pass_manager::run::{run_pipeline, with_lowered_aggregates};
-use pass_manager::{lowering_keeps, results_follow};
+use pass_manager::run::run_pipeline;
 use pass_pipeline::pipeline::Pipeline;
 use printing_laws::what_is_canonical_is_printable;
 use std::alloc::{AllocError, Global};
@@ -57,20 +58,19 @@ pub(crate) fn passes_result<R: Threads + Sync, G: Gate + Copy + Send>(
     )
 }
 
-/// What passes make of a verified design, with its aggregates lowered to their leaves.
+/// What passes make of a verified design, with its aggregates lowered to their leaves where somebody uses them.
 pub(crate) fn exported_result<R: Threads + Sync, G: Gate + Copy + Send>(
     means: &Means<'_, R, G>,
     verified: Verified,
     passes: &Pipeline,
 ) -> Result<Verified, AllocError>
-    ensures made { IfOk result (λ made. IsResult (exported_passes passes.now) (design_of verified.design) (design_of made.design)) }
+    ensures made { IfOk result (λ made. IsExported passes.now (design_of verified.design) (design_of made.design)) }
     ensures plain { IfOk result (λ made. HasNoAggregates (design_of made.design)) }
 {
     what_is_canonical_is_printable();
-    results_follow();
-    lowering_keeps();
+    exports_follow();
     let made = passes_result(means, verified, passes)?;
-    with_lowered_aggregates(means.alloc, made)
+    lowered_for_export(means.alloc, made)
 }
 
 /// The Verilog of what passes and then the lowering of aggregates made of any verified design, its expressions written as `options` say.
@@ -80,10 +80,10 @@ pub(crate) fn export_made<R: Threads + Sync, G: Gate + Copy + Send>(
     options: Lowering,
 ) -> Result<Text, AllocError>
     requires { HasNoAggregates (design_of made.now.design) }
-    ensures { (passes : List Pass) (d : Design) → IsAccepted d → IsCanonical d → IsResult (exported_passes passes) d (design_of made.now.design) → IfOk result (IsTranslatedFrom passes options d (design_of made.now.design)) }
+    ensures { (passes : List Pass) (d : Design) → IsAccepted d → IsCanonical d → IsExported passes d (design_of made.now.design) → IfOk result (IsTranslatedFrom passes options d (design_of made.now.design)) }
 {
     what_is_canonical_is_printable();
-    results_follow();
+    exports_follow();
     accepted_designs_are_exportable();
     exported_designs_behave();
     stored_designs_have_room(made.design());

@@ -15,6 +15,7 @@ pub mod Once
 pub mod Places
 pub mod Remnants
 pub mod TrimmedBefore
+pub mod UnusedAggregates
 pub mod UnusedOps
 mod SameNumbers
 mod SameParts

@@ -50,7 +50,7 @@ sweeps_trim (suc n) os = trims_then os (trim_sweep (length os) os) (trims (suc n
 none_past_end : (os : List Op) (k : ℕ) → length os ≤ k → fold_unused os k ≡ None
 none_past_end os k past = ap (λ x. option_and_then (λ (o : Op). cond (is_pure o.kind && not (is_used k os)) (Some (erased k undefined ∷ [])) None) x) (slice_get_past os k past)
 
-trim_shorter : (os : List Op) (i : ℕ) (es : List Edit) → fold_unused os i ≡ Some es → suc (length (erase_op i undefined os)) ≡ length os
+pub trim_shorter : (os : List Op) (i : ℕ) (es : List Edit) → fold_unused os i ≡ Some es → suc (length (erase_op i undefined os)) ≡ length os
 trim_shorter os i es is = trim_length os (erase_op i undefined os) i (unused_found os i (erased i undefined ∷ []) (is ∙ ap Some (unused_found os i es is).edits)) refl
 
 trim_at_length : (i : ℕ) (os : List Op) → length (trim_at i os) ≤ length os

@@ -82,22 +82,31 @@ begin_trim b ids n fit all count = record {
     size : n ≡ length (body_ops b)
     size = count ∙ ap length all ∙ length-map (ids_of b) op_id ∙ sym (length-body_ops b)
 
+-- the number of an id in the list of the ids
+pub id_at : (first : Body) (p : ℕ) (ids : List OpId) → ids ≡ map op_id (ids_of first) → p < length ids → (op : OpId) → op ≡ get_or ids p op → slice_get (ids_of first) p ≡ Some op.index
+id_at first p ids all within op at =
+    of_first (slice_get (ids_of first) p) (sym (slice_get-map op_id (ids_of first) p) ∙ ap (λ xs. slice_get xs p) (sym all) ∙ slice_get-get_or ids p op within ∙ ap Some (sym at))
+  where
+    of_first : (x : Option ℕ) → option_map op_id x ≡ Some op → x ≡ Some op.index
+    of_first None is = cc
+    of_first (Some n) is = let same : op_id n ≡ op = cc in ap (λ (o : OpId). Some o.index) same
+
+-- an operation whose id stands at a position
+pub position_there : (body : Body) (op : OpId) (p : ℕ) → slice_get (ids_of body) p ≡ Some op.index → HasOp body op × (position_in body op ≡ p)
+unfolding position_in
+position_there body op p found = (there_contained (ids_of body) p op.index found, position_found (ids_of body) op.index p (ids_once body op.index) found)
+
 -- the operation that is visited
 module _ (first body : Body) (left p : ℕ) (any : Bool) (s : TrimSweeping first body left any) (ids : List OpId) (all : ids ≡ map op_id (ids_of first)) (within : p < length ids)
     (here : p + 1 ≡ left) (op : OpId) (at : op ≡ get_or ids p op) where
   id_there : slice_get (ids_of body) p ≡ Some op.index
-  id_there = s.prefix p (omega (arith, here)) ∙ of_first (slice_get (ids_of first) p) (sym (slice_get-map op_id (ids_of first) p) ∙ ap (λ xs. slice_get xs p) (sym all) ∙ slice_get-get_or ids p op within ∙ ap Some (sym at))
-    where
-      of_first : (x : Option ℕ) → option_map op_id x ≡ Some op → x ≡ Some op.index
-      of_first None is = cc
-      of_first (Some n) is = let same : op_id n ≡ op = cc in ap (λ (o : OpId). Some o.index) same
+  id_there = s.prefix p (omega (arith, here)) ∙ id_at first p ids all within op at
 
   pub visited_there : HasOp body op
-  visited_there = there_contained (ids_of body) p op.index id_there
+  visited_there = (position_there body op p id_there).0
 
   pub visited_at : position_in body op ≡ p
-  unfolding position_in
-  visited_at = position_found (ids_of body) op.index p (ids_once body op.index) id_there
+  visited_at = (position_there body op p id_there).1
 
   module _ (after : Body) (fit : IsOfFit after) (goes : Bool) (ops : body_ops after ≡ trim_at (position_in body op) (body_ops body))
       (after_ids : ids_of after ≡ cond goes (remove (ids_of body) (position_in body op)) (ids_of body)) (is_told : goes ≡ is_some (fold_unused (body_ops body) (position_in body op))) where

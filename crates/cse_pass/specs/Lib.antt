@@ -1,6 +1,7 @@
 pub mod EqualOps
 pub mod Merges
 pub mod Trims
+pub mod UnusedAggregates
 pub mod Cse
 pub mod Same
 pub mod Hashes

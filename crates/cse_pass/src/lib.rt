@@ -11,5 +11,6 @@ mod laws;
 mod levels;
 mod merges;
 mod trims;
+pub mod unused_aggregates;
 
 pub use laws::{cse_follows, cse_leaves_none, cse_once};

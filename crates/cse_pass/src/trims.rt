@@ -69,7 +69,7 @@ fn trim_sweep(alloc: Global, body: &mut Body) -> Result<bool, AllocError>
 }
 
 /// Takes an operation out, where it is pure and has no use, and says whether it did.
-fn trim_at(body: &mut Body, op: OpId) -> bool
+pub fn trim_at(body: &mut Body, op: OpId) -> bool
     requires fit { IsOfFit body.old }
     requires live { HasOp body.old op }
     ensures fit { IsOfFit body.new }

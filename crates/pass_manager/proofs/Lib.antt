@@ -3,6 +3,7 @@ pub mod AllBodies
 pub mod CalleeLists
 pub mod PublicKept
 pub mod OwnedBodies
+pub mod TrimmedBodies
 pub mod FlatBodies
 pub mod Results
 pub mod Visits

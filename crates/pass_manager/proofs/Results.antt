@@ -1,5 +1,5 @@
 -- What lists of passes make of a design.
-use Rattle.std.proofs.Common.{◌≡◌, ℕ, ◌+◌, ◌<◌, ◌≤◌, List, [], ◌∷◌, ◌++◌, length, drop, get_or, Some, slice_get, refl, sym, subst, ◌∙◌, add-one}
+use Rattle.std.proofs.Common.{◌≡◌, ℕ, ◌+◌, ◌<◌, ◌≤◌, false, List, [], ◌∷◌, ◌++◌, length, drop, get_or, Some, slice_get, refl, sym, ap, subst, ◌∙◌, add-one}
 use Rattle.std.proofs.Math.Seq.{drop-cons}
 use Rattle.std.proofs.lemmas.List.{drop_all}
 use Rattle.hw_model.specs.Design.{Op, Module, Design}
@@ -22,13 +22,16 @@ use Rattle.cse_pass.specs.Cse.{IsCseOf}
 use Rattle.cse_pass.proofs.Following.{changes_follow}
 use Rattle.cse_pass.proofs.Leading.{cse_leads}
 use Rattle.cse_pass.proofs.Once.{once as cse_once}
-use Rattle.aggregate_lower.proofs.LoweringLaw.{lowering_is_after}
+use Rattle.cse_pass.specs.UnusedAggregates.{IsWithoutUnusedAggregates}
+use Rattle.cse_pass.proofs.UnusedAggregates.{aggregate_trims_change}
+use Rattle.aggregate_laws.specs.Scalars.{has_aggregates}
+use Rattle.aggregate_lower.proofs.LoweringLaw.{lowering_is_after, none_left}
 use Rattle.inline_pass.proofs.FlatteningLaw.{flattening_is_after, flattened_once}
 use Rattle.seq_lower.specs.Lowered.{IsLoweredOf, Lowers}
 use Rattle.seq_lower.proofs.Following.{lowering_keeps}
 use Rattle.seq_lower.proofs.Plain.{lowered_leads}
 use Rattle.inline_pass.proofs.DeadModulesGone.{dce_is_after, without_dead_once}
-use Rattle.pass_manager.specs.Results.{IsChosen, IsResult}
+use Rattle.pass_manager.specs.Results.{IsChosen, IsResult, AreModulesBy, IsForExport, IsExported}
 use Rattle.pass_manager.proofs.ChangedBodies.{changed_keeps, modules_once}
 
 -- ---- bodies
@@ -44,6 +47,9 @@ lowered_once os a b one other = one ∙ sym other
 
 pub merged_keeps : (d : Design) (k : ℕ) (m : Module) (os : List Op) → IsFit d → slice_get d k ≡ Some m → IsCseOf m.body os → Keeps d (with_body d k m os)
 merged_keeps d k m os fit at is = changes_follow d k m os fit at (cse_leads m.body os is)
+
+pub trimmed_keeps : (d : Design) (k : ℕ) (m : Module) (os : List Op) → IsFit d → slice_get d k ≡ Some m → IsWithoutUnusedAggregates m.body os → Keeps d (with_body d k m os)
+trimmed_keeps d k m os fit at is = changes_follow d k m os fit at (aggregate_trims_change m.body os is.trims)
 
 -- ---- one pass
 
@@ -115,3 +121,27 @@ pub result_of : (passes items : List Pass) (d start end : Design) (index : ℕ) 
     → ((f : Design) → IsResult (drop index items) end f → IsResult items start f) → IsResult passes d end
 result_of passes items d start end index same from done leads =
     subst (λ (z : List Pass × Design). IsResult z.0 z.1 end) (λ k. (same k, from k)) (leads end (subst (λ z. IsResult z end end) (sym (drop_all index items done)) refl))
+
+-- ---- for an export
+
+pub trimmed_after : (d e : Design) → IsAccepted d → Printable d → AreModulesBy IsWithoutUnusedAggregates d e → IsAfter [] d e
+trimmed_after d e accepted printable trimmed =
+    let keeps : Keeps d e = changed_keeps IsWithoutUnusedAggregates trimmed_keeps d e (accepted_fit d accepted printable) trimmed in
+    steady_is_after [] d e refl refl refl accepted keeps.steady keeps.lighter
+
+pub for_export_after : (d f : Design) → IsAccepted d → Printable d → IsForExport d f → IsAfter (HwLowerAggregates ∷ []) d f
+for_export_after d f accepted printable (e, trimmed, lowered) =
+    let first : IsAfter [] d e = trimmed_after d e accepted printable trimmed in
+    let then : IsAfter (HwLowerAggregates ∷ []) e f = lower_aggregates_keeps e f first.accepted first.printable lowered in
+    after_both [] (HwLowerAggregates ∷ []) d e f first then
+
+pub exported_after : (passes : List Pass) (d f : Design) → IsAccepted d → Printable d → IsExported passes d f → IsAfter (passes ++ HwLowerAggregates ∷ []) d f
+exported_after passes d f accepted printable (e, made, exported) =
+    let first : IsAfter passes d e = result_is_after passes d e accepted printable made in
+    after_both passes (HwLowerAggregates ∷ []) d e f first (for_export_after e f first.accepted first.printable exported)
+
+pub exported_none : (passes : List Pass) (d f : Design) → IsAccepted d → Printable d → IsExported passes d f → has_aggregates f ≡ false
+exported_none passes d f accepted printable (e, made, exported) =
+    let first : IsAfter passes d e = result_is_after passes d e accepted printable made in
+    let then : IsAfter [] e exported.0 = trimmed_after e exported.0 first.accepted first.printable exported.1 in
+    ap has_aggregates exported.2 ∙ none_left exported.0 then.accepted then.printable

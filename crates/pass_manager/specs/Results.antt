@@ -3,6 +3,7 @@ use Rattle.std.specs.Prelude.{◌≡◌, List, [], ◌∷◌, ⊤}
 use Rattle.hw_model.specs.Design.{Op, Module, Design}
 use Rattle.canonicalise.specs.Canonical.{IsCanonicalOf}
 use Rattle.cse_pass.specs.Cse.{IsCseOf}
+use Rattle.cse_pass.specs.UnusedAggregates.{IsWithoutUnusedAggregates}
 use Rattle.inline_pass.specs.DeadModules.{IsWithoutDead}
 use Rattle.inline_pass.specs.Flattening.{IsFlattened}
 use Rattle.aggregate_lower.specs.Lowering.{lowered_aggregates}
@@ -39,3 +40,14 @@ IsChosen HwLowerAggregates d e = e ≡ lowered_aggregates d
 abbrev pub IsResult : List Pass → Design → Design → Type 0
 IsResult [] d e = e ≡ d
 IsResult (pass ∷ passes) d f = (e : Design) × IsChosen pass d e × IsResult passes e f
+
+-- ---- for an export
+
+-- what becomes of a design before it is written: operations go that make aggregates for nobody, then those that are left become
+-- their leaves
+abbrev pub IsForExport : Design → Design → Type 0
+IsForExport d f = (e : Design) × AreModulesBy IsWithoutUnusedAggregates d e × IsChosen HwLowerAggregates e f
+
+-- what a list of passes, and then that, makes of a design
+abbrev pub IsExported : List Pass → Design → Design → Type 0
+IsExported passes d f = (e : Design) × IsResult passes d e × IsForExport e f

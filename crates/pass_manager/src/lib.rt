@@ -7,6 +7,7 @@ mod body_work;
 mod callees;
 mod flat_work;
 mod flattening;
+pub mod for_export;
 pub mod gate;
 mod laws;
 mod owners;
@@ -14,4 +15,4 @@ mod public_modules;
 pub mod run;
 
 pub use aggregate_lower::lowering_keeps;
-pub use laws::{passes_keep, result_once, results_follow};
+pub use laws::{exports_follow, passes_keep, result_once, results_follow};

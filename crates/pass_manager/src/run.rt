@@ -2,7 +2,6 @@
 ghost use Rattle.std.specs.Prelude.{◌≤◌, length, IfOk, OnOk};
 ghost use Rattle.ir_store.specs.Designs.{design_of};
 ghost use Rattle.acceptance_laws.specs.Keeps.{IsFit};
-ghost use Rattle.pass_pipeline.specs.declared.pass.Pass.TheVariants.{HwLowerAggregates};
 ghost use Rattle.shared_schedule.specs.Visits.{VisitsEach};
 ghost use Rattle.pass_manager.specs.Results.{AreModulesBy, IsChosen, IsResult};
 ghost use Rattle.pass_manager.specs.Visits.{IsToldOf, AreToldOf};
@@ -49,16 +48,6 @@ pub fn run_pipeline<R: Threads + Sync, G: Gate + Send + Drop>(
     for pass in pipeline.as_slice() {
         run_pass(rt, alloc, &mut made, *pass, workers, gate)?;
     }
-    Ok(Verified::new(made))
-}
-
-/// The design of which nothing is refused with its aggregates lowered to their leaves, where it has any (CIRCT, HW dialect:
-/// `hw-lower-aggregates`). The error comes only when out of memory, and the design is dropped then.
-pub fn with_lowered_aggregates(alloc: Global, design: Verified) -> Result<Verified, AllocError>
-    ensures { IfOk result (λ done. IsChosen HwLowerAggregates (design_of design.design) (design_of done.design)) }
-{
-    let mut made = design.into_design();
-    lower_aggregates(alloc, &mut made)?;
     Ok(Verified::new(made))
 }
 
