@@ -29,11 +29,13 @@ use Rattle.inline_laws.specs.Inline.{moved_count}
 use Rattle.body_edits.specs.Views.{HasOp, body_ops, position_in}
 use Rattle.body_edits.proofs.Positions.{op_at_position}
 use Rattle.inline_pass.specs.Flattening.{inlined_at, inline_at, inline_from, inline_all, if_private, by_kind, by_symbol}
-use Rattle.inline_pass.specs.Inlinable.{IsInlinable, IsStep, IsStepAt}
+use Rattle.inline_pass.specs.Inlinable.{IsStep, IsStepAt}
+use Rattle.inline_pass.specs.Forwarding.{InlinesAlike}
+use Rattle.inline_pass.specs.OperandsThere.{HaveThereFrom}
+use Rattle.inline_pass.proofs.OperandsThere.{later_there, inlined_there}
 use Rattle.body_edits.proofs.IdLists.{once_before, times_self, position_back, position_self, parted, middle_found}
 use Rattle.inline_pass.proofs.InliningValues.{numbers}
 use Rattle.inline_pass.proofs.InliningOps.{take_prefix, drop_prefix}
-use Rattle.inline_pass.proofs.InlinedFit.{is_inlined, fit_inlined}
 
 -- ---- the module of an instance
 
@@ -45,64 +47,23 @@ private_is (Some y) c is = go y.is_private is
     go true e = e
     go false e = cc
 
-module _ (d : Design) (fit : IsFit d) (k : ℕ) (m : Module) (at : slice_get d k ≡ Some m) where
-  -- no body instances its own module
-  not_itself : (s : Name) → In s (callee_symbols m.body) → s ≡ m.symbol → ⊥
-  not_itself s here same =
-      let own : find_module d m.symbol ≡ Some m = (found_at d (distinct_symbols d fit.unrefused) k m at).1 in
-      let itself : find_module d s ≡ Some m = ap (find_module d) same ∙ own in
-      fit.valid.finite s (0, (s, subst (λ z. In s (callee_symbols (body_of z))) (sym itself) here, refl))
-
-  callee_there : (look : Name → Option Module) → ((s : Name) (c : Module) → (s ≡ m.symbol → ⊥) → look s ≡ Some c → find_module d s ≡ Some c) → (o : Op) (c : Module) → In o m.body → by_symbol look o ≡ Some c → callee d o ≡ Some c
-  callee_there look found o c among is = go (instance_in o.kind) refl is
-    where
-      go : (z : Option Instance) → instance_in o.kind ≡ z → option_and_then (λ (i : Instance). look i.symbol) z ≡ Some c → option_and_then (λ (i : Instance). find_module d i.symbol) z ≡ Some c
-      go None own e = cc
-      go (Some i) own e = found i.symbol c (not_itself i.symbol (called_In m.body o i among own)) e
-
-  -- another module is found where the body is another one
-  other_there : (os : List Op) (s : Name) → (s ≡ m.symbol → ⊥) → find_module (with_body d k m os) s ≡ find_module d s
-  other_there os s apart =
-      set_each (λ old new. (old ≡ Some m → ⊥) → new ≡ old) (λ old away. refl) d k m (record m { body = os }) at refl (λ away. absurd (away refl)) s
-      (λ itself. apart (sym (find_symbol d s m itself)))
-
--- ---- one step
-
--- the body can be worked on still
-pub still_inlinable : (b b' : Body) (look : Name → Option Module) (i : ℕ) (o : Op) (c : Module) → IsInlinable b look → slice_get (body_ops b) i ≡ Some o → by_symbol look o ≡ Some c
-    → body_ops b' ≡ inlined_at i o c (body_ops b) → IsInlinable b' look
-still_inlinable b b' look i o c can there is ops =
-    let of = can.of in
-    let at : slice_get of.owner.body i ≡ Some o = ap (λ os. slice_get os i) of.is_body ∙ there in
-    let leads = callee_there of.design of.fit of.number of.owner of.there look can.found o c (In-slice_get o of.owner.body i at) is in
-    let fit = fit_inlined of.design of.number of.owner i o c of.fit of.there (is_inlined of.design of.number of.owner i o c of.fit of.there at leads) in
-    let now : inlined_at i o c of.owner.body ≡ body_ops b' = ap (inlined_at i o c) of.is_body ∙ sym ops in
-    record {
-      of = record {
-        design = with_body of.design of.number of.owner (body_ops b');
-        fit = subst (λ os. IsFit (with_body of.design of.number of.owner os)) now fit;
-        number = of.number;
-        owner = record of.owner { body = body_ops b' };
-        there = module_there of.design of.number of.owner (body_ops b') of.there;
-        is_body = refl;
-      };
-      found = λ s y apart got. other_there of.design of.fit of.number of.owner of.there (body_ops b') s apart ∙ can.found s y apart got;
-    }
-
 -- ---- one step after another
 
 pub record IsWalking (inner : Op → Option Module) (old now : Body) (rest : List OpId) : Type 0 where
   pub done : List ℕ
   pub ids : ids_of now ≡ done ++ numbers rest
+  pub there : HaveThereFrom (length done) (body_ops now)
   pub left : inline_from inner (length rest) (length done) (body_ops now) ≡ inline_all inner (body_ops old)
 
-pub walk_begins : (inner : Op → Option Module) (b : Body) (all : List OpId) → all ≡ map op_id (ids_of b) → IsWalking inner b b all
+pub walk_begins : (inner : Op → Option Module) (old b : Body) (all : List OpId) → all ≡ map op_id (ids_of old) → InlinesAlike inner old b → IsWalking inner old b all
 unfolding body_ops
-walk_begins inner b all is = record {
+walk_begins inner old b all was alike = let is : all ≡ map op_id (ids_of b) = was ∙ ap (map op_id) (sym alike.ids) in record {
   done = [];
   ids = sym (ap numbers is ∙ index_ids (ids_of b));
+  there = alike.there;
   left = ap (λ n. inline_from inner n 0 (body_ops b))
-      (ap length is ∙ length-map (ids_of b) op_id ∙ length-map (ops_of b) (λ (o : BodyOp). o.id) ∙ sym (length-map (ops_of b) (op_by (position_of (ids_of b)))));
+      (ap length is ∙ length-map (ids_of b) op_id ∙ length-map (ops_of b) (λ (o : BodyOp). o.id) ∙ sym (length-map (ops_of b) (op_by (position_of (ids_of b)))))
+      ∙ alike.alike;
 }
 
 pub next_there : (inner : Op → Option Module) (old now : Body) (id : OpId) (rest : List OpId) → IsWalking inner old now (id ∷ rest) → HasOp now id
@@ -110,6 +71,20 @@ next_there inner old now id rest w =
     let all = ap (times id.index) w.ids ∙ times-append id.index w.done (id.index ∷ numbers rest) in
     let own = times_self id.index (numbers rest) in
     times_contained (ids_of now) id.index (omega (arith, all, own))
+
+-- where it is
+pub next_position : (inner : Op → Option Module) (old now : Body) (id : OpId) (rest : List OpId) (w : IsWalking inner old now (id ∷ rest)) → position_in now id ≡ length w.done
+unfolding position_in
+next_position inner old now id rest w =
+    let once : AreDistinct (w.done ++ (id.index ∷ numbers rest)) = subst AreDistinct w.ids (ids_once now) in
+    let none = once_before w.done id.index (numbers rest) once in
+    let back = ap (λ ids. position_of ids id.index) w.ids ∙ position_back w.done (id.index ∷ numbers rest) id.index none in
+    let zero_is = position_self id.index (numbers rest) in
+    omega (arith, back, zero_is)
+
+-- its operands, and those of the others, are there
+pub next_operands : (inner : Op → Option Module) (old now : Body) (id : OpId) (rest : List OpId) → IsWalking inner old now (id ∷ rest) → HaveThereFrom (position_in now id) (body_ops now)
+next_operands inner old now id rest w = subst (λ n. HaveThereFrom n (body_ops now)) (sym (next_position inner old now id rest w)) w.there
 
 at_none : (inner : Op → Option Module) (rest : ℕ → List Op → List Op) (i : ℕ) (os : List Op) (o : Op) → slice_get os i ≡ Some o → inner o ≡ None → inline_at inner rest i os ≡ rest (suc i) os
 at_none inner rest i os o there none = rw (there, none) refl
@@ -122,11 +97,7 @@ pub walk_goes : (inner : Op → Option Module) (old now next : Body) (id : OpId)
     → IsWalking inner old next rest
 unfolding body_ops position_in
 walk_goes inner old now next id rest w step =
-    let once : AreDistinct (w.done ++ (id.index ∷ numbers rest)) = subst AreDistinct w.ids (ids_once now) in
-    let none = once_before w.done id.index (numbers rest) once in
-    let back = ap (λ ids. position_of ids id.index) w.ids ∙ position_back w.done (id.index ∷ numbers rest) id.index none in
-    let zero_is = position_self id.index (numbers rest) in
-    let position : position_of (ids_of now) id.index ≡ length w.done = omega (arith, back, zero_is) in
+    let position : position_of (ids_of now) id.index ≡ length w.done = next_position inner old now id rest w in
     let p = parted id.index (ops_of now) (contained_times (ids_of now) id.index (next_there inner old now id rest w)) in
     let found = ap₂ op_at p.all (sym p.is) ∙ middle_found p.prefix p.op p.back (ap (λ v. times v (ids_in p.prefix)) p.is ∙ p.none) in
     let there = op_at_position (op_by (position_of (ids_of now))) id.index (ops_of now) p.op found in
@@ -137,6 +108,8 @@ walk_goes inner old now next id rest w step =
     go o there None is (same, same_ids) = record {
       done = w.done ++ (id.index ∷ []);
       ids = same_ids ∙ w.ids ∙ sym (append_assoc w.done (id.index ∷ []) (numbers rest));
+      there = subst (λ os. HaveThereFrom (length (w.done ++ (id.index ∷ []))) os) (sym same)
+          (subst (λ n. HaveThereFrom n (body_ops now)) (let h = length-append w.done (id.index ∷ []) in omega (arith, h)) (later_there (length w.done) (body_ops now) w.there));
       left =
           let long : length (w.done ++ (id.index ∷ [])) ≡ suc (length w.done) = (let h = length-append w.done (id.index ∷ []) in omega (arith, h)) in
           ap₂ (λ n os. inline_from inner (length rest) n os) long same
@@ -147,6 +120,9 @@ walk_goes inner old now next id rest w step =
       ids = made.ids ∙ ap (λ ids. take (length w.done) ids ++ (made.fresh ++ drop (suc (length w.done)) ids)) w.ids
           ∙ ap₂ (λ ps qs. ps ++ (made.fresh ++ qs)) (take_prefix w.done (id.index ∷ numbers rest)) (drop_prefix w.done id.index (numbers rest))
           ∙ sym (append_assoc w.done made.fresh (numbers rest));
+      there = subst (λ os. HaveThereFrom (length (w.done ++ made.fresh)) os) (sym made.ops)
+          (subst (λ n. HaveThereFrom n (inlined_at (length w.done) o c (body_ops now))) (sym (length-append w.done made.fresh ∙ ap (λ n. length w.done + n) made.many))
+          (inlined_there (length w.done) o c (body_ops now) there w.there));
       left =
           let long : length (w.done ++ made.fresh) ≡ length w.done + moved_count c = length-append w.done made.fresh ∙ ap (λ n. length w.done + n) made.many in
           ap₂ (λ n os. inline_from inner (length rest) n os) long made.ops

@@ -15,8 +15,14 @@ pub mod InliningForm
 pub mod InliningValues
 pub mod InliningPositions
 pub mod InliningOps
+pub mod ForwardedValues
+pub mod ForwardedInlining
+pub mod ForwardedWalk
+pub mod OperandsThere
 pub mod InstanceInlined
 pub mod BodyInlined
+pub mod GivenValues
+pub mod Forwarded
 pub mod InliningSteps
 pub mod Renaming
 pub mod RenamedKinds

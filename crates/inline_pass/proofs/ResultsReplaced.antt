@@ -41,7 +41,7 @@ results_are op n (w ∷ wires) ops =
 other_way : (i j : ℕ) → nat_eq i j ≡ false → nat_eq j i ≡ false
 other_way i j is = ne_eqb j i (λ same. eqb-false i j is (sym same))
 
-not_replaced : (op : OpId) (n : ℕ) (to v : Value) → is_of op.index v ≡ false → replace_value (Result op n) to v ≡ v
+pub not_replaced : (op : OpId) (n : ℕ) (to v : Value) → is_of op.index v ≡ false → replace_value (Result op n) to v ≡ v
 not_replaced op n to (Port k) other = refl
 not_replaced op n to Undefined other = refl
 not_replaced op n to (Result i k) other = ap (λ b. cond (b && nat_eq n k) to (Result i k)) (other_way i.index op.index other)

@@ -2,10 +2,12 @@ pub mod Callees
 pub mod DeadModules
 pub mod FlatBodies
 pub mod Flattening
+pub mod Forwarding
 pub mod Inlinable
 pub mod Marks
 pub mod MovedOps
 pub mod OneBody
+pub mod OperandsThere
 pub mod Destinations
 pub mod Received
 pub mod Renaming

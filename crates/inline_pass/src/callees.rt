@@ -1,11 +1,13 @@
 //! Where modules are found whose bodies are put into others.
 ghost use Rattle.std.specs.Prelude.{◌≡◌, Option, option_map};
 ghost use Rattle.hw_model.specs.Types.{Name};
+ghost use Rattle.hw_model.specs.KindViews.{kind_of};
 ghost use Rattle.hw_model.specs.Design as model;
 ghost use Rattle.ir_store.specs.Designs.{design_of};
 ghost use Rattle.inline_pass.specs.Callees.{callee_seen};
-ghost use Rattle.inline_pass.specs.Flattening.{private_found};
+ghost use Rattle.inline_pass.specs.Flattening.{private_found, by_kind};
 
+use hw_model::kinds::OpKind;
 use ir_store::body::Body;
 use ir_store::design::{Design, Module};
 
@@ -42,4 +44,14 @@ impl Callees for Design {
             None
         }
     }
+}
+
+/// The callee of which an operation of a kind is an instance.
+pub(crate) fn callee_of<'c, C: Callees>(callees: &'c C, kind: &OpKind) -> Option<Callee<'c>>
+    ensures { option_map callee_seen result ≡ by_kind (C.look callees.now) (kind_of kind.now) }
+{
+    let OpKind::Instance(instance) = kind else {
+        return None;
+    };
+    callees.callee(instance.symbol.as_bytes())
 }

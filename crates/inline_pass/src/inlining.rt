@@ -4,15 +4,16 @@ ghost use Rattle.hw_model.specs.KindViews.{kind_of};
 ghost use Rattle.ir_store.specs.Bodies.{ops_of};
 ghost use Rattle.ir_store.specs.Designs.{ports_in};
 ghost use Rattle.ir_store.specs.BodyOps.{op_at};
-ghost use Rattle.body_edits.specs.FitBodies.{IsOfFit};
 ghost use Rattle.body_edits.specs.Views.{HasOp, body_ops, position_in};
 ghost use Rattle.inline_pass.specs.Callees.{callee_seen};
 ghost use Rattle.inline_pass.specs.Flattening.{inline_all, by_kind, by_symbol};
 ghost use Rattle.inline_pass.specs.Inlinable.{IsInlinable, IsStepAt, AreInlined, own_name};
 ghost use Rattle.inline_pass.specs.MovedOps.{ArePutBefore};
+ghost use Rattle.inline_pass.specs.OperandsThere.{HaveThereFrom};
 
 use crate::body_changes::{move_operands, put_all_before, replace_results, take_wires_out};
-use crate::callees::{Callee, Callees};
+use crate::callees::{Callee, Callees, callee_of};
+use crate::forwarding::forward_all;
 use crate::moved_ops::{Destinations, moved_ops, values_joined, wires_for};
 use body_index::position_table::{ids_in, positions_of};
 use hw_model::kinds::OpKind;
@@ -22,7 +23,9 @@ use std::alloc::{AllocError, Global};
 
 /// Has each instance in a body of a module that is found among the callees become that module's body, in its place, with the
 /// names of what has one after the instance's own (CIRCT, HW dialect: `hw-flatten-modules`). On an error, which comes when out
-/// of memory, the body is as it then was. Linear in the body, in what is put in, and in the uses of the results of the instances.
+/// of memory, the body is as it then was. Linear in the body, in what is put in, and in the uses of the results of the instances:
+/// along a chain of instances that pass an input through each use moves once, where the chain begins at no result of an instance
+/// that is inlined too, and none of them takes a result of its own.
 pub fn inline_into<C: Callees>(
     alloc: Global,
     body: &mut Body,
@@ -32,6 +35,7 @@ pub fn inline_into<C: Callees>(
     ensures { OnOk result (body_ops body.new ≡ inline_all (by_symbol (C.look callees.now)) (body_ops body.old)) }
 {
     let ids = ids_in(alloc, body)?;
+    forward_all(alloc, body, callees, ids.as_slice())?;
     for id in ids.as_slice() {
         inline_op(alloc, body, *id, callees)?;
     }
@@ -45,25 +49,14 @@ fn inline_op<C: Callees>(
     op: OpId,
     callees: &C,
 ) -> Result<(), AllocError>
-    requires inlinable { IsInlinable body.old (C.look callees.now) }
+    requires there { HaveThereFrom (position_in body.old op) (body_ops body.old) }
     requires live { HasOp body.old op }
-    ensures inlinable { OnOk result (IsInlinable body.new (C.look callees.now)) }
-    ensures step { OnOk result (IsStepAt (by_symbol (C.look callees.now)) body.old body.new (position_in body.old op)) }
+    ensures { OnOk result (IsStepAt (by_symbol (C.look callees.now)) body.old body.new (position_in body.old op)) }
 {
     match callee_of(callees, body.op(op).kind) {
         Some(callee) => inline_instance(alloc, body, op, callee),
         None => Ok(()),
     }
-}
-
-/// The callee of which an operation of a kind is an instance.
-fn callee_of<'c, C: Callees>(callees: &'c C, kind: &OpKind) -> Option<Callee<'c>>
-    ensures { option_map callee_seen result ≡ by_kind (C.look callees.now) (kind_of kind.now) }
-{
-    let OpKind::Instance(instance) = kind else {
-        return None;
-    };
-    callees.callee(instance.symbol.as_bytes())
 }
 
 /// Inlines an instance of a module.
@@ -73,7 +66,7 @@ fn inline_instance(
     op: OpId,
     callee: Callee<'_>,
 ) -> Result<(), AllocError>
-    requires fit { IsOfFit body.old }
+    requires there { HaveThereFrom (position_in body.old op) (body_ops body.old) }
     requires live { HasOp body.old op }
     ensures { OnOk result (AreInlined (callee_seen callee.entry) body.old body.new (position_in body.old op)) }
 {

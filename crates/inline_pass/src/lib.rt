@@ -6,9 +6,12 @@ mod body_changes;
 pub mod callees;
 pub mod dead_modules;
 pub mod flattening;
+mod forwarding;
 pub mod inlining;
 mod laws;
+mod makers;
 mod moved_ops;
+mod passing;
 pub mod received;
 mod renamed_ops;
 

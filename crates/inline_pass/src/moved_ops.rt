@@ -64,7 +64,7 @@ pub(crate) fn moved_ops(alloc: Global, instance: &[u8], body: &Body) -> Result<M
 }
 
 /// Whether a kind is `hw.output`.
-fn is_output(kind: &OpKind) -> bool
+pub(crate) fn is_output(kind: &OpKind) -> bool
     ensures { result ≡ is_output_kind (kind_of kind.now) }
 {
     matches!(kind, OpKind::Output)

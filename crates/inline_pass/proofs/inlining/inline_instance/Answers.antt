@@ -37,7 +37,7 @@ erase-requires-clause-unused c =
     subst (IsUnused c.args.op.index) (sym now)
     (unused p.prefix p.x p.back c.args.op p.same (own_name p.x.parts.kind) (callee_seen c.args.callee) (ops_of c.args.callee.body.now) c.in_ok-wires.wires.items
     (ops_of c.put_inlined.new.body) p.put (ids_once c.put_inlined.new.body)
-    (olds c.args.body.now c.put_inlined.new.body c.requires.fit c.args.op (callee_seen c.args.callee) (ops_of c.args.callee.body.now) c.in_ok-wires.wires.items p))
+    (olds c.args.body.now c.put_inlined.new.body c.args.op c.requires.there (callee_seen c.args.callee) (ops_of c.args.callee.body.now) c.in_ok-wires.wires.items p))
 
 pub take_wires_out-requires : goal.take_wires_out-requires
 take_wires_out-requires c =
@@ -48,14 +48,14 @@ take_wires_out-requires c =
     (subst (StandTogether c.in_ok-wires.wires.items) (sym now)
     (together p.prefix p.x p.back c.args.op p.same (own_name p.x.parts.kind) (callee_seen c.args.callee) (ops_of c.args.callee.body.now) c.in_ok-wires.wires.items
     (ops_of c.put_inlined.new.body) p.put (ids_once c.put_inlined.new.body)
-    (olds c.args.body.now c.put_inlined.new.body c.requires.fit c.args.op (callee_seen c.args.callee) (ops_of c.args.callee.body.now) c.in_ok-wires.wires.items p)))
+    (olds c.args.body.now c.put_inlined.new.body c.args.op c.requires.there (callee_seen c.args.callee) (ops_of c.args.callee.body.now) c.in_ok-wires.wires.items p)))
 
 pub returns : goal.returns
 returns c =
     let p = is_put c.args.body.now c.args.op (callee_seen c.args.callee) (ops_of c.args.callee.body.now) c.in_ok-wires.wires.items (ops_of c.put_inlined.new.body) c.requires.live
     c.in_ok-wires.ensures in
     let now = c.erase.ensures.ops ∙ ap (taken_out c.args.op.index) (c.replace_results.ensures ∙ ap (λ (ws : List OpId). results_replaced c.args.op 0 ws (ops_of c.put_inlined.new.body)) c.as_slice.ensures.value) in
-    inlined c.args.body.now c.put_inlined.new.body c.erase.new.self c.take_wires_out.new.body c.requires.fit c.args.op (callee_seen c.args.callee) (ops_of c.args.callee.body.now)
+    inlined c.args.body.now c.put_inlined.new.body c.erase.new.self c.take_wires_out.new.body c.args.op c.requires.there (callee_seen c.args.callee) (ops_of c.args.callee.body.now)
     c.in_ok-wires.wires.items p now
     (c.take_wires_out.ensures.ops ∙ ap (λ (ws : List OpId). unwire (first_position (ids_of c.erase.new.self) ws) (length ws) (body_ops c.erase.new.self)) c.as_slice-2.ensures.value)
     (c.take_wires_out.ensures.ids ∙ ap (λ (ws : List OpId). ids_without ws (ids_of c.erase.new.self)) c.as_slice-2.ensures.value)
